@@ -1,0 +1,11 @@
+-- The theorems of the condensed cube.
+pub mod Sums
+pub mod Codes
+pub mod Nodes
+pub mod Singles
+pub mod Smallest
+pub mod Reach
+pub mod Cells
+pub mod Normals
+pub mod Fewest
+pub mod Examples

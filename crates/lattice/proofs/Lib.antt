@@ -1,0 +1,4 @@
+-- Laws of sets of dimensions, and of the code's table and mask.
+pub mod Sets
+pub mod Mask
+pub mod Table

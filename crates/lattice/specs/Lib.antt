@@ -1,0 +1,2 @@
+-- The lattice of sets of dimensions.
+pub mod Sets

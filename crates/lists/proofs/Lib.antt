@@ -1,0 +1,6 @@
+-- Laws of lists and orders.
+pub mod Tests
+pub mod Members
+pub mod Pairwise
+pub mod Pigeonhole
+pub mod Order

@@ -1,0 +1,137 @@
+-- Laws of the order of lists of numbers, and of lists that rise strictly.
+use mathlib.Core.Path.{_≡_, refl, sym, _∙_, ap₂}
+use mathlib.Core.Logic.{_≢_, _⊎_, inl, inr}
+use mathlib.Core.Bool.{Bool, true, false, _&&_, _||_, false≢true, or-true}
+use mathlib.Core.List.{List, [], _∷_, List·Memᴰ·head, List·Memᴰ·tail, List·Memᴰ·not-nil, List·Memᴰ·cases-cons}
+use Prim.Native.Nat.{ℕ, zero, suc, _<_}
+use native.Mathlib.Omega.{arith}
+use lib.Dec.{eqb, ltb}
+use lib.ListN.{length, getD}
+use borrow.Author.Tests.{ltb-true, ltb-false, eqb-true, lt-ltb, eq-eqb}
+use Rattle.lists.specs.Lists.{_∈_, Distinct}
+use Rattle.lists.specs.Order.{earlier, same, Strict, Rising, place, insert, sort}
+use Rattle.lists.proofs.Tests.{cases, both, both-of, either, truth}
+use Rattle.lists.proofs.Members.{at-in}
+use Rattle.lists.proofs.Pairwise.{pairwise-imp}
+
+pub same-eq : (x y : List ℕ) → same x y ≡ true → x ≡ y
+same-eq [] [] e = refl
+same-eq [] (b ∷ y) e = absurd (false≢true e)
+same-eq (a ∷ x) [] e = absurd (false≢true e)
+same-eq (a ∷ x) (b ∷ y) e = let r = both (eqb a b) (same x y) e in ap₂ _∷_ (eqb-true a b (r .0)) (same-eq x y (r .1))
+
+pub same-refl : (x : List ℕ) → same x x ≡ true
+same-refl [] = refl
+same-refl (a ∷ x) = both-of (eq-eqb a a refl) (same-refl x)
+
+pub earlier-cons : (a b : ℕ) (x y : List ℕ) → earlier (a ∷ x) (b ∷ y) ≡ true → (a < b) ⊎ ((a ≡ b) × (earlier x y ≡ true))
+earlier-cons a b x y e = cases (either (ltb a b) (eqb a b && earlier x y) e)
+    (λ h. inl (ltb-true a b h))
+    (λ h. let r = both (eqb a b) (earlier x y) h in inr (eqb-true a b (r .0), r .1))
+
+earlier-lt : (a b : ℕ) (x y : List ℕ) → a < b → earlier (a ∷ x) (b ∷ y) ≡ true
+earlier-lt a b x y h = rw (lt-ltb a b h)
+
+earlier-eq : (a b : ℕ) (x y : List ℕ) → a ≡ b → earlier x y ≡ true → earlier (a ∷ x) (b ∷ y) ≡ true
+earlier-eq a b x y h e = rw (eq-eqb a b h, e, or-true)
+
+earlier-rest : (a b : ℕ) (x y : List ℕ) → a ≡ b → earlier (a ∷ x) (b ∷ y) ≡ false → earlier x y ≡ false
+earlier-rest a b x y q e = cases (truth (earlier x y)) (λ t. absurd (false≢true (sym e ∙ earlier-eq a b x y q t))) (λ t. t)
+
+earlier-trans : (x y z : List ℕ) → earlier x y ≡ true → earlier y z ≡ true → earlier x z ≡ true
+earlier-trans [] [] z e f = f
+earlier-trans [] (b ∷ y) [] e f = f
+earlier-trans [] (b ∷ y) (c ∷ z) e f = refl
+earlier-trans (a ∷ x) [] z e f = absurd (false≢true e)
+earlier-trans (a ∷ x) (b ∷ y) [] e f = f
+earlier-trans (a ∷ x) (b ∷ y) (c ∷ z) e f = cases (earlier-cons a b x y e)
+    (λ h. cases (earlier-cons b c y z f) (λ k. earlier-lt a c x z (omega arith)) (λ k. earlier-lt a c x z (omega arith)))
+    (λ h. cases (earlier-cons b c y z f) (λ k. earlier-lt a c x z (omega arith)) (λ k. earlier-eq a c x z (h .0 ∙ k .0) (earlier-trans x y z (h .1) (k .1))))
+
+earlier-irrefl : (x : List ℕ) → earlier x x ≢ true
+earlier-irrefl [] e = false≢true e
+earlier-irrefl (a ∷ x) e = cases (earlier-cons a a x x e) (λ h. omega arith) (λ h. earlier-irrefl x (h .1))
+
+earlier-total : (x y : List ℕ) → earlier x y ≡ false → earlier y x ≡ false → x ≡ y
+earlier-total [] [] e f = refl
+earlier-total [] (b ∷ y) e f = absurd (false≢true (sym e))
+earlier-total (a ∷ x) [] e f = absurd (false≢true (sym f))
+earlier-total (a ∷ x) (b ∷ y) e f = cases (truth (ltb a b))
+    (λ h. absurd (false≢true (sym e ∙ earlier-lt a b x y (ltb-true a b h))))
+    (λ h. cases (truth (ltb b a))
+    (λ k. absurd (false≢true (sym f ∙ earlier-lt b a y x (ltb-true b a k))))
+    (λ k. let q : a ≡ b = omega (arith, ltb-false a b h, ltb-false b a k) in
+    ap₂ _∷_ q (earlier-total x y (earlier-rest a b x y q e) (earlier-rest b a y x (sym q) f))))
+
+pub by-codes : Strict earlier
+by-codes = record { trans = earlier-trans; total = earlier-total; irrefl = earlier-irrefl }
+
+-- ---- lists that rise strictly
+
+module _ {A : Type 0} (less : A → A → Bool) where
+  insert-in : (x : A) {z : A} (l : List A) → z ∈ insert less x l → (z ≡ x) ⊎ (z ∈ l)
+  insert-in x [] m = List·Memᴰ·cases-cons m
+  insert-in x {z} (y ∷ l) m = go (less x y) (less y x) (insert-in x l) m
+    where
+      go : (a b : Bool) → (z ∈ insert less x l → (z ≡ x) ⊎ (z ∈ l)) → z ∈ place a b x y l (insert less x l) → (z ≡ x) ⊎ (z ∈ y ∷ l)
+      go true b f n = List·Memᴰ·cases-cons n
+      go false true f n = cases (List·Memᴰ·cases-cons n) (λ e. inr (List·Memᴰ·head e)) (λ i. cases (f i) inl (λ j. inr (List·Memᴰ·tail j)))
+      go false false f n = inr n
+
+  module _ (o : Strict less) where
+    insert-of : (x : A) {z : A} (l : List A) → (z ≡ x) ⊎ (z ∈ l) → z ∈ insert less x l
+    insert-of x [] m = cases m List·Memᴰ·head List·Memᴰ·tail
+    insert-of x {z} (y ∷ l) m = go (less x y) (less y x) refl refl (insert-of x l) m
+      where
+        go : (a b : Bool) → less x y ≡ a → less y x ≡ b → ((z ≡ x) ⊎ (z ∈ l) → z ∈ insert less x l) → (z ≡ x) ⊎ (z ∈ y ∷ l) → z ∈ place a b x y l (insert less x l)
+        go true b p q f n = cases n List·Memᴰ·head List·Memᴰ·tail
+        go false true p q f n = cases n (λ e. List·Memᴰ·tail (f (inl e))) (λ i. cases (List·Memᴰ·cases-cons i) List·Memᴰ·head (λ j. List·Memᴰ·tail (f (inr j))))
+        go false false p q f n = cases n (λ e. List·Memᴰ·head (e ∙ o .total x y p q)) (λ i. i)
+
+    insert-rising : (x : A) (l : List A) → Rising less l → Rising less (insert less x l)
+    insert-rising x [] r = (λ y m. absurd (List·Memᴰ·not-nil m), tt)
+    insert-rising x (y ∷ l) r = go (less x y) (less y x) refl refl (insert-rising x l (r .1))
+      where
+        go : (a b : Bool) → less x y ≡ a → less y x ≡ b → Rising less (insert less x l) → Rising less (place a b x y l (insert less x l))
+        go true b p q f = (λ z m. cases (List·Memᴰ·cases-cons m) (λ e. rw e p) (λ i. o .trans x y z p (r .0 z i)), r)
+        go false true p q f = (λ z m. cases (insert-in x l m) (λ e. rw e q) (r .0 z), f)
+        go false false p q f = r
+
+    pub sort-rising : (l : List A) → Rising less (sort less l)
+    sort-rising [] = tt
+    sort-rising (x ∷ l) = insert-rising x (sort less l) (sort-rising l)
+
+    pub sort-of : {z : A} {l : List A} → z ∈ l → z ∈ sort less l
+    sort-of {l = x ∷ l} (List·Memᴰ·head e) = insert-of x (sort less l) (inl e)
+    sort-of {l = x ∷ l} (List·Memᴰ·tail m) = insert-of x (sort less l) (inr (sort-of m))
+
+    -- a rising list is known by its members
+    rest-in : {x y : A} {l m : List A} → x ≡ y → Rising less (x ∷ l) → ((z : A) → z ∈ x ∷ l → z ∈ y ∷ m) → (z : A) → z ∈ l → z ∈ m
+    rest-in {x} {y} {l} {m} e r f z i = cases (List·Memᴰ·cases-cons (f z (List·Memᴰ·tail i)))
+        (λ q. absurd (o .irrefl x (rw (q ∙ sym e) at (r .0 z i))))
+        (λ j. j)
+
+    pub rising-unique : (l m : List A) → Rising less l → Rising less m → ((z : A) → z ∈ l → z ∈ m) → ((z : A) → z ∈ m → z ∈ l) → l ≡ m
+    rising-unique [] [] r t f g = refl
+    rising-unique [] (y ∷ m) r t f g = absurd (List·Memᴰ·not-nil (g y (List·Memᴰ·head refl)))
+    rising-unique (x ∷ l) [] r t f g = absurd (List·Memᴰ·not-nil (f x (List·Memᴰ·head refl)))
+    rising-unique (x ∷ l) (y ∷ m) r t f g =
+        let e : x ≡ y = cases (List·Memᴰ·cases-cons (f x (List·Memᴰ·head refl))) (λ q. q)
+        (λ i. cases (List·Memᴰ·cases-cons (g y (List·Memᴰ·head refl))) sym
+        (λ j. absurd (o .irrefl x (o .trans x y x (r .0 y j) (t .0 x i))))) in
+        ap₂ _∷_ e (rising-unique l m (r .1) (t .1) (rest-in e r f) (rest-in (sym e) t g))
+
+    -- no element of a rising list occurs twice
+    pub rising-distinct : (l : List A) → Rising less l → Distinct l
+    rising-distinct l r = pairwise-imp (λ x y. less x y ≡ true) _≢_ l (λ x y m n p e. o .irrefl y (rw e at p)) r
+
+  -- the member at an earlier place comes before that at a later one
+  pub rising-at : (a : A) (l : List A) (k j : ℕ) → Rising less l → k < j → j < length l → less (getD l k a) (getD l j a) ≡ true
+  rising-at a [] k j r h m = absurd (omega arith)
+  rising-at a (x ∷ l) k zero r h m = absurd (omega arith)
+  rising-at a (x ∷ l) zero (suc j) r h m = r .0 (getD l j a) (at-in a l j (omega arith))
+  rising-at a (x ∷ l) (suc k) (suc j) r h m = rising-at a l k j (r .1) (omega arith) (omega arith)
+
+  pub sort-in : {z : A} (l : List A) → z ∈ sort less l → z ∈ l
+  sort-in [] m = m
+  sort-in (x ∷ l) m = cases (insert-in x (sort less l) m) List·Memᴰ·head (λ i. List·Memᴰ·tail (sort-in l i))

@@ -1,0 +1,3 @@
+-- Lists and orders, for every layer above.
+pub mod Lists
+pub mod Order
