@@ -8,4 +8,7 @@ pub mod Reach
 pub mod Cells
 pub mod Normals
 pub mod Fewest
+pub mod Ours
+pub mod Questions
+pub mod Expansion
 pub mod Examples

@@ -2,5 +2,6 @@
 pub mod Tests
 pub mod Members
 pub mod Pairwise
+pub mod Places
 pub mod Pigeonhole
 pub mod Order

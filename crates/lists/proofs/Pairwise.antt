@@ -2,7 +2,7 @@
 use mathlib.Core.Path.{_≡_, refl, sym, _∙_}
 use mathlib.Core.Logic.{_≢_, _⊎_, inl, inr}
 use mathlib.Core.Bool.{Bool, true, false}
-use mathlib.Core.List.{List, [], _∷_, _++_, map, flatMap, List·Memᴰ·head, List·Memᴰ·tail, List·Memᴰ·not-nil, List·Memᴰ·append-cases, Memᴰ·of-map}
+use mathlib.Core.List.{List, [], _∷_, _++_, map, flatMap, List·Memᴰ·head, List·Memᴰ·tail, List·Memᴰ·not-nil, List·Memᴰ·append-cases, Memᴰ·map, Memᴰ·of-map}
 use Rattle.lists.specs.Lists.{_∈_, only, keep, Pairwise}
 use Rattle.lists.proofs.Tests.{cases, truth}
 use Rattle.lists.proofs.Members.{keep-in, keep-none, flat-in}
@@ -47,6 +47,10 @@ module _ {A B : Type 0} where
   pub pairwise-map : (R : B → B → Type 0) (f : A → B) (l : List A) → Pairwise (λ x y. R (f x) (f y)) l → Pairwise R (map f l)
   pairwise-map R f [] p = tt
   pairwise-map R f (x ∷ l) p = (λ y m. let r = Memᴰ·of-map f l m in rw (← r .2) (p .0 (r .0) (r .1)), pairwise-map R f l (p .1))
+
+  pub pairwise-of-map : (R : B → B → Type 0) (f : A → B) (l : List A) → Pairwise R (map f l) → Pairwise (λ x y. R (f x) (f y)) l
+  pairwise-of-map R f [] p = tt
+  pairwise-of-map R f (x ∷ l) p = (λ y m. p .0 (f y) (Memᴰ·map f m), pairwise-of-map R f l (p .1))
 
   pub pairwise-flat : (R : B → B → Type 0) (f : A → List B) (l : List A) → ((x : A) → x ∈ l → Pairwise R (f x))
       → Pairwise (λ x y. (u v : B) → u ∈ f x → v ∈ f y → R u v) l → Pairwise R (flatMap f l)

@@ -1,0 +1,32 @@
+-- The member at a place of a list.
+use mathlib.Core.Path.{_≡_}
+use mathlib.Core.Option.{some as just, Option·none-ne-some}
+use mathlib.Core.List.{List, [], _∷_, _++_, map, List·Memᴰ·head, List·Memᴰ·tail}
+use Prim.Native.Nat.{ℕ, _+_, zero, suc}
+use native.Mathlib.Nat.{zero-add, suc-add}
+use lib.ListN.{length, getElem?}
+use Rattle.lists.specs.Lists.{_∈_}
+
+pub at-member : {A : Type 0} {x : A} (l : List A) (n : ℕ) → getElem? l n ≡ just x → x ∈ l
+at-member {x = x} [] n h = absurd (Option·none-ne-some x h)
+at-member {x = x} (y ∷ l) zero h = let q : x ≡ y = cc in List·Memᴰ·head q
+at-member (y ∷ l) (suc n) h = List·Memᴰ·tail (at-member l n h)
+
+-- each member has a place
+pub member-at : {A : Type 0} {x : A} {l : List A} → x ∈ l → (n : ℕ) × (getElem? l n ≡ just x)
+member-at {l = y ∷ l} (List·Memᴰ·head e) = (0, rw e)
+member-at {l = y ∷ l} (List·Memᴰ·tail m) = let r = member-at m in (suc (r .0), r .1)
+
+pub at-map : {A B : Type 0} (f : A → B) {x : A} (l : List A) (n : ℕ) → getElem? l n ≡ just x → getElem? (map f l) n ≡ just (f x)
+at-map f {x} [] n h = absurd (Option·none-ne-some x h)
+at-map f {x} (y ∷ l) zero h = let q : y ≡ x = cc in rw q
+at-map f (y ∷ l) (suc n) h = at-map f l n h
+
+pub at-left : {A : Type 0} {x : A} (l m : List A) (n : ℕ) → getElem? l n ≡ just x → getElem? (l ++ m) n ≡ just x
+at-left {x = x} [] m n h = absurd (Option·none-ne-some x h)
+at-left (y ∷ l) m zero h = h
+at-left (y ∷ l) m (suc n) h = at-left l m n h
+
+pub at-right : {A B : Type 0} (f : A → B) (l : List A) (m : List B) (n : ℕ) → getElem? (map f l ++ m) (length l + n) ≡ getElem? m n
+at-right f [] m n = rw zero-add
+at-right f (x ∷ l) m n = rw suc-add (at-right f l m n)
