@@ -2,7 +2,7 @@
 use mathlib.Core.Path.{_≡_, refl, sym, _∙_, ap}
 use mathlib.Core.Logic.{_≢_, inl, inr, _↔_}
 use mathlib.Core.Bool.{true, false}
-use mathlib.Core.List.{List, [], _∷_, map, List·Memᴰ·head, Memᴰ·map, Memᴰ·of-map}
+use mathlib.Core.List.{List, [], _∷_, map, Memᴰ·cast, Memᴰ·map, Memᴰ·of-map}
 use Prim.Native.Nat.{ℕ, _≤_}
 use lib.ListN.{length}
 use Rattle.lists.specs.Lists.{_∈_, keep}
@@ -10,7 +10,7 @@ use Rattle.lists.specs.Order.{Rising, earlier}
 use Rattle.lists.proofs.Members.{keep-in, keep-of, keep-map}
 use Rattle.lists.proofs.Pairwise.{keep-one, pairwise-imp}
 use Rattle.lists.proofs.Pigeonhole.{one-long, two-long}
-use Rattle.lists.proofs.Order.{by-codes, sort-in, sort-of, sort-rising}
+use Rattle.lists.proofs.Order.{by-codes, sort-in, sort-of, sort-rising, rising-unique}
 use Rattle.cube.specs.Measure.{Measure, Row, codesOf}
 use Rattle.cube.specs.Lattice.{Lattice, Laws}
 use Rattle.cube.specs.Cube.{within, Exists, cuboid, total}
@@ -29,6 +29,12 @@ module _ (L : Lattice) where
   pub cuboid-rising : (xs : List (List ℕ)) (s : ℕ) → Rising earlier (cuboid L xs s)
   unfolding cuboid
   cuboid-rising xs s = sort-rising earlier by-codes (map (L .cell s) xs)
+
+  -- the cells depend on which codes there are, not on how often or in which order
+  pub cuboid-same : (xs ys : List (List ℕ)) (s : ℕ) → ((x : List ℕ) → x ∈ xs → x ∈ ys) → ((x : List ℕ) → x ∈ ys → x ∈ xs) → cuboid L xs s ≡ cuboid L ys s
+  cuboid-same xs ys s f g = rising-unique earlier by-codes (cuboid L xs s) (cuboid L ys s) (cuboid-rising xs s) (cuboid-rising ys s)
+      (λ c m. let r = cuboid-in xs s m in Memᴰ·cast (r .2) (cuboid-of s (f (r .0) (r .1))))
+      (λ c m. let r = cuboid-in ys s m in Memᴰ·cast (r .2) (cuboid-of s (g (r .0) (r .1))))
 
   -- a cell exists where a row falls in it
   pub within-exists : (xs : List (List ℕ)) (c : List ℕ) → 1 ≤ length (within L xs c) → Exists L xs c

@@ -7,6 +7,7 @@ use Prim.Native.Nat.{ℕ, zero, suc, _/_, _%_, _^_, _<_, _≤_}
 use native.Mathlib.Omega.{arith}
 use lib.Dec.{eqb}
 use borrow.Author.Tests.{eqb-true, eq-eqb, ne-eqb}
+use Rattle.lists.specs.Order.{same}
 use Rattle.lists.proofs.Tests.{cases, truth, both, both-of}
 use Rattle.lists.proofs.Pairwise.{pairwise-imp}
 use Rattle.lattice.specs.Sets.{before, full, sets, holds}
@@ -26,6 +27,15 @@ falls-cell zero s (a ∷ x) y k = absurd k
 falls-cell (suc d) s [] y k = absurd k
 falls-cell (suc d) s (a ∷ x) [] k = refl
 falls-cell (suc d) s (a ∷ x) (b ∷ y) k = ap₂ _&&_ (fits-shown (s % 2) a b (k .0)) (falls-cell d (s / 2) x y (k .1))
+
+-- codes fall in a cell without ALL just if they are it
+pub falls-same : (d : ℕ) (x y : List ℕ) → Coded d x → falls x y ≡ same x y
+falls-same zero [] [] k = refl
+falls-same zero [] (b ∷ y) k = refl
+falls-same zero (a ∷ x) y k = absurd k
+falls-same (suc d) [] y k = absurd k
+falls-same (suc d) (a ∷ x) [] k = refl
+falls-same (suc d) (a ∷ x) (b ∷ y) k = rw (ne-eqb a ALL (omega (arith, k .0)), falls-same d x y (k .1))
 
 alike-refl : (n a : ℕ) → alike n a a ≡ true
 alike-refl zero a = refl

@@ -14,7 +14,7 @@ use Rattle.lists.proofs.Pairwise.{pairwise-append, pairwise-imp, pairwise-map}
 use Rattle.lists.proofs.Pigeonhole.{perm-length, fewest, fewest-only}
 use Rattle.cube.specs.Measure.{Measure, Adds, Row, codesOf}
 use Rattle.cube.specs.Lattice.{Lattice, Laws}
-use Rattle.cube.specs.Cube.{within, Exists, total, sumOf, filled}
+use Rattle.cube.specs.Cube.{within, Exists, total}
 use Rattle.cube.specs.Condensed.{Entry, base, normal, carries, listed, reach, normals, Base, own, stands, Permitted, Condensed, base-entry, normal-entry, ours}
 use Rattle.cube.proofs.Smallest.{listed-in}
 use Rattle.cube.proofs.Cells.{within-exists, single-within, single-finest}

@@ -11,4 +11,6 @@ pub mod Fewest
 pub mod Ours
 pub mod Questions
 pub mod Expansion
+pub mod Regroup
+pub mod Folding
 pub mod Examples

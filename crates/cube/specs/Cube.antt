@@ -10,11 +10,11 @@
 --   complete rows   the complete cube: the cells of every node, in the order of the nodes
 use mathlib.Core.Path.{_≡_}
 use mathlib.Core.Bool.{true}
-use mathlib.Core.List.{List, map, flatMap, foldl}
+use mathlib.Core.List.{List, map, flatMap}
 use Prim.Native.Nat.{ℕ}
 use Rattle.lists.specs.Lists.{_∈_, keep}
 use Rattle.lists.specs.Order.{earlier, sort}
-use Rattle.cube.specs.Measure.{Measure, Row, codesOf}
+use Rattle.cube.specs.Measure.{Measure, Row, totalOf, codesOf}
 use Rattle.cube.specs.Lattice.{Lattice}
 
 module _ (L : Lattice) where
@@ -28,12 +28,8 @@ module _ (L : Lattice) where
   cuboid xs s = sort earlier (map (L .cell s) xs)
 
   module _ {A : Type 0} (M : Measure A) where
-    -- the running total of rows
-    abbrev pub sumOf : List (Row A) → A
-    sumOf rows = foldl (λ t r. M .more t (r .total)) (M .none) rows
-
     unfoldable pub total : List (Row A) → List ℕ → A
-    total rows c = sumOf (keep (λ r. L .falls c (r .codes)) rows)
+    total rows c = totalOf M (keep (λ r. L .falls c (r .codes)) rows)
 
     abbrev pub filled : List (Row A) → List ℕ → Row A
     filled rows c = record { codes = c; total = total rows c }

@@ -6,9 +6,10 @@
 --   Adds M          laws of a measure: nothing changes nothing, and neither order nor grouping matters
 --   sums            the measure of sums and counts
 --   Row A           codes and an amount: a table row, a base row, or a cell with its total
+--   totalOf M rows  the running total of rows
 --   codesOf rows    the codes of each row
 use mathlib.Core.Path.{_≡_}
-use mathlib.Core.List.{List, map}
+use mathlib.Core.List.{List, map, foldl}
 use Prim.Native.Nat.{ℕ, _+_}
 use lib.IntN.{pos, _+ℤ_}
 use Rattle.cube.specs.declared.Total.{Total}
@@ -34,6 +35,9 @@ sums = record { none = nothing; more = plus }
 pub record Row (A : Type 0) : Type 0 where
   pub codes : List ℕ
   pub total : A
+
+abbrev pub totalOf : {A : Type 0} → Measure A → List (Row A) → A
+totalOf M rows = foldl (λ t r. M .more t (r .total)) (M .none) rows
 
 abbrev pub codesOf : {A : Type 0} → List (Row A) → List (List ℕ)
 codesOf rows = map (λ r. r .codes) rows
