@@ -43,20 +43,21 @@ module _ (L : Lattice) where
       let k = keep-in (L .falls c) xs (q .1) in
       (q .0, k .0, k .1)
 
-module _ (L : Lattice) (W : Laws L) (xs : List (List ℕ)) (b : Base L xs) where
-  falls-own : {s : ℕ} {x : List ℕ} → s ∈ L .nodes → x ∈ xs → L .falls (L .cell s x) x ≡ true
-  falls-own {s} {x} h m = W .falls-cell s x x (b .valid x m) h ∙ W .agree-refl s x
+module _ (L : Lattice) (W : Laws L) (xs : List (List ℕ)) (v : (x : List ℕ) → x ∈ xs → L .valid x) where
+  pub falls-own : {s : ℕ} {x : List ℕ} → s ∈ L .nodes → x ∈ xs → L .falls (L .cell s x) x ≡ true
+  falls-own {s} {x} h m = W .falls-cell s x x (v x m) h ∙ W .agree-refl s x
 
   pub cell-exists : {s : ℕ} {x : List ℕ} → s ∈ L .nodes → x ∈ xs → Exists L xs (L .cell s x)
   cell-exists {s} {x} h m = (x, m, falls-own h m)
 
+module _ (L : Lattice) (W : Laws L) (xs : List (List ℕ)) (b : Base L xs) where
   -- where a row is single just this row falls in its cell,
   pub single-within : {s : ℕ} {x : List ℕ} → s ∈ L .nodes → x ∈ xs → single L xs s x ≡ true → within L xs (L .cell s x) ≡ x ∷ []
   single-within {s} {x} h m e = keep-one (L .falls (L .cell s x)) xs
       (pairwise-imp _≢_ (λ y z. L .falls (L .cell s x) y ≡ true → L .falls (L .cell s x) z ≢ true) xs
       (λ y z i j n f g. n (sym (only-row y i f) ∙ only-row z j g))
       (b .distinct))
-      m (falls-own h m)
+      m (falls-own L W xs (b .valid) h m)
     where
       only-row : (y : List ℕ) → y ∈ xs → L .falls (L .cell s x) y ≡ true → x ≡ y
       only-row y n f = single-other L xs s x e n (sym (W .falls-cell s x y (b .valid x m) h) ∙ f)
@@ -66,7 +67,7 @@ module _ (L : Lattice) (W : Laws L) (xs : List (List ℕ)) (b : Base L xs) where
   crowd-within {s} {x} h m e =
       let n = single-not L xs s x e in
       two-long
-      (keep-of (L .falls (L .cell s x)) m (falls-own h m))
+      (keep-of (L .falls (L .cell s x)) m (falls-own L W xs (b .valid) h m))
       (keep-of (L .falls (L .cell s x)) (n .1) (W .falls-cell s x (n .0) (b .valid x m) h ∙ n .2))
       (n .3)
 

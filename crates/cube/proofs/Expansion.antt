@@ -31,7 +31,7 @@ module _ (L : Lattice) (W : Laws L) {A : Type 0} (M : Measure A) (rows : List (R
   stood-of : (s : ℕ) → s ∈ L .nodes → (c : List ℕ) → c ∈ cuboid L (codesOf rows) s → c ∈ sort earlier (stood s)
   stood-of s h c m =
       let r = cuboid-in L (codesOf rows) s m in
-      let e = z .covers c (rw (r .2) (cell-exists L W (codesOf rows) b h (r .1))) in
+      let e = z .covers c (rw (r .2) (cell-exists L W (codesOf rows) (b .valid) h (r .1))) in
       let q : L .node-of c ≡ s = rw (r .2) (W .node-cell s (r .0) (b .valid (r .0) (r .1)) h) in
       sort-of earlier by-codes (keep-of (λ c. eqb (L .node-of c) s) (flat-of (stands L) (e .1) (e .2)) (eq-eqb (L .node-of c) s q))
 
@@ -43,7 +43,7 @@ module _ (L : Lattice) (W : Laws L) {A : Type 0} (M : Measure A) (rows : List (R
   answered-filled : (s : ℕ) → s ∈ L .nodes → (c : List ℕ) → c ∈ cuboid L (codesOf rows) s → answered L M es c ≡ filled L M rows c
   answered-filled s h c m =
       let r = cuboid-in L (codesOf rows) s m in
-      let x : Exists L (codesOf rows) c = rw (r .2) (cell-exists L W (codesOf rows) b h (r .1)) in
+      let x : Exists L (codesOf rows) c = rw (r .2) (cell-exists L W (codesOf rows) (b .valid) h (r .1)) in
       let f = lookup-found L M rows z c x in
       ap (λ (t : A). record { codes = c; total = t }) (ap (amount M) (f .4))
 

@@ -8,7 +8,7 @@ use Rattle.lists.specs.Order.{Rising, earlier, same}
 use Rattle.lists.proofs.Members.{keep-same, map-same, flat-same}
 use Rattle.lists.proofs.Order.{by-codes, rising-distinct}
 use Rattle.lattice.specs.Sets.{full}
-use Rattle.cube.specs.Measure.{Measure, Adds, Row, totalOf, codesOf}
+use Rattle.cube.specs.Measure.{Measure, Adds, Row, totalOf, totalAt, codesOf}
 use Rattle.cube.specs.Lattice.{Lattice}
 use Rattle.cube.specs.Codes.{Coded, falls, plain}
 use Rattle.cube.specs.Cube.{Exists, cuboid, total, filled, grouped, complete}
@@ -16,15 +16,15 @@ use Rattle.cube.specs.Condensed.{Base}
 use Rattle.cube.specs.Table.{Table, folded}
 use Rattle.cube.proofs.Codes.{cell-full, falls-same}
 use Rattle.cube.proofs.Cells.{cuboid-in, cuboid-of, cuboid-rising, cuboid-same}
-use Rattle.cube.proofs.Regroup.{fill, sum-at, regroup}
+use Rattle.cube.proofs.Regroup.{fill, regroup}
 
 codes-filled : (L : Lattice) {A : Type 0} (M : Measure A) (rows : List (Row A)) (cs : List (List ℕ)) → codesOf (map (filled L M rows) cs) ≡ cs
 codes-filled L M rows [] = refl
 codes-filled L M rows (c ∷ cs) = ap (λ (l : List (List ℕ)). c ∷ l) (codes-filled L M rows cs)
 
 module _ {A : Type 0} (M : Measure A) (d : ℕ) (rows : List (Row A)) (t : Table d rows) where
-  coded : {x : List ℕ} → x ∈ codesOf rows → Coded d x
-  coded m = let r = Memᴰ·of-map (λ q. q .codes) rows m in rw (← r .2) (t (r .0) (r .1))
+  pub coded : (x : List ℕ) → x ∈ codesOf rows → Coded d x
+  coded x m = let r = Memᴰ·of-map (λ q. q .codes) rows m in rw (← r .2) (t (r .0) (r .1))
 
   folded-codes : codesOf (folded M d rows) ≡ cuboid (plain d) (codesOf rows) (full d)
   unfolding folded grouped
@@ -37,8 +37,8 @@ module _ {A : Type 0} (M : Measure A) (d : ℕ) (rows : List (Row A)) (t : Table
   -- and have just the codes that the table has;
   cuboid-full : (x : List ℕ) → (x ∈ cuboid (plain d) (codesOf rows) (full d)) ↔ (x ∈ codesOf rows)
   cuboid-full x = (
-    λ m. let r = cuboid-in (plain d) (codesOf rows) (full d) m in Memᴰ·cast (r .2 ∙ cell-full d (r .0) (coded (r .1))) (r .1),
-    λ m. Memᴰ·cast (sym (cell-full d x (coded m))) (cuboid-of (plain d) (full d) m),
+    λ m. let r = cuboid-in (plain d) (codesOf rows) (full d) m in Memᴰ·cast (r .2 ∙ cell-full d (r .0) (coded (r .0) (r .1))) (r .1),
+    λ m. Memᴰ·cast (sym (cell-full d x (coded x m))) (cuboid-of (plain d) (full d) m),
   )
 
   pub folded-in : (x : List ℕ) → (x ∈ codesOf (folded M d rows)) ↔ (x ∈ codesOf rows)
@@ -46,23 +46,23 @@ module _ {A : Type 0} (M : Measure A) (d : ℕ) (rows : List (Row A)) (t : Table
 
   pub folded-base : Base (plain d) (codesOf (folded M d rows))
   folded-base = record {
-    valid = λ x m. coded (folded-in x .0 m);
+    valid = λ x m. coded x (folded-in x .0 m);
     distinct = rising-distinct earlier by-codes (codesOf (folded M d rows)) folded-rising;
   }
 
   -- each has the total of the table's rows with these codes.
-  filled-sum : (x : List ℕ) → x ∈ cuboid (plain d) (codesOf rows) (full d) → filled (plain d) M rows x ≡ fill (sum-at M rows) x
+  filled-sum : (x : List ℕ) → x ∈ cuboid (plain d) (codesOf rows) (full d) → filled (plain d) M rows x ≡ fill (totalAt M rows) x
   unfolding total
   filled-sum x m =
       ap (λ (l : List (Row A)). record { codes = x; total = totalOf M l })
-      (keep-same (λ r. falls x (r .codes)) (λ r. same x (r .codes)) rows (λ r i. falls-same d x (r .codes) (coded (cuboid-full x .0 m))))
+      (keep-same (λ r. falls x (r .codes)) (λ r. same x (r .codes)) rows (λ r i. falls-same d x (r .codes) (coded x (cuboid-full x .0 m))))
 
-  folded-is : folded M d rows ≡ map (fill (sum-at M rows)) (cuboid (plain d) (codesOf rows) (full d))
+  folded-is : folded M d rows ≡ map (fill (totalAt M rows)) (cuboid (plain d) (codesOf rows) (full d))
   unfolding folded grouped
-  folded-is = map-same (filled (plain d) M rows) (fill (sum-at M rows)) (cuboid (plain d) (codesOf rows) (full d)) filled-sum
+  folded-is = map-same (filled (plain d) M rows) (fill (totalAt M rows)) (cuboid (plain d) (codesOf rows) (full d)) filled-sum
 
-  pub folded-total : (r : Row A) → r ∈ folded M d rows → r .total ≡ sum-at M rows (r .codes)
-  folded-total r m = let q = Memᴰ·of-map (fill (sum-at M rows)) (cuboid (plain d) (codesOf rows) (full d)) (rw folded-is at m) in rw (← q .2)
+  pub folded-total : (r : Row A) → r ∈ folded M d rows → r .total ≡ totalAt M rows (r .codes)
+  folded-total r m = let q = Memᴰ·of-map (fill (totalAt M rows)) (cuboid (plain d) (codesOf rows) (full d)) (rw folded-is at m) in rw (← q .2)
 
   -- Cells and totals of the base rows are those of the table, under any lattice.
   module _ (L : Lattice) where

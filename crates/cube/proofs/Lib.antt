@@ -13,4 +13,7 @@ pub mod Questions
 pub mod Expansion
 pub mod Regroup
 pub mod Folding
+pub mod Complete
+pub mod Antichain
+pub mod Promises
 pub mod Examples

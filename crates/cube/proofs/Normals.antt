@@ -21,7 +21,7 @@ use Rattle.cube.proofs.Nodes.{Before, proper-in, proper-of, proper-orde
 use Rattle.cube.proofs.Singles.{single-up}
 use Rattle.cube.proofs.Smallest.{listed-in, listed-held}
 use Rattle.cube.proofs.Reach.{reach-in, reach-of}
-use Rattle.cube.proofs.Cells.{cuboid-in, cuboid-of, cuboid-rising, within-exists, cell-exists, single-within, crowd-within, single-finest}
+use Rattle.cube.proofs.Cells.{cuboid-in, cuboid-of, cuboid-rising, within-exists, single-within, crowd-within, single-finest}
 
 module _ (L : Lattice) (W : Laws L) (xs : List (List ℕ)) (b : Base L xs) where
   -- in whatever cell a row with a permitted list stands for, that row alone falls

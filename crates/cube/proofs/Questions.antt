@@ -1,6 +1,7 @@
 -- Questions to a condensed cube.
 use mathlib.Core.Path.{_≡_, refl, sym, _∙_, ap}
-use mathlib.Core.Bool.{true, false≢true}
+use mathlib.Core.Logic.{_↔_}
+use mathlib.Core.Bool.{Bool, true, false, false≢true}
 use mathlib.Core.Option.{some as just, Option·none-ne-some}
 use mathlib.Core.List.{List, [], _∷_, map, List·Memᴰ·head, List·Memᴰ·tail, List·Memᴰ·not-nil, List·Memᴰ·cases-cons, Memᴰ·cast}
 use Prim.Native.Nat.{ℕ, _+_, zero, suc}
@@ -10,13 +11,17 @@ use Rattle.lists.specs.Order.{same}
 use Rattle.lists.proofs.Tests.{cases, truth, some-in, some-of}
 use Rattle.lists.proofs.Members.{keep-of}
 use Rattle.lists.proofs.Order.{same-eq, same-refl}
-use Rattle.lists.proofs.Places.{at-member, at-map, at-left, at-right}
+use Rattle.lists.proofs.Places.{at-member, at-map, at-left, at-right, pairwise-places}
 use Rattle.cube.specs.Measure.{Measure, Adds, Row, codesOf}
 use Rattle.cube.specs.Lattice.{Lattice, Laws}
 use Rattle.cube.specs.Cube.{within, Exists, total}
-use Rattle.cube.specs.Condensed.{Entry, carries, no-record, found, lookup, normals, Base, stands, Condensed, base-entry, normal-entry, ours}
+use Rattle.cube.specs.Condensed.{Entry, carries, Answer, no-record, found, lookup, normals, Base, stands, Condensed, base-entry, normal-entry, ours}
 use Rattle.cube.proofs.Normals.{base-reach}
 use Rattle.cube.proofs.Ours.{Apart, ours-condensed, ours-apart}
+
+abbrev has-record : {A : Type 0} → Answer A → Bool
+has-record no-record = false
+has-record (found n t) = true
 
 -- the entry that answers is one that stands for the cell, and there is one if any does
 lookup-no : (L : Lattice) {A : Type 0} (c : List ℕ) (es : List (Entry A)) → ((e : Entry A) → e ∈ es → c ∈ stands L e → ⊥) → lookup L c es ≡ no-record
@@ -60,6 +65,9 @@ module _ (L : Lattice) {A : Type 0} (M : Measure A) (rows : List (Row A)) {es : 
   pub lookup-none : (c : List ℕ) → (Exists L (codesOf rows) c → ⊥) → lookup L c es ≡ no-record
   lookup-none c h = lookup-no L c es (λ e m i. h (z .exact e m c i .0))
 
+  pub lookup-none-iff : (c : List ℕ) → (lookup L c es ≡ no-record) ↔ (Exists L (codesOf rows) c → ⊥)
+  lookup-none-iff c = (λ e h. let f = lookup-found c h in false≢true (ap has-record (sym e ∙ f .4)), lookup-none c)
+
 -- Which entry of ours answers.
 module _ (L : Lattice) (W : Laws L) {A : Type 0} (M : Measure A) (E : Adds M) (rows : List (Row A)) (b : Base L (codesOf rows)) (c : List ℕ) where
   -- where one row falls in the cell, its base entry;
@@ -79,3 +87,8 @@ module _ (L : Lattice) (W : Laws L) {A : Type 0} (M : Measure A) (E : Adds M) (r
   -- and where none does, there is no record.
   pub lookup-nothing : within L (codesOf rows) c ≡ [] → lookup L c (ours L M rows) ≡ no-record
   lookup-nothing w = lookup-none L M rows (ours-condensed L W M E rows b) c (λ h. List·Memᴰ·not-nil (rw w at (keep-of (L .falls c) (h .1) (h .2))))
+
+  -- No other entry of ours stands for the cell.
+  pub one-entry : {e f : Entry A} (m n : ℕ) → getElem? (ours L M rows) m ≡ just e → getElem? (ours L M rows) n ≡ just f → c ∈ stands L e → c ∈ stands L f → m ≡ n
+  one-entry m n h k i j = cases (pairwise-places (Apart L) (ours L M rows) m n (ours-apart L W M E rows b) h k) (λ q. q)
+      (λ q. absurd (cases q (λ a. a c i j) (λ a. a c j i)))

@@ -9,15 +9,11 @@ use Rattle.lists.specs.Order.{same}
 use Rattle.lists.proofs.Tests.{cases, truth}
 use Rattle.lists.proofs.Members.{map-same}
 use Rattle.lists.proofs.Order.{same-eq, same-refl}
-use Rattle.cube.specs.Measure.{Measure, Adds, Row, totalOf}
+use Rattle.cube.specs.Measure.{Measure, Adds, Row, totalOf, totalAt}
 
 -- key k with the amount f k
 abbrev pub fill : {A : Type 0} → (List ℕ → A) → List ℕ → Row A
 fill f k = record { codes = k; total = f k }
-
--- the total of the rows with codes k
-abbrev pub sum-at : {A : Type 0} → Measure A → List (Row A) → List ℕ → A
-sum-at M rows k = totalOf M (keep (λ r. same k (r .codes)) rows)
 
 module _ {A : Type 0} (M : Measure A) (E : Adds M) where
   -- a running total that starts with a
@@ -92,10 +88,10 @@ module _ {A : Type 0} (M : Measure A) (E : Adds M) where
 
   -- Keys that have the codes of all rows, each with the total of its rows, total what the rows total.
   pub regroup : (p : List ℕ → Bool) (rows : List (Row A)) (ks : List (List ℕ)) → Distinct ks → ((r : Row A) → r ∈ rows → r .codes ∈ ks)
-      → spread p (sum-at M rows) ks ≡ totalOf M (keep (λ r. p (r .codes)) rows)
-  regroup p [] ks d h = spread-none p (sum-at M []) ks (λ k. refl)
+      → spread p (totalAt M rows) ks ≡ totalOf M (keep (λ r. p (r .codes)) rows)
+  regroup p [] ks d h = spread-none p (totalAt M []) ks (λ k. refl)
   regroup p (r ∷ rows) ks d h =
-      spread-more p (sum-at M rows) (sum-at M (r ∷ rows)) (r .total) ks d (h r (List·Memᴰ·head refl))
+      spread-more p (totalAt M rows) (totalAt M (r ∷ rows)) (r .total) ks d (h r (List·Memᴰ·head refl))
       (sum-taking (same (r .codes)) r rows ∙ rw (same-refl (r .codes)))
       (λ k n. sum-taking (same k) r rows ∙ cases (truth (same k (r .codes))) (λ e. absurd (n (same-eq k (r .codes) e))) (λ e. rw e))
       ∙ ap (taking (p (r .codes)) (r .total)) (regroup p rows ks d (λ q m. h q (List·Memᴰ·tail m)))

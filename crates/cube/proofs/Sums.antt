@@ -1,4 +1,4 @@
--- Sums of readings stay within 64 bits.
+-- Sums and counts are a measure, and stay within 64 bits.
 use mathlib.Core.Path.{_≡_}
 use mathlib.Core.Bool.{Bool, true, false, cond}
 use Prim.Native.Nat.{ℕ, suc, _+_, _-_, _≤_}
@@ -6,14 +6,22 @@ use native.Mathlib.Omega.{arith}
 use borrow.Author.Tests.{ltb-true}
 use mathlib.Core.Path.{refl}
 use lib.Dec.{ltb}
-use lib.IntN.{ℤ, pos, negsuc, natAbs, subℕ, _+ℤ_}
+use native.Mathlib.Nat.{zero-add, add-comm, add-assoc}
+use lib.IntN.{ℤ, pos, negsuc, natAbs, subℕ, _+ℤ_, +ℤ-idl, +ℤ-comm, +ℤ-assoc}
 use lib.Signed.{mag}
 use mir.Syntax.{w64}
 use mir.Val.{SFits, toZ, ofZ}
 use mir.Facts.{toZ-ofZ}
 use Rattle.cube.specs.declared.Total.{Total}
-use Rattle.cube.specs.Measure.{nothing, plus}
+use Rattle.cube.specs.Measure.{nothing, plus, Adds, sums}
 use Rattle.cube.specs.Bounds.{most, Bounded}
+
+pub sums-add : Adds sums
+sums-add = record {
+  none-more = λ a i. record { sum = +ℤ-idl (a .sum) i; count = zero-add (a .count) i };
+  more-comm = λ a b i. record { sum = +ℤ-comm (a .sum) (b .sum) i; count = add-comm (a .count) (b .count) i };
+  more-assoc = λ a b c i. record { sum = +ℤ-assoc (a .sum) (b .sum) (c .sum) i; count = add-assoc (a .count) (b .count) (c .count) i };
+}
 
 abs-sub : (a b : ℕ) → natAbs (subℕ a b) ≤ a + b
 abs-sub a b = go (ltb a b) refl

@@ -5,14 +5,15 @@
 --   Coded d x       x is d codes, none of them ALL
 --   cell s x        the cell of set s in which codes x fall: x on s, ALL elsewhere
 --   set-of c        the set of a cell: the dimensions that are not ALL
+--   keys c          by what cells are listed: the lattice order of their sets, then their codes
 --   agree s x y     codes x and y agree on set s
 --   falls c x       codes x fall in cell c: they are the cell's wherever it is not ALL
 --   plain d         the lattice of the sets of d dimensions
 use mathlib.Core.Bool.{Bool, true, false, _&&_, _||_}
-use mathlib.Core.List.{List, [], _∷_}
+use mathlib.Core.List.{List, [], _∷_, _++_}
 use Prim.Native.Nat.{ℕ, zero, suc, _+_, _*_, _/_, _%_, _<_}
 use lib.Dec.{eqb}
-use Rattle.lattice.specs.Sets.{holds, full, sets}
+use Rattle.lattice.specs.Sets.{rank, full, sets, holds}
 use Rattle.cube.specs.Lattice.{Lattice}
 
 abbrev pub ALL : ℕ
@@ -41,6 +42,9 @@ bit false = 1
 abbrev pub set-of : List ℕ → ℕ
 set-of [] = 0
 set-of (a ∷ c) = bit (eqb a ALL) + 2 * set-of c
+
+abbrev pub keys : List ℕ → List ℕ
+keys c = rank (set-of c) ++ c
 
 -- two codes of one dimension, by whether the set has it (1) or not (0)
 abbrev pub alike : ℕ → ℕ → ℕ → Bool

@@ -7,11 +7,14 @@
 --   sums            the measure of sums and counts
 --   Row A           codes and an amount: a table row, a base row, or a cell with its total
 --   totalOf M rows  the running total of rows
+--   totalAt M rows x    the running total of the rows with codes x
 --   codesOf rows    the codes of each row
 use mathlib.Core.Path.{_≡_}
 use mathlib.Core.List.{List, map, foldl}
 use Prim.Native.Nat.{ℕ, _+_}
 use lib.IntN.{pos, _+ℤ_}
+use Rattle.lists.specs.Lists.{keep}
+use Rattle.lists.specs.Order.{same}
 use Rattle.cube.specs.declared.Total.{Total}
 
 abbrev pub nothing : Total
@@ -38,6 +41,9 @@ pub record Row (A : Type 0) : Type 0 where
 
 abbrev pub totalOf : {A : Type 0} → Measure A → List (Row A) → A
 totalOf M rows = foldl (λ t r. M .more t (r .total)) (M .none) rows
+
+abbrev pub totalAt : {A : Type 0} → Measure A → List (Row A) → List ℕ → A
+totalAt M rows x = totalOf M (keep (λ r. same x (r .codes)) rows)
 
 abbrev pub codesOf : {A : Type 0} → List (Row A) → List (List ℕ)
 codesOf rows = map (λ r. r .codes) rows

@@ -1,11 +1,13 @@
 -- The member at a place of a list.
-use mathlib.Core.Path.{_≡_}
+use mathlib.Core.Path.{_≡_, refl, ap}
+use mathlib.Core.Logic.{_⊎_, inl, inr}
 use mathlib.Core.Option.{some as just, Option·none-ne-some}
 use mathlib.Core.List.{List, [], _∷_, _++_, map, List·Memᴰ·head, List·Memᴰ·tail}
 use Prim.Native.Nat.{ℕ, _+_, zero, suc}
 use native.Mathlib.Nat.{zero-add, suc-add}
 use lib.ListN.{length, getElem?}
-use Rattle.lists.specs.Lists.{_∈_}
+use Rattle.lists.specs.Lists.{_∈_, Pairwise}
+use Rattle.lists.proofs.Tests.{cases}
 
 pub at-member : {A : Type 0} {x : A} (l : List A) (n : ℕ) → getElem? l n ≡ just x → x ∈ l
 at-member {x = x} [] n h = absurd (Option·none-ne-some x h)
@@ -30,3 +32,12 @@ at-left (y ∷ l) m (suc n) h = at-left l m n h
 pub at-right : {A B : Type 0} (f : A → B) (l : List A) (m : List B) (n : ℕ) → getElem? (map f l ++ m) (length l + n) ≡ getElem? m n
 at-right f [] m n = rw zero-add
 at-right f (x ∷ l) m n = rw suc-add (at-right f l m n)
+
+-- members at two places are at one place, or in the relation one way or the other
+pub pairwise-places : {A : Type 0} (R : A → A → Type 0) {x y : A} (l : List A) (m n : ℕ) → Pairwise R l → getElem? l m ≡ just x → getElem? l n ≡ just y
+    → (m ≡ n) ⊎ (R x y ⊎ R y x)
+pairwise-places R {x} [] m n p h k = absurd (Option·none-ne-some x h)
+pairwise-places R (z ∷ l) zero zero p h k = inl refl
+pairwise-places R {x} {y} (z ∷ l) zero (suc n) p h k = let q : z ≡ x = cc in inr (inl (rw (← q) (p .0 y (at-member l n k))))
+pairwise-places R {x} {y} (z ∷ l) (suc m) zero p h k = let q : z ≡ y = cc in inr (inr (rw (← q) (p .0 x (at-member l m h))))
+pairwise-places R (z ∷ l) (suc m) (suc n) p h k = cases (pairwise-places R l m n (p .1) h k) (λ e. inl (ap suc e)) inr

@@ -1,0 +1,130 @@
+-- The front page: what demands 2 and 3 of the user say of rows, entries and cells, for tables of any number of dimensions.
+use mathlib.Core.Path.{_≡_, _∙_}
+use mathlib.Core.Logic.{_↔_}
+use mathlib.Core.Bool.{true, not}
+use mathlib.Core.Option.{some as just}
+use mathlib.Core.List.{List, map, List·Permᴰ}
+use Prim.Native.Nat.{ℕ, _≤_}
+use lib.Dec.{leb}
+use lib.ListN.{length, getElem?}
+use Rattle.lists.specs.Lists.{_∈_}
+use Rattle.lists.specs.Order.{Rising, earlier}
+use Rattle.lattice.specs.Sets.{sets, holds}
+use Rattle.cube.specs.declared.Total.{Total}
+use Rattle.cube.specs.Measure.{sums, Row, totalAt, codesOf}
+use Rattle.cube.specs.Codes.{Coded, cell, plain}
+use Rattle.cube.specs.Cube.{within, Exists, total, complete}
+use Rattle.cube.specs.Condensed.{Entry, no-record, found, lookup, proper, single, listed, reach, normals, Base, own, stands, Condensed, ours, expansion}
+use Rattle.cube.specs.Table.{Table, folded, listed-before}
+use Rattle.cube.proofs.Sums.{sums-add}
+use Rattle.cube.proofs.Codes.{plain-laws}
+use Rattle.cube.proofs.Complete as completes
+use Rattle.cube.proofs.Folding as folding
+use Rattle.cube.proofs.Singles as singles
+use Rattle.cube.proofs.Smallest as smallests
+use Rattle.cube.proofs.Reach as reaches
+use Rattle.cube.proofs.Normals as normal
+use Rattle.cube.proofs.Fewest as fewest
+use Rattle.cube.proofs.Ours as our
+use Rattle.cube.proofs.Questions as questions
+use Rattle.cube.proofs.Expansion as expansions
+use Rattle.cube.proofs.Antichain as antichains
+
+-- ---- Demand 2: the complete cube, of a table's rows
+
+module _ (d : ℕ) (rows : List (Row Total)) (t : Table d rows) where
+  -- its base rows
+  abbrev based : List (Row Total)
+  based = folded sums d rows
+
+  -- One cell for each group that has a record, with its exact sum and count;
+  pub complete-cells : (r : Row Total) → (r ∈ complete (plain d) sums rows) ↔ (Exists (plain d) (codesOf rows) (r .codes) × (r .total ≡ total (plain d) sums rows (r .codes)))
+  complete-cells = completes.complete-iff (plain d) (plain-laws d) sums rows (folding.coded sums d rows t)
+
+  -- each once, by the lattice order of their sets, then by codes.
+  pub complete-order : Rising listed-before (complete (plain d) sums rows)
+  complete-order = completes.complete-rising sums d rows t
+
+  -- The base rows rise strictly by codes, have just the codes of the table, and each has the sum and count of the table's rows with its codes.
+  pub base-order : Rising earlier (codesOf based)
+  base-order = folding.folded-rising sums d rows t
+
+  pub base-codes : (x : List ℕ) → (x ∈ codesOf based) ↔ (x ∈ codesOf rows)
+  base-codes = folding.folded-in sums d rows t
+
+  pub base-totals : (r : Row Total) → r ∈ based → r .total ≡ totalAt sums rows (r .codes)
+  base-totals = folding.folded-total sums d rows t
+
+  pub base-rows : Base (plain d) (codesOf based)
+  base-rows = folding.folded-base sums d rows t
+
+  -- Any condensed cube of the base rows, ours too, expands to the complete cube of the table.
+  pub any-expands : {es : List (Entry Total)} → Condensed (plain d) sums based es → expansion (plain d) sums es ≡ complete (plain d) sums rows
+  any-expands z = expansions.expansion-complete (plain d) (plain-laws d) sums based base-rows z ∙ folding.complete-folded sums d rows t (plain d) sums-add
+
+  pub ours-expands : expansion (plain d) sums (ours (plain d) sums based) ≡ complete (plain d) sums rows
+  ours-expands = any-expands (our.ours-condensed (plain d) (plain-laws d) sums sums-add based base-rows)
+
+-- ---- Demands 2 and 3, of base rows
+
+module _ (d : ℕ) (rows : List (Row Total)) (b : Base (plain d) (codesOf rows)) where
+  -- our entries
+  abbrev entries : List (Entry Total)
+  entries = ours (plain d) sums rows
+
+  -- Our normal cells are those in which two or more base rows fall: a row's cell of a set is one just if the row is not single on it.
+  pub normal-cells : (c : List ℕ) → (c ∈ normals (plain d) (codesOf rows)) ↔ (2 ≤ length (within (plain d) (codesOf rows) c))
+  normal-cells = normal.normals-iff (plain d) (plain-laws d) (codesOf rows) b
+
+  pub not-single : {s : ℕ} {x : List ℕ} → s ∈ sets d → x ∈ codesOf rows → leb 2 (length (within (plain d) (codesOf rows) (cell s x))) ≡ not (single (plain d) (codesOf rows) s x)
+  not-single = normal.shared-single (plain d) (plain-laws d) (codesOf rows) b
+
+  -- Ours is a condensed cube of the base rows.
+  pub ours-condensed : Condensed (plain d) sums rows entries
+  ours-condensed = our.ours-condensed (plain d) (plain-laws d) sums sums-add rows b
+
+  -- A question gets 'no record' just if no base row falls in the cell; otherwise the cell's sum and count, and the number of an entry that stands for it,
+  pub no-record-iff : (c : List ℕ) → (lookup (plain d) c entries ≡ no-record) ↔ (Exists (plain d) (codesOf rows) c → ⊥)
+  no-record-iff = questions.lookup-none-iff (plain d) sums rows ours-condensed
+
+  pub answer : (c : List ℕ) → Exists (plain d) (codesOf rows) c
+      → (n : ℕ) × (e : Entry Total) × (getElem? entries n ≡ just e) × (c ∈ stands (plain d) e) × (lookup (plain d) c entries ≡ found n (total (plain d) sums rows c))
+  answer = questions.lookup-found (plain d) sums rows ours-condensed
+
+  -- and no other entry does.
+  pub one-entry : (c : List ℕ) {e f : Entry Total} (m n : ℕ) → getElem? entries m ≡ just e → getElem? entries n ≡ just f
+      → c ∈ stands (plain d) e → c ∈ stands (plain d) f → m ≡ n
+  one-entry c = questions.one-entry (plain d) (plain-laws d) sums sums-add rows b c
+
+  -- Every condensed cube of the base rows has at least as many entries as ours, and as many exactly when its entries lie at the cells of ours, one at each.
+  pub fewest-entries : {es : List (Entry Total)} → Condensed (plain d) sums rows es → length entries ≤ length es
+  fewest-entries = fewest.fewest-entries (plain d) (plain-laws d) sums rows b
+
+  pub as-few : {es : List (Entry Total)} → Condensed (plain d) sums rows es
+      → (length es ≡ length entries) ↔ List·Permᴰ (map (own (plain d)) es) (map (own (plain d)) entries)
+  as-few = fewest.fewest-same (plain d) (plain-laws d) sums rows b
+
+-- ---- Demand 3, of our list of a row: x are its codes, xs those of all base rows
+
+module _ (d : ℕ) (xs : List (List ℕ)) (x : List ℕ) where
+  -- our list
+  abbrev list : List ℕ
+  list = listed (plain d) xs x
+
+  -- A row single on a set is single on every set that holds it.
+  pub single-upwards : (s t : ℕ) → Coded d x → holds d s t ≡ true → single (plain d) xs t x ≡ true → single (plain d) xs s x ≡ true
+  single-upwards s t = singles.single-up (plain d) (plain-laws d) xs s t x
+
+  -- Our list has just the smallest sets, other than the full set, on which the row is single.
+  pub smallest-sets : (s : ℕ) → (s ∈ list) ↔ ((s ∈ proper (plain d)) × (single (plain d) xs s x ≡ true)
+      × ((t : ℕ) → t ∈ proper (plain d) → single (plain d) xs t x ≡ true → holds d s t ≡ true → t ≡ s))
+  smallest-sets = smallests.listed-iff (plain d) (plain-laws d) xs x
+
+  -- Any list of sets that stands for the same cells has at least as many sets.
+  pub shortest-list : Coded d x → (l : List ℕ) → ((s : ℕ) → s ∈ l → s ∈ sets d)
+      → ((c : List ℕ) → (c ∈ reach (plain d) x list) ↔ (c ∈ reach (plain d) x l)) → length list ≤ length l
+  shortest-list = reaches.shortest-list (plain d) (plain-laws d) xs x
+
+  -- Up to 8 dimensions it has at most 70 sets.
+  pub at-most-70 : d ≤ 8 → length list ≤ 70
+  at-most-70 h = antichains.listed-short d h xs x

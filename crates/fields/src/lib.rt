@@ -1,0 +1,171 @@
+// The fields of the two files: words, sums, readings, the opening bytes and the check word, read from and written to lent bytes.
+// A writer writes over the front of what it is lent and returns how much it wrote.
+ghost use mathlib.Core.Path.{_≡_};
+ghost use Prim.Native.Nat.{_+_, _^_, _≤_, _<_};
+ghost use lib.ListN.{length, take};
+ghost use lib.Signed.{mag};
+ghost use Rattle.fields.specs.Words.{wordAt, wordBytes, wordsBytes};
+ghost use Rattle.fields.specs.Twos.{signedOf, bitsOf, sumAt, sumBytes, readingAt, readingBytes};
+ghost use Rattle.fields.specs.Opening.{startsWith};
+ghost use Rattle.fields.specs.Check.{checkOf};
+ghost use Rattle.fields.specs.Written.{writtenAt, Wrote};
+
+// A byte as a word.
+fn wide(x: u8) -> u32
+    ensures { λ r. ⌜ (r ≡ x) × (r < 256) ⌝ }
+{
+    x as u32
+}
+
+// The 32-bit word at a byte offset.
+pub fn word_at(s: &[u8], at: usize) -> u32
+    requires { ⌜ at + 4 ≤ length (now s) ⌝ }
+    ensures { λ r. ⌜ r ≡ wordAt (now (s .entry)) at ⌝ }
+{
+    wide(s[at]) + 256 * wide(s[at + 1]) + 65536 * wide(s[at + 2]) + 16777216 * wide(s[at + 3])
+}
+
+// Writes a word over the front of out.
+pub fn put_word(out: &mut [u8], w: u32) -> usize
+    requires { ⌜ 4 ≤ length (now out) ⌝ }
+    ensures { λ r. ⌜ Wrote (wordBytes w) (now (out .entry)) (now (out .exit)) r ⌝ }
+{
+    out[0] = (w % 256) as u8;
+    out[1] = (w / 256 % 256) as u8;
+    out[2] = (w / 256 / 256 % 256) as u8;
+    out[3] = (w / 256 / 256 / 256 % 256) as u8;
+    4
+}
+
+// Writes the words ws over the front of out.
+pub fn put_words(out: &mut [u8], ws: &[u32]) -> usize
+    requires { ⌜ length (wordsBytes (now ws)) ≤ length (now out) ⌝ }
+    ensures { λ r. ⌜ Wrote (wordsBytes (now (ws .entry))) (now (out .entry)) (now (out .exit)) r ⌝ }
+{
+    let mut at = 0;
+    let mut i = 0;
+    while i < ws.len() {
+        at += put_word(&mut out[at..], ws[i]);
+        i += 1;
+    }
+    at
+}
+
+// The integer that 64 bits stand for in two's complement.
+fn signed(n: u64) -> i64
+    ensures { λ r. ⌜ r ≡ signedOf 64 n ⌝ }
+{
+    if n < 0x8000_0000_0000_0000 {
+        n as i64
+    } else {
+        -1 - ((0xffff_ffff_ffff_ffff - n) as i64)
+    }
+}
+
+// The 64 bits of an integer in two's complement.
+fn unsigned(z: i64) -> u64
+    ensures { λ r. ⌜ r ≡ bitsOf 64 z ⌝ }
+{
+    if z < 0 {
+        0xffff_ffff_ffff_ffff - ((-1 - z) as u64)
+    } else {
+        z as u64
+    }
+}
+
+// The sum at a byte offset.
+pub fn sum_at(s: &[u8], at: usize) -> i64
+    requires { ⌜ at + 8 ≤ length (now s) ⌝ }
+    ensures { λ r. ⌜ r ≡ sumAt (now (s .entry)) at ⌝ }
+{
+    let low = word_at(s, at) as u64;
+    let high = word_at(s, at + 4) as u64;
+    signed(low + 0x1_0000_0000 * high)
+}
+
+// Writes a sum over the front of out.
+pub fn put_sum(out: &mut [u8], sum: i64) -> usize
+    requires { ⌜ 8 ≤ length (now out) ⌝ }
+    ensures { λ r. ⌜ Wrote (sumBytes sum) (now (out .entry)) (now (out .exit)) r ⌝ }
+{
+    let n = unsigned(sum);
+    let at = put_word(out, (n % 0x1_0000_0000) as u32);
+    at + put_word(&mut out[at..], (n / 0x1_0000_0000) as u32)
+}
+
+// The reading at a byte offset.
+pub fn reading_at(s: &[u8], at: usize) -> i64
+    requires { ⌜ at + 4 ≤ length (now s) ⌝ }
+    ensures { λ r. ⌜ r ≡ readingAt (now (s .entry)) at ⌝ }
+{
+    let w = word_at(s, at) as u64;
+    if w < 0x8000_0000 {
+        signed(w)
+    } else {
+        signed(w + 0xffff_ffff_0000_0000)
+    }
+}
+
+// Writes a reading, which must fit 32 bits, over the front of out.
+pub fn put_reading(out: &mut [u8], reading: i64) -> usize
+    requires { ⌜ 4 ≤ length (now out) ⌝ }
+    requires { ⌜ mag reading < 2 ^ 31 ⌝ }
+    ensures { λ r. ⌜ Wrote (readingBytes reading) (now (out .entry)) (now (out .exit)) r ⌝ }
+{
+    let n = unsigned(reading);
+    put_word(out, (n % 0x1_0000_0000) as u32)
+}
+
+// Whether s begins with the opening bytes.
+pub fn opening_is(s: &[u8], opening: &[u8; 4]) -> bool
+    ensures { λ r. ⌜ r ≡ startsWith (now (s .entry)) (now (opening .entry)) ⌝ }
+{
+    let bytes: &[u8] = opening;
+    let mut i = 0;
+    while i < bytes.len() {
+        if s.len() <= i {
+            return false;
+        }
+        if s[i] != bytes[i] {
+            return false;
+        }
+        i += 1;
+    }
+    true
+}
+
+// Writes the opening bytes over the front of out.
+pub fn put_opening(out: &mut [u8], opening: &[u8; 4]) -> usize
+    requires { ⌜ 4 ≤ length (now out) ⌝ }
+    ensures { λ r. ⌜ Wrote (now (opening .entry)) (now (out .entry)) (now (out .exit)) r ⌝ }
+{
+    let bytes: &[u8] = opening;
+    let mut i = 0;
+    while i < bytes.len() {
+        out[i] = bytes[i];
+        i += 1;
+    }
+    i
+}
+
+// The check word of the bytes s: the sum of their words, modulo 2^32.
+pub fn check_word(s: &[u8]) -> u32
+    ensures { λ r. ⌜ r ≡ checkOf (now (s .entry)) ⌝ }
+{
+    let mut sum: u32 = 0;
+    let mut at = 0;
+    while 4 <= s.len() - at {
+        sum = std::num::wrapping_add_u32(sum, word_at(s, at));
+        at += 4;
+    }
+    sum
+}
+
+// Writes the check word of the first at bytes of out straight after them.
+pub fn put_check(out: &mut [u8], at: usize) -> usize
+    requires { ⌜ at + 4 ≤ length (now out) ⌝ }
+    ensures { λ r. ⌜ (r ≡ at + 4) × (now (out .exit) ≡ writtenAt at (wordBytes (checkOf (take at (now (out .entry))))) (now (out .entry))) ⌝ }
+{
+    let check = check_word(&out[..at]);
+    at + put_word(&mut out[at..], check)
+}
