@@ -1,19 +1,18 @@
 -- The cells of a node, the rows that fall in a cell, and the cell's total.
-use mathlib.Core.Path.{_≡_, refl, sym, _∙_, ap}
-use mathlib.Core.Logic.{_≢_, inl, inr, _↔_}
+use mathlib.Core.Path.{_≡_, sym, _∙_}
+use mathlib.Core.Logic.{_≢_}
 use mathlib.Core.Bool.{true, false}
 use mathlib.Core.List.{List, [], _∷_, map, Memᴰ·cast, Memᴰ·map, Memᴰ·of-map}
 use Prim.Native.Nat.{ℕ, _≤_}
 use lib.ListN.{length}
-use Rattle.lists.specs.Lists.{_∈_, keep}
+use Rattle.lists.specs.Lists.{_∈_}
 use Rattle.lists.specs.Order.{Rising, earlier}
-use Rattle.lists.proofs.Members.{keep-in, keep-of, keep-map}
+use Rattle.lists.proofs.Members.{keep-in, keep-of}
 use Rattle.lists.proofs.Pairwise.{keep-one, pairwise-imp}
 use Rattle.lists.proofs.Pigeonhole.{one-long, two-long}
 use Rattle.lists.proofs.Order.{by-codes, sort-in, sort-of, sort-rising, rising-unique}
-use Rattle.cube.specs.Measure.{Measure, Row, codesOf}
 use Rattle.cube.specs.Lattice.{Lattice, Laws}
-use Rattle.cube.specs.Cube.{within, Exists, cuboid, total}
+use Rattle.cube.specs.Cube.{within, Exists, cuboid}
 use Rattle.cube.specs.Condensed.{single, Base}
 use Rattle.cube.proofs.Singles.{single-other, single-of, single-not}
 

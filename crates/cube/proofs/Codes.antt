@@ -57,6 +57,20 @@ agree-cell s (a ∷ x) (b ∷ y) e =
     let r = both (alike (s % 2) a b) (agree (s / 2) x y) e in
     ap₂ _∷_ (shown-alike (s % 2) a b (r .0)) (agree-cell (s / 2) x y (r .1))
 
+-- codes shown the same are alike, and rows of one cell agree
+alike-shown : (n a b : ℕ) → shown n a ≡ shown n b → alike n a b ≡ true
+alike-shown zero a b e = refl
+alike-shown (suc n) a b e = eq-eqb a b e
+
+pub cell-agree : (s : ℕ) (x y : List ℕ) → cell s x ≡ cell s y → agree s x y ≡ true
+cell-agree s [] [] e = refl
+cell-agree s [] (b ∷ y) e = cc
+cell-agree s (a ∷ x) [] e = cc
+cell-agree s (a ∷ x) (b ∷ y) e =
+    let p : shown (s % 2) a ≡ shown (s % 2) b = cc in
+    let q : cell (s / 2) x ≡ cell (s / 2) y = cc in
+    both-of (alike-shown (s % 2) a b p) (cell-agree (s / 2) x y q)
+
 -- a cell has one set
 bit-shown : (n a : ℕ) → a < ALL → n < 2 → bit (eqb (shown n a) ALL) ≡ n
 bit-shown zero a h p = refl

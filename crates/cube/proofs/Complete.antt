@@ -1,16 +1,15 @@
 -- The complete cube has each cell that exists, once, with its total; the plain one goes by lattice order, then by codes.
 use mathlib.Core.Path.{_≡_, refl, sym, _∙_, ap}
 use mathlib.Core.Logic.{_↔_}
-use mathlib.Core.Bool.{Bool, true, _&&_, _||_, or-true}
-use mathlib.Core.List.{List, _∷_, map, flatMap, Memᴰ·cast, Memᴰ·map, Memᴰ·of-map}
+use mathlib.Core.Bool.{true}
+use mathlib.Core.List.{List, _∷_, Memᴰ·cast, Memᴰ·map, Memᴰ·of-map}
 use Prim.Native.Nat.{ℕ}
-use lib.Dec.{eqb}
-use borrow.Author.Tests.{eq-eqb, lt-ltb}
 use Rattle.lists.specs.Lists.{_∈_}
 use Rattle.lists.specs.Order.{Rising, earlier}
 use Rattle.lists.proofs.Tests.{cases}
 use Rattle.lists.proofs.Members.{flat-in, flat-of}
 use Rattle.lists.proofs.Pairwise.{pairwise-flat, pairwise-map, pairwise-imp}
+use Rattle.lists.proofs.Order.{earlier-lt, earlier-eq}
 use Rattle.lattice.specs.Sets.{size, before, sets}
 use Rattle.lattice.proofs.Sets.{before-is, sets-in, sets-rising}
 use Rattle.cube.specs.Measure.{Measure, Row, codesOf}
@@ -53,13 +52,20 @@ module _ {A : Type 0} (M : Measure A) (d : ℕ) (rows : List (Row A)) (t : Table
       rw (x .2) (set-cell d s (x .0) (coded M d rows t (x .0) (x .1)) (sets-in d h))
 
   -- two cells of one set go by their codes, others by their sets
-  one-set : (p q : Row A) → set-of (p .codes) ≡ set-of (q .codes) → earlier (p .codes) (q .codes) ≡ true → listed-before p q ≡ true
-  one-set p q e h = rw (e, eq-eqb (size (set-of (q .codes))) (size (set-of (q .codes))) refl, eq-eqb (set-of (q .codes)) (set-of (q .codes)) refl, h, or-true, or-true)
+  module _ (p q : Row A) where
+    abbrev s : ℕ
+    s = set-of (p .codes)
 
-  two-sets : (p q : Row A) → before (set-of (p .codes)) (set-of (q .codes)) ≡ true → listed-before p q ≡ true
-  two-sets p q h = cases (before-is (set-of (p .codes)) (set-of (q .codes)) h)
-      (λ l. rw (lt-ltb (size (set-of (p .codes))) (size (set-of (q .codes))) l))
-      (λ l. rw (eq-eqb (size (set-of (p .codes))) (size (set-of (q .codes))) (l .0), lt-ltb (set-of (p .codes)) (set-of (q .codes)) (l .1), or-true))
+    abbrev u : ℕ
+    u = set-of (q .codes)
+
+    one-set : s ≡ u → earlier (p .codes) (q .codes) ≡ true → listed-before p q ≡ true
+    one-set e h = earlier-eq (size s) (size u) (s ∷ p .codes) (u ∷ q .codes) (ap size e) (earlier-eq s u (p .codes) (q .codes) e h)
+
+    two-sets : before s u ≡ true → listed-before p q ≡ true
+    two-sets h = cases (before-is s u h)
+        (λ l. earlier-lt (size s) (size u) (s ∷ p .codes) (u ∷ q .codes) l)
+        (λ l. earlier-eq (size s) (size u) (s ∷ p .codes) (u ∷ q .codes) (l .0) (earlier-lt s u (p .codes) (q .codes) (l .1)))
 
   grouped-rising : (s : ℕ) → s ∈ sets d → Rising listed-before (grouped (plain d) M rows s)
   grouped-rising s h = pairwise-imp (λ p q. earlier (p .codes) (q .codes) ≡ true) (λ p q. listed-before p q ≡ true) (grouped (plain d) M rows s)

@@ -1,5 +1,5 @@
 -- Expanded, any condensed cube is the complete cube: cells and totals, as one list.
-use mathlib.Core.Path.{_≡_, refl, sym, _∙_, ap}
+use mathlib.Core.Path.{_≡_, _∙_, ap}
 use mathlib.Core.List.{List, map, flatMap, Memᴰ·cast}
 use Prim.Native.Nat.{ℕ}
 use lib.Dec.{eqb}
@@ -11,7 +11,7 @@ use Rattle.lists.proofs.Order.{by-codes, sort-in, sort-of, sort-rising, rising-
 use Rattle.cube.specs.Measure.{Measure, Row, codesOf}
 use Rattle.cube.specs.Lattice.{Lattice, Laws}
 use Rattle.cube.specs.Cube.{Exists, cuboid, total, filled, grouped, complete}
-use Rattle.cube.specs.Condensed.{Entry, amount, lookup, Base, stands, Condensed, answered, expand, expansion}
+use Rattle.cube.specs.Condensed.{Entry, amount, Base, stands, Condensed, answered, expand, expansion}
 use Rattle.cube.proofs.Cells.{cuboid-in, cuboid-of, cuboid-rising, cell-exists}
 use Rattle.cube.proofs.Questions.{lookup-found}
 

@@ -1,13 +1,12 @@
 -- Our condensed cube: it is one, no two of its entries stand for one cell, none has fewer entries, and those with as few lie at the same cells
 -- (theorem 2.1 of source document 004).
-use mathlib.Core.Path.{_≡_, refl, sym, _∙_, ap, subst}
-use mathlib.Core.Logic.{_≢_, _⊎_, inl, inr, _↔_}
-use mathlib.Core.Bool.{true}
-use mathlib.Core.List.{List, [], _∷_, _++_, map, foldl, List·Memᴰ·head, List·Memᴰ·not-nil, List·Memᴰ·append-cases, List·Memᴰ·eq-of-singleton, Memᴰ·cast, Memᴰ·append-left, Memᴰ·append-right, Memᴰ·map, Memᴰ·of-map, List·Permᴰ}
+use mathlib.Core.Path.{_≡_, refl, sym, _∙_, ap}
+use mathlib.Core.Logic.{_≢_, _↔_}
+use mathlib.Core.List.{List, [], _∷_, _++_, map, List·Memᴰ·head, List·Memᴰ·not-nil, List·Memᴰ·append-cases, List·Memᴰ·eq-of-singleton, Memᴰ·cast, Memᴰ·map, Memᴰ·of-map, List·Permᴰ}
 use Prim.Native.Nat.{ℕ, _≤_}
 use native.Mathlib.Omega.{arith}
 use lib.ListN.{length, length-map}
-use Rattle.lists.specs.Lists.{_∈_, keep, Pairwise, Distinct}
+use Rattle.lists.specs.Lists.{_∈_, keep, Distinct}
 use Rattle.lists.proofs.Tests.{cases}
 use Rattle.lists.proofs.Members.{keep-in, keep-of, keep-map}
 use Rattle.lists.proofs.Pairwise.{pairwise-append, pairwise-imp, pairwise-map}
@@ -15,10 +14,9 @@ use Rattle.lists.proofs.Pigeonhole.{perm-length, fewest, fewest-only}
 use Rattle.cube.specs.Measure.{Measure, Adds, Row, codesOf}
 use Rattle.cube.specs.Lattice.{Lattice, Laws}
 use Rattle.cube.specs.Cube.{within, Exists, total}
-use Rattle.cube.specs.Condensed.{Entry, base, normal, carries, listed, reach, normals, Base, own, stands, Permitted, Condensed, base-entry, normal-entry, ours}
-use Rattle.cube.proofs.Smallest.{listed-in}
+use Rattle.cube.specs.Condensed.{Entry, base, normal, listed, reach, normals, Base, own, stands, Permitted, Condensed, normal-entry, ours}
 use Rattle.cube.proofs.Cells.{within-exists, single-within, single-finest}
-use Rattle.cube.proofs.Normals.{base-within, listed-within, normals-in, normals-distinct, kind}
+use Rattle.cube.proofs.Normals.{base-within, normals-in, normals-distinct}
 
 -- one row alone in a cell makes its total
 module _ (L : Lattice) {A : Type 0} (M : Measure A) (E : Adds M) (rows : List (Row A)) where

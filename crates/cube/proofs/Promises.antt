@@ -3,8 +3,8 @@ use mathlib.Core.Path.{_≡_, _∙_}
 use mathlib.Core.Logic.{_↔_}
 use mathlib.Core.Bool.{true, not}
 use mathlib.Core.Option.{some as just}
-use mathlib.Core.List.{List, map, List·Permᴰ}
-use Prim.Native.Nat.{ℕ, _≤_}
+use mathlib.Core.List.{List, [], _∷_, map, List·Permᴰ}
+use Prim.Native.Nat.{ℕ, _+_, _≤_}
 use lib.Dec.{leb}
 use lib.ListN.{length, getElem?}
 use Rattle.lists.specs.Lists.{_∈_}
@@ -58,9 +58,16 @@ module _ (d : ℕ) (rows : List (Row Total)) (t : Table d rows) where
   pub base-rows : Base (plain d) (codesOf based)
   base-rows = folding.folded-base sums d rows t
 
+  -- The cube of the base rows is the cube of the table: the same cells, each with the same sum and count.
+  pub base-total : (c : List ℕ) → total (plain d) sums based c ≡ total (plain d) sums rows c
+  base-total = folding.total-folded sums d rows t (plain d) sums-add
+
+  pub base-cube : complete (plain d) sums based ≡ complete (plain d) sums rows
+  base-cube = folding.complete-folded sums d rows t (plain d) sums-add
+
   -- Any condensed cube of the base rows, ours too, expands to the complete cube of the table.
   pub any-expands : {es : List (Entry Total)} → Condensed (plain d) sums based es → expansion (plain d) sums es ≡ complete (plain d) sums rows
-  any-expands z = expansions.expansion-complete (plain d) (plain-laws d) sums based base-rows z ∙ folding.complete-folded sums d rows t (plain d) sums-add
+  any-expands z = expansions.expansion-complete (plain d) (plain-laws d) sums based base-rows z ∙ base-cube
 
   pub ours-expands : expansion (plain d) sums (ours (plain d) sums based) ≡ complete (plain d) sums rows
   ours-expands = any-expands (our.ours-condensed (plain d) (plain-laws d) sums sums-add based base-rows)
@@ -95,6 +102,13 @@ module _ (d : ℕ) (rows : List (Row Total)) (b : Base (plain d) (codesOf rows))
   pub one-entry : (c : List ℕ) {e f : Entry Total} (m n : ℕ) → getElem? entries m ≡ just e → getElem? entries n ≡ just f
       → c ∈ stands (plain d) e → c ∈ stands (plain d) f → m ≡ n
   one-entry c = questions.one-entry (plain d) (plain-laws d) sums sums-add rows b c
+
+  -- That entry is the row's own where one base row falls in the cell, and otherwise the normal entry at the cell's place among the normal cells.
+  pub row-answers : (c : List ℕ) {r : Row Total} (n : ℕ) → getElem? rows n ≡ just r → within (plain d) (codesOf rows) c ≡ r .codes ∷ [] → lookup (plain d) c entries ≡ found n (r .total)
+  row-answers c = questions.lookup-row (plain d) (plain-laws d) sums sums-add rows b c
+
+  pub normal-answers : (c : List ℕ) (n : ℕ) → getElem? (normals (plain d) (codesOf rows)) n ≡ just c → lookup (plain d) c entries ≡ found (length rows + n) (total (plain d) sums rows c)
+  normal-answers c = questions.lookup-normal (plain d) (plain-laws d) sums sums-add rows b c
 
   -- Every condensed cube of the base rows has at least as many entries as ours, and as many exactly when its entries lie at the cells of ours, one at each.
   pub fewest-entries : {es : List (Entry Total)} → Condensed (plain d) sums rows es → length entries ≤ length es

@@ -9,7 +9,6 @@ use lib.ListN.{length, getElem?}
 use Rattle.lists.specs.Lists.{_∈_, some, Pairwise}
 use Rattle.lists.specs.Order.{same}
 use Rattle.lists.proofs.Tests.{cases, truth, some-in, some-of}
-use Rattle.lists.proofs.Members.{keep-of}
 use Rattle.lists.proofs.Order.{same-eq, same-refl}
 use Rattle.lists.proofs.Places.{at-member, at-map, at-left, at-right, pairwise-places}
 use Rattle.cube.specs.Measure.{Measure, Adds, Row, codesOf}
@@ -17,7 +16,7 @@ use Rattle.cube.specs.Lattice.{Lattice, Laws}
 use Rattle.cube.specs.Cube.{within, Exists, total}
 use Rattle.cube.specs.Condensed.{Entry, carries, Answer, no-record, found, lookup, normals, Base, stands, Condensed, base-entry, normal-entry, ours}
 use Rattle.cube.proofs.Normals.{base-reach}
-use Rattle.cube.proofs.Ours.{Apart, ours-condensed, ours-apart}
+use Rattle.cube.proofs.Ours.{Apart, ours-apart}
 
 abbrev has-record : {A : Type 0} → Answer A → Bool
 has-record no-record = false
@@ -77,16 +76,12 @@ module _ (L : Lattice) (W : Laws L) {A : Type 0} (M : Measure A) (E : Adds M) (r
       (at-left (map (base-entry L M rows) rows) (map (normal-entry L M rows) (normals L (codesOf rows))) i (at-map (base-entry L M rows) rows i h))
       (base-reach L W (codesOf rows) b c w)
 
-  -- where two or more do, the normal entry at its place among the normal cells;
+  -- where two or more do, the normal entry at its place among the normal cells.
   pub lookup-normal : (j : ℕ) → getElem? (normals L (codesOf rows)) j ≡ just c → lookup L c (ours L M rows) ≡ found (length rows + j) (total L M rows c)
   unfolding ours
   lookup-normal j h = lookup-at L c (ours L M rows) (length rows + j) (ours-apart L W M E rows b)
       (at-right (base-entry L M rows) rows (map (normal-entry L M rows) (normals L (codesOf rows))) j ∙ at-map (normal-entry L M rows) (normals L (codesOf rows)) j h)
       (List·Memᴰ·head refl)
-
-  -- and where none does, there is no record.
-  pub lookup-nothing : within L (codesOf rows) c ≡ [] → lookup L c (ours L M rows) ≡ no-record
-  lookup-nothing w = lookup-none L M rows (ours-condensed L W M E rows b) c (λ h. List·Memᴰ·not-nil (rw w at (keep-of (L .falls c) (h .1) (h .2))))
 
   -- No other entry of ours stands for the cell.
   pub one-entry : {e f : Entry A} (m n : ℕ) → getElem? (ours L M rows) m ≡ just e → getElem? (ours L M rows) n ≡ just f → c ∈ stands L e → c ∈ stands L f → m ≡ n

@@ -15,7 +15,7 @@ use Rattle.lists.proofs.Tests.{cases, both, both-of}
 use Rattle.lists.proofs.Members.{keep-in, keep-of, below-in, below-of}
 use Rattle.lists.proofs.Pairwise.{pairwise-keep}
 use Rattle.lists.proofs.Order.{earlier-cons, by-codes, sort-in, sort-of, sort-rising, rising-unique}
-use Rattle.lattice.specs.Sets.{size, rank, before, full, sets, holds}
+use Rattle.lattice.specs.Sets.{rank, before, full, sets, holds}
 
 -- ---- lattice order
 

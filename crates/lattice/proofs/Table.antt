@@ -8,11 +8,12 @@ use lib.Dec.{eqb, ltb}
 use lib.Count.{ones, onesIn}
 use lib.ListN.{length, getD}
 use borrow.Author.Tests.{eqb-true, ltb-true}
-use Rattle.lists.specs.Lists.{_∈_, every, some, below}
+use Rattle.lists.specs.Lists.{every, some, below}
 use Rattle.lists.specs.Order.{Rising}
 use Rattle.lists.proofs.Tests.{cases, both, every-in, some-in}
 use Rattle.lists.proofs.Members.{below-of, in-at}
-use Rattle.lists.proofs.Order.{rising-unique, rising-at}
+use Rattle.lists.proofs.Places.{pairwise-at}
+use Rattle.lists.proofs.Order.{rising-unique}
 use Rattle.lattice.specs.Sets.{before, sets}
 use Rattle.lattice.proofs.Sets.{by-lattice, sets-in, sets-of, sets-rising}
 
@@ -52,7 +53,7 @@ sets-length = refl
 
 -- the set at an earlier place comes before that at a later place, and each set has a place
 pub set-rises : (k j : ℕ) → k < j → j < 256 → before (getD (sets 8) k 0) (getD (sets 8) j 0) ≡ true
-set-rises k j h l = rising-at before 0 (sets 8) k j (sets-rising 8) h (rw sets-length l)
+set-rises k j h l = pairwise-at 0 (λ s t. before s t ≡ true) (sets 8) k j (sets-rising 8) h (rw sets-length l)
 
 pub set-place : (s : ℕ) → s < 256 → (k : ℕ) × (k < 256) × (getD (sets 8) k 0 ≡ s)
 set-place s h = let r = in-at 0 (sets-of 8 h) in (r .0, rw sets-length at (r .1), r .2)

@@ -1,17 +1,15 @@
 -- Laws of the order of lists of numbers, and of lists that rise strictly.
 use mathlib.Core.Path.{_≡_, refl, sym, _∙_, ap₂}
 use mathlib.Core.Logic.{_≢_, _⊎_, inl, inr}
-use mathlib.Core.Bool.{Bool, true, false, _&&_, _||_, false≢true, or-true}
+use mathlib.Core.Bool.{Bool, true, false, _&&_, false≢true, or-true}
 use mathlib.Core.List.{List, [], _∷_, List·Memᴰ·head, List·Memᴰ·tail, List·Memᴰ·not-nil, List·Memᴰ·cases-cons}
-use Prim.Native.Nat.{ℕ, zero, suc, _<_}
+use Prim.Native.Nat.{ℕ, _<_}
 use native.Mathlib.Omega.{arith}
 use lib.Dec.{eqb, ltb}
-use lib.ListN.{length, getD}
-use borrow.Author.Tests.{ltb-true, ltb-false, eqb-true, lt-ltb, eq-eqb}
+use borrow.Author.Tests.{ltb-true, ltb-false, eqb-true, lt-ltb, le-ltb, eq-eqb, ne-eqb}
 use Rattle.lists.specs.Lists.{_∈_, Distinct}
 use Rattle.lists.specs.Order.{earlier, same, Strict, Rising, place, insert, sort}
 use Rattle.lists.proofs.Tests.{cases, both, both-of, either, truth}
-use Rattle.lists.proofs.Members.{at-in}
 use Rattle.lists.proofs.Pairwise.{pairwise-imp}
 
 pub same-eq : (x y : List ℕ) → same x y ≡ true → x ≡ y
@@ -29,11 +27,18 @@ earlier-cons a b x y e = cases (either (ltb a b) (eqb a b && earlier x y) e)
     (λ h. inl (ltb-true a b h))
     (λ h. let r = both (eqb a b) (earlier x y) h in inr (eqb-true a b (r .0), r .1))
 
-earlier-lt : (a b : ℕ) (x y : List ℕ) → a < b → earlier (a ∷ x) (b ∷ y) ≡ true
+pub earlier-lt : (a b : ℕ) (x y : List ℕ) → a < b → earlier (a ∷ x) (b ∷ y) ≡ true
 earlier-lt a b x y h = rw (lt-ltb a b h)
 
-earlier-eq : (a b : ℕ) (x y : List ℕ) → a ≡ b → earlier x y ≡ true → earlier (a ∷ x) (b ∷ y) ≡ true
+pub earlier-eq : (a b : ℕ) (x y : List ℕ) → a ≡ b → earlier x y ≡ true → earlier (a ∷ x) (b ∷ y) ≡ true
 earlier-eq a b x y h e = rw (eq-eqb a b h, e, or-true)
+
+-- the same first number decides nothing, a lower one at once
+pub earlier-skip : (a b : ℕ) (x y : List ℕ) → a ≡ b → earlier (a ∷ x) (b ∷ y) ≡ earlier x y
+earlier-skip a b x y e = rw (le-ltb a b (omega arith), eq-eqb a b e)
+
+pub earlier-gt : (a b : ℕ) (x y : List ℕ) → b < a → earlier (a ∷ x) (b ∷ y) ≡ false
+earlier-gt a b x y h = rw (le-ltb a b (omega arith), ne-eqb a b (omega arith))
 
 earlier-rest : (a b : ℕ) (x y : List ℕ) → a ≡ b → earlier (a ∷ x) (b ∷ y) ≡ false → earlier x y ≡ false
 earlier-rest a b x y q e = cases (truth (earlier x y)) (λ t. absurd (false≢true (sym e ∙ earlier-eq a b x y q t))) (λ t. t)
@@ -65,6 +70,13 @@ earlier-total (a ∷ x) (b ∷ y) e f = cases (truth (ltb a b))
 
 pub by-codes : Strict earlier
 by-codes = record { trans = earlier-trans; total = earlier-total; irrefl = earlier-irrefl }
+
+module _ {A : Type 0} {less : A → A → Bool} (o : Strict less) where
+  pub strict-self : (x : A) → less x x ≡ false
+  strict-self x = cases (truth (less x x)) (λ e. absurd (o .irrefl x e)) (λ e. e)
+
+  pub strict-turned : (x y : A) → less x y ≡ true → less y x ≡ false
+  strict-turned x y e = cases (truth (less y x)) (λ f. absurd (o .irrefl x (o .trans x y x e f))) (λ f. f)
 
 -- ---- lists that rise strictly
 
@@ -124,13 +136,6 @@ module _ {A : Type 0} (less : A → A → Bool) where
     -- no element of a rising list occurs twice
     pub rising-distinct : (l : List A) → Rising less l → Distinct l
     rising-distinct l r = pairwise-imp (λ x y. less x y ≡ true) _≢_ l (λ x y m n p e. o .irrefl y (rw e at p)) r
-
-  -- the member at an earlier place comes before that at a later one
-  pub rising-at : (a : A) (l : List A) (k j : ℕ) → Rising less l → k < j → j < length l → less (getD l k a) (getD l j a) ≡ true
-  rising-at a [] k j r h m = absurd (omega arith)
-  rising-at a (x ∷ l) k zero r h m = absurd (omega arith)
-  rising-at a (x ∷ l) zero (suc j) r h m = r .0 (getD l j a) (at-in a l j (omega arith))
-  rising-at a (x ∷ l) (suc k) (suc j) r h m = rising-at a l k j (r .1) (omega arith) (omega arith)
 
   pub sort-in : {z : A} (l : List A) → z ∈ sort less l → z ∈ l
   sort-in [] m = m

@@ -1,13 +1,17 @@
 -- The member at a place of a list.
-use mathlib.Core.Path.{_≡_, refl, ap}
-use mathlib.Core.Logic.{_⊎_, inl, inr}
+use mathlib.Core.Path.{_≡_, refl, sym, ap}
+use mathlib.Core.Logic.{_≢_, _⊎_, inl, inr}
 use mathlib.Core.Option.{some as just, Option·none-ne-some}
 use mathlib.Core.List.{List, [], _∷_, _++_, map, List·Memᴰ·head, List·Memᴰ·tail}
-use Prim.Native.Nat.{ℕ, _+_, zero, suc}
+use Prim.Native.Nat.{ℕ, _+_, _<_, zero, suc}
 use native.Mathlib.Nat.{zero-add, suc-add}
-use lib.ListN.{length, getElem?}
-use Rattle.lists.specs.Lists.{_∈_, Pairwise}
-use Rattle.lists.proofs.Tests.{cases}
+use native.Mathlib.Omega.{arith}
+use lib.Dec.{ltb}
+use lib.ListN.{length, getD, getElem?}
+use borrow.Author.Tests.{ltb-true, ltb-false}
+use Rattle.lists.specs.Lists.{_∈_, Pairwise, Distinct}
+use Rattle.lists.proofs.Tests.{cases, truth}
+use Rattle.lists.proofs.Members.{at-in}
 
 pub at-member : {A : Type 0} {x : A} (l : List A) (n : ℕ) → getElem? l n ≡ just x → x ∈ l
 at-member {x = x} [] n h = absurd (Option·none-ne-some x h)
@@ -41,3 +45,17 @@ pairwise-places R (z ∷ l) zero zero p h k = inl refl
 pairwise-places R {x} {y} (z ∷ l) zero (suc n) p h k = let q : z ≡ x = cc in inr (inl (rw (← q) (p .0 y (at-member l n k))))
 pairwise-places R {x} {y} (z ∷ l) (suc m) zero p h k = let q : z ≡ y = cc in inr (inr (rw (← q) (p .0 x (at-member l m h))))
 pairwise-places R (z ∷ l) (suc m) (suc n) p h k = cases (pairwise-places R l m n (p .1) h k) (λ e. inl (ap suc e)) inr
+
+-- the same of `getD`, whose value beyond the end is a
+module _ {A : Type 0} (a : A) where
+  -- the member at an earlier place is in the relation to that at a later one
+  pub pairwise-at : (R : A → A → Type 0) (l : List A) (k j : ℕ) → Pairwise R l → k < j → j < length l → R (getD l k a) (getD l j a)
+  pairwise-at R [] k j p h m = absurd (omega arith)
+  pairwise-at R (x ∷ l) k zero p h m = absurd (omega arith)
+  pairwise-at R (x ∷ l) zero (suc j) p h m = p .0 (getD l j a) (at-in a l j (omega arith))
+  pairwise-at R (x ∷ l) (suc k) (suc j) p h m = pairwise-at R l k j (p .1) (omega arith) (omega arith)
+
+  pub distinct-at : (l : List A) (k j : ℕ) → Distinct l → k < length l → j < length l → k ≢ j → getD l k a ≢ getD l j a
+  distinct-at l k j p h m d = cases (truth (ltb k j))
+      (λ e. pairwise-at _≢_ l k j p (ltb-true k j e) m)
+      (λ e. let g : j < k = omega (arith, ltb-false k j e) in λ q. pairwise-at _≢_ l j k p g h (sym q))

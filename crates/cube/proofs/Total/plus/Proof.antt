@@ -1,5 +1,4 @@
 -- `cube::Total::plus` meets its contract: within the bounds that it requires, both sums fit.
-use native.Mathlib.Omega.{arith}
 use borrow.Author.Needs.{needs}
 use lib.IntN.{_+ℤ_}
 use mir.Syntax.{w64}

@@ -1,0 +1,5 @@
+-- Laws of rows in flat slices, and of their order under a set.
+pub mod Rows
+pub mod Agree
+pub mod Compared
+pub mod Singles

@@ -1,0 +1,86 @@
+// Rows of codes in a flat slice: row i of `dims` codes starts at i * dims.
+ghost use mathlib.Core.Path.{_≡_};
+ghost use Prim.Native.Nat.{_*_, _<_};
+ghost use lib.ListN.{length};
+ghost use Rattle.lists.specs.Lists.{Distinct};
+ghost use Rattle.cube.specs.Codes.{agree, plain};
+ghost use Rattle.cube.specs.Condensed.{single};
+ghost use Rattle.rows.specs.Rows.{cut, rowAt};
+ghost use Rattle.rows.specs.Compare.{compared};
+
+// The codes of a row.
+pub fn row_of(codes: &[u32], rows: usize, dims: usize, row: usize) -> &[u32]
+    requires { ⌜ (rows * dims ≡ length (now codes)) × (row < rows) ⌝ }
+    ensures { λ r. ⌜ (now r ≡ rowAt (cut dims rows (now (codes .entry))) row) × (length (now r) ≡ dims) ⌝ }
+{
+    let from = row * dims;
+    let to = from + dims;
+    &codes[from..to]
+}
+
+// Whether two rows agree on a set.
+pub fn agrees(mine: &[u32], other: &[u32], set: u32) -> bool
+    requires { ⌜ length (now mine) ≡ length (now other) ⌝ }
+    ensures { λ r. ⌜ r ≡ agree set (now (mine .entry)) (now (other .entry)) ⌝ }
+{
+    let mut rest = set;
+    for d in 0..mine.len() {
+        if rest % 2 == 1 && mine[d] != other[d] {
+            return false;
+        }
+        rest = rest / 2;
+    }
+    true
+}
+
+// Whether no other row agrees with `row` on a set: the first other row that agrees settles it.
+pub fn is_single(codes: &[u32], rows: usize, dims: usize, row: usize, set: u32) -> bool
+    requires { ⌜ (rows * dims ≡ length (now codes)) × (row < rows) × Distinct (cut dims rows (now codes)) ⌝ }
+    ensures { λ r. ⌜ r ≡ single (plain dims) (cut dims rows (now (codes .entry))) set (rowAt (cut dims rows (now (codes .entry))) row) ⌝ }
+{
+    let mine = row_of(codes, rows, dims, row);
+    'rows: for i in 0..rows {
+        if i == row {
+            continue;
+        }
+        let other = row_of(codes, rows, dims, i);
+        let mut rest = set;
+        for d in 0..dims {
+            if rest % 2 == 1 && mine[d] != other[d] {
+                continue 'rows;
+            }
+            rest = rest / 2;
+        }
+        return false;
+    }
+    true
+}
+
+// How two rows are ordered under a set.
+pub enum Order {
+    Before,
+    Equal,
+    After,
+}
+
+// The order of two rows under a set: the first dimension of the set at which they differ decides.
+pub fn compare(mine: &[u32], other: &[u32], set: u32) -> Order
+    requires { ⌜ length (now mine) ≡ length (now other) ⌝ }
+    ensures { λ r. ⌜ r ≡ compared set (now (mine .entry)) (now (other .entry)) ⌝ }
+{
+    let mut rest = set;
+    for d in 0..mine.len() {
+        let x = mine[d];
+        let y = other[d];
+        if rest % 2 == 1 {
+            if x < y {
+                return Order::Before;
+            }
+            if y < x {
+                return Order::After;
+            }
+        }
+        rest = rest / 2;
+    }
+    Order::Equal
+}
