@@ -116,9 +116,10 @@ pub fn put_reading(out: &mut [u8], reading: i64) -> usize
     put_word(out, (n % 0x1_0000_0000) as u32)
 }
 
-// Whether s begins with the opening bytes.
+// Whether s begins with the opening bytes, of which there are four.
 pub fn opening_is(s: &[u8], opening: &[u8; 4]) -> bool
     ensures { λ r. ⌜ r ≡ startsWith (now (s .entry)) (now (opening .entry)) ⌝ }
+    ensures { λ r. ⌜ length (now (opening .entry)) ≡ 4 ⌝ }
 {
     let bytes: &[u8] = opening;
     let mut i = 0;

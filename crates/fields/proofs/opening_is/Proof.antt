@@ -21,14 +21,14 @@ returns : tie.Need-returns Inv-loop μ-loop
 returns c =
     let l = c .before .before .loop in
     let a = c .before .before .before .before .args in
-    sym (starts-ended (a .s .now) (a .opening .now) (l .i) (search needs) (search needs)) ∙ l .inv .1
+    (sym (starts-ended (a .s .now) (a .opening .now) (l .i) (search needs) (search needs)) ∙ l .inv .1, search needs)
 
 returns-2 : tie.Need-returns-2 Inv-loop μ-loop
 returns-2 c =
     let l = c .before .before .before .before .before .loop in
     let a = c .before .before .before .before .before .before .before .args in
     let off : eqb (getD (a .s .now) (l .i) 0) (getD (a .opening .now) (l .i) 0) ≡ false = ne-eqb _ _ (c .if2 .taken) in
-    sym (starts-at (a .s .now) (a .opening .now) (l .i) (search needs) (search needs) ∙ simp off) ∙ l .inv .1
+    (sym (starts-at (a .s .now) (a .opening .now) (l .i) (search needs) (search needs) ∙ simp off) ∙ l .inv .1, search needs)
 
 loop-again : tie.Need-loop-again Inv-loop μ-loop
 loop-again c =
@@ -41,7 +41,7 @@ returns-3 : tie.Need-returns-3 Inv-loop μ-loop
 returns-3 c =
     let l = c .before .loop in
     let a = c .before .before .before .args in
-    rw (drop-of-length-le (a .opening .now) {i = l .i} (search needs)) at (l .inv .1)
+    (rw (drop-of-length-le (a .opening .now) {i = l .i} (search needs)) at (l .inv .1), search needs)
 
 pub opening-is-spec : {M : Type 1} → statement M
 opening-is-spec =

@@ -1,0 +1,147 @@
+-- The ends of a field whose value is tested, of codes, of the header and of the check word.
+use mathlib.Core.Path.{_≡_, refl, sym, ap, _∙_}
+use mathlib.Core.Bool.{Bool, true, false, _&&_, and-false}
+use mathlib.Core.List.{List, [], _∷_}
+use Prim.Native.Nat.{ℕ, suc, _+_, _-_, _≤_, _<_}
+use native.Mathlib.Nat.{add-zero}
+use native.Mathlib.Omega.{arith}
+use lib.Dec.{eqb, leb, ltb}
+use lib.ListN.{length, getD, take, drop, length-drop, drop-of-length-le}
+use lib.Seq.{drop-cons}
+use native.Mathlib.Numerals.{add-one}
+use borrow.Author.Tests.{le-leb, lt-leb, lt-ltb, le-ltb, leb-true, ltb-true, eq-eqb, ne-eqb}
+use Rattle.lists.proofs.Tests.{both}
+use Rattle.fields.specs.Words.{wordAt}
+use Rattle.fields.specs.WordsLaws.{wordAt-drop}
+use Rattle.fields.specs.Opening.{startsWith}
+use Rattle.fields.specs.Check.{checkOf}
+use Rattle.walk.specs.declared.Walk.{Walk}
+use Rattle.walk.specs.declared.Walk.the-variants.{Stop, At}
+use Rattle.walk.specs.Parsed.{Parsed, stop, got, andThen, stopUnless, consed}
+use Rattle.walk.specs.Fields.{room, word, field, codes, sizes, header, close}
+use Rattle.walk.specs.Walked.{Says}
+use Rattle.walk.proofs.Steps.{then-on, then-off, through, passed, place-got, Follows, step-on, step-off, step-done}
+
+-- a word at a place
+pub word-at-place : (s : List ℕ) (at : ℕ) → wordAt (drop at s) 0 ≡ wordAt s at
+word-at-place s at = wordAt-drop s at 0 ∙ rw add-zero
+
+pub word-on : (l : List ℕ) {u : Unit {0}} {rest : List ℕ} → room 4 l ≡ got u rest → word l ≡ got (wordAt l 0) rest
+unfolding word
+word-on l e = then-on (λ u rest. got (wordAt l 0) rest) e
+
+pub word-off : (l : List ℕ) {n : ℕ} → room 4 l ≡ stop n → word l ≡ stop n
+unfolding word
+word-off l e = then-off (λ u rest. got (wordAt l 0) rest) e
+
+-- ---- a field whose value is tested
+
+module _ (low limit n : ℕ) (l : List ℕ) where
+  abbrev tested : ℕ → List ℕ → Parsed ℕ
+  tested w rest = stopUnless (leb low w && ltb w limit) n (got w rest)
+
+  pub field-off : {m : ℕ} → room 4 l ≡ stop m → field low limit n l ≡ stop m
+  unfolding field
+  field-off e = then-off tested (word-off l e)
+
+  module _ {u : Unit {0}} {rest : List ℕ} (whole : room 4 l ≡ got u rest) where
+    field-on : field low limit n l ≡ tested (wordAt l 0) rest
+    unfolding field
+    field-on = then-on tested (word-on l whole)
+
+    pub field-low : wordAt l 0 < low → field low limit n l ≡ stop n
+    field-low h = field-on ∙ rw (lt-leb low (wordAt l 0) h)
+
+    pub field-high : limit ≤ wordAt l 0 → field low limit n l ≡ stop n
+    field-high h = field-on ∙ rw (le-ltb (wordAt l 0) limit h, and-false)
+
+    pub field-in : low ≤ wordAt l 0 → wordAt l 0 < limit → field low limit n l ≡ got (wordAt l 0) rest
+    field-in h k = field-on ∙ rw (le-leb low (wordAt l 0) h, lt-ltb (wordAt l 0) limit k)
+
+-- a field that was read at a place
+pub record Field (s : List ℕ) (low limit at v k : ℕ) : Type 0 where
+  pub whole : at + 4 ≤ length s
+  pub end : k ≡ at + 4
+  pub value : v ≡ wordAt s at
+  pub least : low ≤ v
+  pub below : v < limit
+
+pub field-at : (s : List ℕ) (low limit n at : ℕ) {v k : ℕ} → at ≤ length s → field low limit n (drop at s) ≡ got v (drop k s) → k ≤ length s → Field s low limit at v k
+unfolding field word
+field-at s low limit n at {v} {k} h e l =
+    let t = through (andThen (room 4 (drop at s)) (λ u rest. got (wordAt (drop at s) 0) rest)) (tested low limit n (drop at s)) e in
+    let r = through (room 4 (drop at s)) (λ u rest. got (wordAt (drop at s) 0) rest) (t .2) in
+    let p = passed (leb low (t .0) && ltb (t .0) limit) (got (t .0) (t .1)) n (t .3) in
+    let b = both (leb low (t .0)) (ltb (t .0) limit) (p .0) in
+    let q : t .1 ≡ drop k s = cc in
+    let y : r .1 ≡ drop k s = cc in
+    let z = place-got s at 4 h (r .2 ∙ ap (got (r .0)) y) l in
+    let w : t .0 ≡ v = cc in
+    let x : wordAt (drop at s) 0 ≡ t .0 = cc in
+    record {
+      whole = z .0;
+      end = z .1;
+      value = sym w ∙ sym x ∙ word-at-place s at;
+      least = rw (← w) (leb-true low (t .0) (b .0));
+      below = rw (← w) (ltb-true (t .0) limit (b .1));
+    }
+
+-- ---- codes, each below its size
+
+module _ {s : List ℕ} (zs : List ℕ) (at i : ℕ) {whole : Parsed (List ℕ)} (v : Follows s (codes (drop i zs) (drop at s)) whole) where
+  left : i < length zs → codes (drop i zs) (drop at s) ≡ consed (field 0 (getD zs i 0) 6 (drop at s)) (λ a. codes (drop (i + 1) zs))
+  unfolding codes
+  left h = rw (add-one, drop-cons zs i 0 h)
+
+  pub codes-on : {x : ℕ} {rest : List ℕ} → i < length zs → field 0 (getD zs i 0) 6 (drop at s) ≡ got x rest → Follows s (codes (drop (i + 1) zs) rest) whole
+  codes-on h e = step-on v (λ a. codes (drop (i + 1) zs)) (left h) e
+
+  pub codes-off : {k : ℕ} → i < length zs → field 0 (getD zs i 0) 6 (drop at s) ≡ stop k → whole ≡ stop k
+  codes-off h e = step-off v (λ a. codes (drop (i + 1) zs)) (left h) e
+
+  pub codes-done : length zs ≤ i → at ≤ length s → Says s whole (At at)
+  unfolding codes
+  codes-done h l = step-done v (ap (λ (k : List ℕ). codes k (drop at s)) (drop-of-length-le zs h)) l
+
+-- ---- the header
+
+module _ (s opening : List ℕ) where
+  pub header-off : startsWith s opening ≡ false → header opening s ≡ stop 1
+  unfolding header
+  header-off e = rw e
+
+  pub header-on : startsWith s opening ≡ true → header opening s ≡ andThen (field 1 9 3 (drop 4 s)) sizes
+  unfolding header
+  header-on e = rw e
+
+-- ---- the check word
+
+module _ (s : List ℕ) (at : ℕ) (h : at ≤ length s) where
+  -- what is asked of a word w that ends the bytes
+  abbrev ended : ℕ → List ℕ → Parsed (Unit {0})
+  ended w rest = stopUnless (eqb (length rest) 0) 10 (stopUnless (eqb w (checkOf (take (length s - length (drop at s)) s))) 11 (got tt rest))
+
+  pub close-off : {n : ℕ} → room 4 (drop at s) ≡ stop n → close s (drop at s) ≡ stop n
+  unfolding close
+  close-off e = then-off ended (word-off (drop at s) e)
+
+  -- the bytes before the check word
+  before : length s - length (drop at s) ≡ at
+  before = rw length-drop (omega arith)
+
+  module _ {k : ℕ} (g : Says s (room 4 (drop at s)) (At k)) where
+    close-on : close s (drop at s) ≡ ended (wordAt s at) (drop k s)
+    unfolding close
+    close-on = then-on ended (word-on (drop at s) (g .1)) ∙ rw (word-at-place s at)
+
+    pub close-follow : k < length s → close s (drop at s) ≡ stop 10
+    close-follow l = close-on ∙ rw (ne-eqb (length (drop k s)) 0 (λ e. let f : length s - k ≡ 0 = rw length-drop at e in omega arith))
+
+    none : length s ≤ k → eqb (length (drop k s)) 0 ≡ true
+    none l = eq-eqb (length (drop k s)) 0 (rw length-drop (omega arith))
+
+    pub close-right : length s ≤ k → wordAt s at ≡ checkOf (take at s) → Says s (close s (drop at s)) (At k)
+    close-right l e = (tt, close-on ∙ rw (none l, before, eq-eqb (wordAt s at) (checkOf (take at s)) e), g .2)
+
+    pub close-wrong : length s ≤ k → (wordAt s at ≡ checkOf (take at s) → ⊥) → close s (drop at s) ≡ stop 11
+    close-wrong l e = close-on ∙ rw (none l, before, ne-eqb (wordAt s at) (checkOf (take at s)) e)

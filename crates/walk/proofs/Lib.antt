@@ -1,0 +1,3 @@
+-- Laws of reading from the left, and of the places that the code remembers.
+pub mod Steps
+pub mod Fields

@@ -1,0 +1,4 @@
+-- The fields that both files share, read from the left with their stops.
+pub mod Parsed
+pub mod Fields
+pub mod Walked
