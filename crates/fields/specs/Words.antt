@@ -2,13 +2,14 @@
 --
 --   word a b c d    the word of four bytes
 --   wordAt s at     the word at byte offset at of s
+--   wordsAt s n at  the n words from a byte offset on
 --   wordBytes w     the four bytes of a word
 --   words s         the words of s from its start; up to three bytes left at the end are no word
 --   wordsBytes ws   the bytes of a list of words
 --   areWords ws     each number of the list is a word
 use mathlib.Core.Bool.{Bool, true, _&&_}
 use mathlib.Core.List.{List, [], _∷_, _++_}
-use Prim.Native.Nat.{ℕ, _+_, _*_, _/_, _%_, _^_}
+use Prim.Native.Nat.{ℕ, zero, suc, _+_, _*_, _/_, _%_, _^_}
 use lib.Dec.{ltb}
 use lib.ListN.{getD}
 
@@ -20,6 +21,10 @@ wordAt s at = word (getD s at 0) (getD s (at + 1) 0) (getD s (at + 2) 0) (getD s
 
 abbrev pub wordBytes : ℕ → List ℕ
 wordBytes w = w % 256 ∷ w / 256 % 256 ∷ w / 256 / 256 % 256 ∷ w / 256 / 256 / 256 % 256 ∷ []
+
+unfoldable pub wordsAt : List ℕ → ℕ → ℕ → List ℕ
+wordsAt s zero at = []
+wordsAt s (suc n) at = wordAt s at ∷ wordsAt s n (at + 4)
 
 unfoldable pub words : List ℕ → List ℕ
 words [] = []

@@ -1,13 +1,13 @@
 -- Laws of words, for readers and writers.
-use mathlib.Core.Path.{_≡_, refl, _∙_}
-use mathlib.Core.List.{List, [], _∷_, _++_, append-assoc}
-use Prim.Native.Nat.{ℕ, _+_, _*_, _/_, _%_, _^_, _≤_, _<_}
-use native.Mathlib.Nat.{add-zero, add-assoc}
+use mathlib.Core.Path.{_≡_, refl, sym, ap, _∙_}
+use mathlib.Core.List.{List, [], _∷_, _++_, append-assoc, append-nil}
+use Prim.Native.Nat.{ℕ, zero, suc, _+_, _-_, _*_, _/_, _%_, _^_, _≤_, _<_}
+use native.Mathlib.Nat.{add-zero, add-assoc, mul-zero}
 use native.Mathlib.Numerals.{add-one}
 use native.Mathlib.Omega.{arith}
-use lib.ListN.{length, take, drop, getD, length-take, length-drop}
-use lib.Seq.{drop-drop, getD-drop, take-suc}
-use Rattle.fields.specs.Words.{word, wordAt, wordBytes, words, wordsBytes}
+use lib.ListN.{length, take, drop, getD, set, length-take, length-drop}
+use lib.Seq.{drop-drop, getD-drop, take-suc, take-suc-set, append-snoc, take-all}
+use Rattle.fields.specs.Words.{word, wordAt, wordsAt, wordBytes, words, wordsBytes}
 
 -- ---- words of bytes
 
@@ -61,3 +61,39 @@ wordsBytes-snoc ws i h = simp (add-one, take-suc ws i 0 h, wordsBytes-append)
 -- there is room for word i where there is room for all
 pub wordsBytes-room : (ws : List ℕ) (i : ℕ) → i < length ws → length (wordsBytes (take i ws)) + 4 ≤ length (wordsBytes ws)
 wordsBytes-room ws i h = simp (length-wordsBytes, length-take) (omega arith)
+
+-- ---- the words from a place on
+
+pub length-wordsAt : (s : List ℕ) (n at : ℕ) → length (wordsAt s n at) ≡ n
+unfolding wordsAt
+length-wordsAt s zero at = refl
+length-wordsAt s (suc n) at = ap suc (length-wordsAt s n (at + 4))
+
+pub getD-wordsAt : (s : List ℕ) (n at i : ℕ) → i < n → getD (wordsAt s n at) i 0 ≡ wordAt s (at + 4 * i)
+unfolding wordsAt
+getD-wordsAt s zero at i h = absurd (omega arith)
+getD-wordsAt s (suc n) at zero h = rw (mul-zero, add-zero)
+getD-wordsAt s (suc n) at (suc i) h =
+    let e : at + 4 + 4 * i ≡ at + 4 * suc i = omega arith in getD-wordsAt s n (at + 4) i (omega arith) ∙ ap (wordAt s) e
+
+-- what is left of n words after i of them, and one word of it
+pub wordsAt-on : (s : List ℕ) (at : ℕ) {i n : ℕ} → i < n
+    → wordsAt s (n - i) (at + 4 * i) ≡ wordAt s (at + 4 * i) ∷ wordsAt s (n - (i + 1)) (at + 4 * (i + 1))
+unfolding wordsAt
+wordsAt-on s at {i} {n} h =
+    let d : n - i ≡ suc (n - (i + 1)) = omega arith in
+    let f : at + 4 * i + 4 ≡ at + 4 * (i + 1) = omega arith in
+    rw (d, f)
+
+pub wordsAt-done : (s : List ℕ) (at : ℕ) {i n : ℕ} → n ≤ i → wordsAt s (n - i) (at + 4 * i) ≡ []
+unfolding wordsAt
+wordsAt-done s at {i} {n} h = let d : n - i ≡ 0 = omega arith in rw d
+
+-- the words read so far, and those still to read, where one more is stored, and where none is left
+module _ (s out : List ℕ) (at i n : ℕ) where
+  pub words-on : {w : ℕ} → i < n → i < length out → w ≡ wordAt s (at + 4 * i)
+      → take i out ++ wordsAt s (n - i) (at + 4 * i) ≡ take (i + 1) (set out i w) ++ wordsAt s (n - (i + 1)) (at + 4 * (i + 1))
+  words-on {w} h k e = rw (wordsAt-on s at h, ← e, add-one i, take-suc-set out i w) (sym (append-snoc (take i out) w _))
+
+  pub words-done : n ≤ i → length out ≤ i → take i out ++ wordsAt s (n - i) (at + 4 * i) ≡ out
+  words-done h k = rw (wordsAt-done s at h, take-all i out, append-nil)

@@ -1,10 +1,10 @@
 // The fields of the two files: words, sums, readings, the opening bytes and the check word, read from and written to lent bytes.
 // A writer writes over the front of what it is lent and returns how much it wrote.
 ghost use mathlib.Core.Path.{_≡_};
-ghost use Prim.Native.Nat.{_+_, _^_, _≤_, _<_};
+ghost use Prim.Native.Nat.{_+_, _*_, _^_, _≤_, _<_};
 ghost use lib.ListN.{length, take};
 ghost use lib.Signed.{mag};
-ghost use Rattle.fields.specs.Words.{wordAt, wordBytes, wordsBytes};
+ghost use Rattle.fields.specs.Words.{wordAt, wordsAt, wordBytes, wordsBytes};
 ghost use Rattle.fields.specs.Twos.{signedOf, bitsOf, sumAt, sumBytes, readingAt, readingBytes};
 ghost use Rattle.fields.specs.Opening.{startsWith};
 ghost use Rattle.fields.specs.Check.{checkOf};
@@ -23,6 +23,18 @@ pub fn word_at(s: &[u8], at: usize) -> u32
     ensures { λ r. ⌜ r ≡ wordAt (now (s .entry)) at ⌝ }
 {
     wide(s[at]) + 256 * wide(s[at + 1]) + 65536 * wide(s[at + 2]) + 16777216 * wide(s[at + 3])
+}
+
+// The words from a byte offset on, as many as out has room for.
+pub fn read_words(s: &[u8], at: usize, out: &mut [u32])
+    requires { ⌜ at + 4 * length (now out) ≤ length (now s) ⌝ }
+    ensures { λ _. ⌜ now (out .exit) ≡ wordsAt (now (s .entry)) (length (now (out .entry))) at ⌝ }
+{
+    let mut i = 0;
+    while i < out.len() {
+        out[i] = word_at(s, at + 4 * i);
+        i += 1;
+    }
 }
 
 // Writes a word over the front of out.

@@ -1,8 +1,8 @@
 -- The ends of a field whose value is tested, of codes, of the header and of the check word.
-use mathlib.Core.Path.{_≡_, refl, sym, ap, _∙_}
-use mathlib.Core.Bool.{Bool, true, false, _&&_, and-false}
-use mathlib.Core.List.{List, [], _∷_}
-use Prim.Native.Nat.{ℕ, suc, _+_, _-_, _≤_, _<_}
+use mathlib.Core.Path.{_≡_, sym, ap, _∙_}
+use mathlib.Core.Bool.{true, false, _&&_, and-false}
+use mathlib.Core.List.{List}
+use Prim.Native.Nat.{ℕ, _+_, _-_, _≤_, _<_}
 use native.Mathlib.Nat.{add-zero}
 use native.Mathlib.Omega.{arith}
 use lib.Dec.{eqb, leb, ltb}
@@ -15,8 +15,7 @@ use Rattle.fields.specs.Words.{wordAt}
 use Rattle.fields.specs.WordsLaws.{wordAt-drop}
 use Rattle.fields.specs.Opening.{startsWith}
 use Rattle.fields.specs.Check.{checkOf}
-use Rattle.walk.specs.declared.Walk.{Walk}
-use Rattle.walk.specs.declared.Walk.the-variants.{Stop, At}
+use Rattle.walk.specs.declared.Walk.the-variants.{At}
 use Rattle.walk.specs.Parsed.{Parsed, stop, got, andThen, stopUnless, consed}
 use Rattle.walk.specs.Fields.{room, word, field, codes, sizes, header, close}
 use Rattle.walk.specs.Walked.{Says}

@@ -2,3 +2,4 @@
 pub mod Parsed
 pub mod Fields
 pub mod Walked
+pub mod Limits

@@ -1,12 +1,7 @@
 -- `walk::check_field` meets its contract: the ends of a field whose value is tested.
-use mathlib.Core.Path.{sym, _∙_, subst}
 use native.Mathlib.Omega.{arith}
 use borrow.Author.Needs.{needs}
 use denote.Ref.{now}
-use Prim.Native.Nat.{ℕ, _<_, _≤_}
-use Rattle.walk.specs.declared.Walk.the-variants.{Stop, At}
-use Rattle.walk.specs.Walked.{Says}
-use Rattle.walk.specs.Fields.{room}
 use Rattle.walk.proofs.Steps.{seen, place-got}
 use Rattle.walk.proofs.Fields.{word-at-place, field-off, field-low, field-high, field-in}
 use Rattle.walk.proofs.check_field.Statement.{statement}

@@ -1,0 +1,2 @@
+-- Laws of archives.
+pub mod Examples

@@ -1,0 +1,1 @@
+// An archive read from its bytes.

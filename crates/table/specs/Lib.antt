@@ -1,0 +1,3 @@
+-- A table file: what it holds, its stops, its bytes.
+pub mod Layout
+pub mod Reading

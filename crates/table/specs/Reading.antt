@@ -1,0 +1,42 @@
+-- A table read from its bytes, with its stops in checking order (document 01): 1 to 6, 10 and 11.
+--
+--   row zs          a row: its codes, below the sizes zs, and a reading
+--   readTable s     what the bytes s hold, or the first stop
+--   TableRead       the code's answer: the enum of src/lib.rt
+--   answer p        the answer's number and values for what was read: the stop's number, or D and the number of base rows
+--   Stored p ..     the arrays have the base rows of the table that was read
+use mathlib.Core.Path.{_≡_}
+use mathlib.Core.List.{List}
+use Prim.Native.Nat.{ℕ}
+use lib.IntN.{ℤ}
+use lib.ListN.{length}
+use Rattle.walk.specs.Parsed.{Parsed, stop, got, andThen, many}
+use Rattle.walk.specs.Fields.{reading, field, codes, header, close}
+use Rattle.cube.specs.declared.Total.{Total}
+use Rattle.cube.specs.Measure.{sums, Row}
+use Rattle.cube.specs.Table.{folded}
+use Rattle.rows.specs.Rows.{rowsOf}
+use Rattle.table.specs.declared.TableRead.{TableRead}
+use Rattle.table.specs.declared.TableRead.the-variants as Answer
+use Rattle.table.specs.Layout.{FACT, Held}
+
+unfoldable pub row : List ℕ → List ℕ → Parsed (Row Total)
+row zs l =
+    andThen (codes zs l) (λ x rest. andThen (reading rest) (λ z rest′. got (record { codes = x; total = record { sum = z; count = 1 } }) rest′))
+
+unfoldable pub readTable : List ℕ → Parsed Held
+readTable s =
+    andThen (header FACT s) (λ zs l. andThen (field 0 1025 5 l) (λ n l. andThen (many n (row zs) l) (λ rows l.
+    andThen (close s l) (λ u rest. got (record { sizes = zs; rows = rows }) rest))))
+
+-- the base rows of a table
+abbrev pub based : Held → List (Row Total)
+based t = folded sums (length (t .sizes)) (t .rows)
+
+abbrev pub answer : Parsed Held → TableRead
+answer (stop n) = Answer.Stop n
+answer (got t rest) = Answer.Rows (length (t .sizes)) (length (based t))
+
+abbrev pub Stored : Parsed Held → List ℕ → List ℤ → List ℕ → Type 0
+Stored (stop n) codes amounts counts = Unit {0}
+Stored (got t rest) codes amounts counts = rowsOf (length (t .sizes)) (length (based t)) codes amounts counts ≡ based t
