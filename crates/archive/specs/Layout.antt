@@ -19,6 +19,7 @@ use Rattle.lists.specs.Order.{Rising, earlier}
 use Rattle.fields.specs.Words.{wordBytes, wordsBytes}
 use Rattle.fields.specs.Twos.{sumBytes}
 use Rattle.fields.specs.Check.{checked}
+use Rattle.walk.specs.Fields.{headerBytes}
 use Rattle.walk.specs.Limits.{Sized, Below}
 use Rattle.cube.specs.declared.Total.{Total}
 use Rattle.cube.specs.Measure.{sums, Row, codesOf}
@@ -47,8 +48,7 @@ pub record Held : Type 0 where
 
 unfoldable pub layout : Held → List ℕ
 layout a =
-    checked (CUBE ++ (wordBytes (length (a .sizes)) ++ (wordsBytes (a .sizes) ++ (wordBytes (length (a .bases)) ++ (flatMap baseBytes (a .bases)
-    ++ (wordBytes (length (a .cells)) ++ flatMap cellBytes (a .cells)))))))
+    checked (headerBytes CUBE (a .sizes) ++ (wordBytes (length (a .bases)) ++ (flatMap baseBytes (a .bases) ++ (wordBytes (length (a .cells)) ++ flatMap cellBytes (a .cells)))))
 
 -- our base entry of a row: the row with our list
 abbrev pub based : ℕ → List (Row Total) → Row Total → Based

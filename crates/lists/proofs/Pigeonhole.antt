@@ -15,7 +15,7 @@ module _ {A : Type 0} where
   perm-length (List·Permᴰ·swap e f) = refl
   perm-length (List·Permᴰ·trans d e) = perm-length d ∙ perm-length e
 
-  no-more : (l : List A) → length l ≡ 0 → l ≡ []
+  pub no-more : (l : List A) → length l ≡ 0 → l ≡ []
   no-more [] e = refl
   no-more (x ∷ l) e = absurd (omega arith)
 

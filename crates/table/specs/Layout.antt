@@ -15,6 +15,7 @@ use Rattle.lists.specs.Lists.{_∈_}
 use Rattle.fields.specs.Words.{wordBytes, wordsBytes}
 use Rattle.fields.specs.Twos.{readingBytes}
 use Rattle.fields.specs.Check.{checked}
+use Rattle.walk.specs.Fields.{headerBytes}
 use Rattle.walk.specs.Limits.{Sized, Below}
 use Rattle.cube.specs.declared.Total.{Total}
 use Rattle.cube.specs.Measure.{Row}
@@ -30,7 +31,7 @@ abbrev pub rowBytes : Row Total → List ℕ
 rowBytes r = wordsBytes (r .codes) ++ readingBytes (r .total .sum)
 
 unfoldable pub tableBytes : Held → List ℕ
-tableBytes t = checked (FACT ++ (wordBytes (length (t .sizes)) ++ (wordsBytes (t .sizes) ++ (wordBytes (length (t .rows)) ++ flatMap rowBytes (t .rows)))))
+tableBytes t = checked (headerBytes FACT (t .sizes) ++ (wordBytes (length (t .rows)) ++ flatMap rowBytes (t .rows)))
 
 -- a row of a table: codes below the sizes, a reading of 32 bits, counted once
 pub record Reads (zs : List ℕ) (r : Row Total) : Type 0 where

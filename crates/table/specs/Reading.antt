@@ -1,6 +1,7 @@
 -- A table read from its bytes, with its stops in checking order (document 01): 1 to 6, 10 and 11.
 --
 --   row zs          a row: its codes, below the sizes zs, and a reading
+--   body s zs       row count, rows and check word of the bytes s
 --   readTable s     what the bytes s hold, or the first stop
 --   TableRead       the code's answer: the enum of src/lib.rt
 --   answer p        the answer's number and values for what was read: the stop's number, or D and the number of base rows
@@ -24,10 +25,14 @@ unfoldable pub row : List ℕ → List ℕ → Parsed (Row Total)
 row zs l =
     andThen (codes zs l) (λ x rest. andThen (reading rest) (λ z rest′. got (record { codes = x; total = record { sum = z; count = 1 } }) rest′))
 
+-- the row count, the rows and the check word that ends the bytes s
+unfoldable pub body : List ℕ → List ℕ → List ℕ → Parsed Held
+body s zs l =
+    andThen (field 0 1025 5 l) (λ n rest. andThen (many n (row zs) rest) (λ rows rest′.
+    andThen (close s rest′) (λ u rest″. got (record { sizes = zs; rows = rows }) rest″)))
+
 unfoldable pub readTable : List ℕ → Parsed Held
-readTable s =
-    andThen (header FACT s) (λ zs l. andThen (field 0 1025 5 l) (λ n l. andThen (many n (row zs) l) (λ rows l.
-    andThen (close s l) (λ u rest. got (record { sizes = zs; rows = rows }) rest))))
+readTable s = andThen (header FACT s) (body s)
 
 -- the base rows of a table
 abbrev pub based : Held → List (Row Total)

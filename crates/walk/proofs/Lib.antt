@@ -1,3 +1,5 @@
 -- Laws of reading from the left, and of the places that the code remembers.
 pub mod Steps
 pub mod Fields
+pub mod Codecs
+pub mod Ends

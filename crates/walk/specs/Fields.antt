@@ -6,14 +6,15 @@
 --   codes zs          a code for each size of zs, below it: stop 6
 --   sizes d           the sizes of d dimensions: stop 4
 --   header opening    the opening (stop 1), D (stop 3) and the sizes
+--   headerBytes opening zs  these as bytes
 --   close s           the check word, which ends the bytes s: stop 10 if bytes follow it, then stop 11 if it is wrong
 use mathlib.Core.Bool.{_&&_}
-use mathlib.Core.List.{List, [], _∷_}
+use mathlib.Core.List.{List, [], _∷_, _++_}
 use Prim.Native.Nat.{ℕ, _-_}
 use lib.Dec.{eqb, leb, ltb}
 use lib.IntN.{ℤ}
 use lib.ListN.{length, take, drop}
-use Rattle.fields.specs.Words.{wordAt}
+use Rattle.fields.specs.Words.{wordAt, wordBytes, wordsBytes}
 use Rattle.fields.specs.Twos.{sumAt, readingAt}
 use Rattle.fields.specs.Opening.{startsWith}
 use Rattle.fields.specs.Check.{checkOf}
@@ -43,6 +44,9 @@ sizes d = many d (field 1 65536 4)
 
 unfoldable pub header : List ℕ → List ℕ → Parsed (List ℕ)
 header opening l = stopUnless (startsWith l opening) 1 (andThen (field 1 9 3 (drop 4 l)) sizes)
+
+abbrev pub headerBytes : List ℕ → List ℕ → List ℕ
+headerBytes opening zs = opening ++ (wordBytes (length zs) ++ wordsBytes zs)
 
 unfoldable pub close : List ℕ → List ℕ → Parsed (Unit {0})
 close s l =
