@@ -1,19 +1,18 @@
 -- A table is accepted exactly if it is the bytes of something within the limits, and what is read is what was written.
 use mathlib.Core.Path.{_≡_, refl, sym, ap, ap₂, _∙_, subst}
 use mathlib.Core.Logic.{_↔_}
-use mathlib.Core.List.{List, [], _∷_, _++_, flatMap, append-assoc}
+use mathlib.Core.List.{List, [], _++_, flatMap, append-assoc}
 use Prim.Native.Nat.{ℕ, _^_, _≤_, _<_}
 use native.Mathlib.Omega.{arith}
 use lib.IntN.{ℤ}
 use lib.ListN.{length}
-use lib.Signed.{mag}
 use Rattle.lists.specs.Lists.{_∈_}
 use Rattle.fields.specs.Words.{wordBytes, wordsBytes}
 use Rattle.fields.specs.Twos.{readingBytes}
-use Rattle.fields.specs.Check.{checkOf, checked}
+use Rattle.fields.specs.Check.{checkOf}
 use Rattle.walk.specs.Parsed.{Parsed, got, andThen, many}
 use Rattle.walk.specs.Fields.{reading, field, codes, header, headerBytes, close}
-use Rattle.walk.specs.Limits.{Sized, Below, Bytes}
+use Rattle.walk.specs.Limits.{Sized, Bytes}
 use Rattle.walk.proofs.Steps.{then-on, through}
 use Rattle.walk.proofs.Codecs.{Codec, bytes-behind, reading-codec, field-codec, many-codec, codes-codec}
 use Rattle.walk.proofs.Ends.{header-codec, close-forth, close-back}
@@ -23,7 +22,7 @@ use Rattle.table.specs.Layout.{FACT, Held, rowBytes, tableBytes, Reads, 
 use Rattle.table.specs.Reading.{row, body, readTable}
 
 -- a row of a table that was read
-abbrev read : List ℕ → ℤ → Row Total
+abbrev pub read : List ℕ → ℤ → Row Total
 read x z = record { codes = x; total = record { sum = z; count = 1 } }
 
 module _ (zs : List ℕ) (h : (z : ℕ) → z ∈ zs → z ≤ 2 ^ 32) where
@@ -62,10 +61,10 @@ count-codec = field-codec 0 1025 5 (omega arith)
 
 -- what is read behind the rows, and behind the row count
 module _ (s zs : List ℕ) where
-  abbrev rowed : List (Row Total) → List ℕ → Parsed Held
+  abbrev pub rowed : List (Row Total) → List ℕ → Parsed Held
   rowed rows rest = andThen (close s rest) (λ u rest′. got (record { sizes = zs; rows = rows }) rest′)
 
-  abbrev counted : ℕ → List ℕ → Parsed Held
+  abbrev pub counted : ℕ → List ℕ → Parsed Held
   counted n rest = andThen (many n (row zs) rest) rowed
 
 -- the bytes before the check word

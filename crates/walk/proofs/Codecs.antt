@@ -1,11 +1,10 @@
 -- What is written is read back, and what was read stands there: for one field, and for things made of fields.
 use mathlib.Core.Path.{_≡_, refl, sym, ap, ap₂, _∙_, subst}
-use mathlib.Core.Bool.{true, _&&_}
-use mathlib.Core.List.{List, [], _∷_, _++_, flatMap, append-assoc, append-nil, List·Memᴰ·head, List·Memᴰ·tail, List·Memᴰ·not-nil, List·Memᴰ·cases-cons, Memᴰ·append-right}
+use mathlib.Core.Bool.{_&&_}
+use mathlib.Core.List.{List, [], _∷_, _++_, flatMap, append-assoc, List·Memᴰ·head, List·Memᴰ·tail, List·Memᴰ·not-nil, List·Memᴰ·cases-cons, Memᴰ·append-right}
 use Prim.Native.Nat.{ℕ, zero, suc, _+_, _*_, _/_, _%_, _^_, _≤_, _<_}
 use native.Mathlib.Omega.{arith}
 use lib.Dec.{leb, ltb}
-use lib.IntN.{ℤ}
 use lib.ListN.{length, drop, length-drop}
 use lib.Seq.{drop-drop}
 use lib.Signed.{mag}
@@ -16,7 +15,7 @@ use Rattle.fields.specs.Words.{word as wordOf, wordAt, wordBytes, wordsBytes}
 use Rattle.fields.specs.WordsLaws.{word-back, wordAt-drop}
 use Rattle.fields.specs.Twos.{signedOf, bitsOf, sumAt, sumBytes, readingAt, readingBytes}
 use Rattle.fields.specs.TwosLaws.{bits-lt, signed-bits, bits-signed, signed-fits}
-use Rattle.walk.specs.Parsed.{Parsed, stop, got, andThen, stopUnless, consed, many}
+use Rattle.walk.specs.Parsed.{Parsed, got, stopUnless, many}
 use Rattle.walk.specs.Fields.{room, word, sum, reading, field, codes}
 use Rattle.walk.specs.Limits.{Below, Bytes}
 use Rattle.walk.proofs.Steps.{then-on, through, passed, cons-back, cons-forth, room-whole, room-got}

@@ -72,6 +72,14 @@ seen {A} {s} {p} e h = subst (Says s p) e (h .says)
 pub walked-as : {A : Type 0} {s : List ℕ} {p q : Parsed A} {w : Walk} → p ≡ q → Walked s q w → Walked s p w
 walked-as {s = s} {w = w} e h = record { says = subst (λ r. Says s r w) (sym e) (h .says) }
 
+-- the same of a value made of what was read
+pub walked-map : {A B : Type 0} {s : List ℕ} {p : Parsed A} {w : Walk} (g : A → B) → Walked s p w → Walked s (andThen p (λ v rest. got (g v) rest)) w
+walked-map {A} {B} {s} {p} {w} g h = record { says = go w (h .says) }
+  where
+    go : (w : Walk) → Says s p w → Says s (andThen p (λ v rest. got (g v) rest)) w
+    go (Stop n) e = then-off (λ v rest. got (g v) rest) e
+    go (At k) e = (g (e .0), then-on (λ v rest. got (g v) rest) (e .1), e .2)
+
 -- ---- n things
 
 -- what is read from the second place on ends as what is read from the first
