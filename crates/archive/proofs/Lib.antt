@@ -1,2 +1,3 @@
 -- Laws of archives.
+pub mod Written
 pub mod Examples

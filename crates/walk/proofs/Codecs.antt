@@ -1,6 +1,6 @@
 -- What is written is read back, and what was read stands there: for one field, and for things made of fields.
 use mathlib.Core.Path.{_≡_, refl, sym, ap, ap₂, _∙_, subst}
-use mathlib.Core.Bool.{_&&_}
+use mathlib.Core.Bool.{Bool, true, _&&_}
 use mathlib.Core.List.{List, [], _∷_, _++_, flatMap, append-assoc, List·Memᴰ·head, List·Memᴰ·tail, List·Memᴰ·not-nil, List·Memᴰ·cases-cons, Memᴰ·append-right}
 use Prim.Native.Nat.{ℕ, zero, suc, _+_, _*_, _/_, _%_, _^_, _≤_, _<_}
 use native.Mathlib.Omega.{arith}
@@ -15,7 +15,7 @@ use Rattle.fields.specs.Words.{word as wordOf, wordAt, wordBytes, wordsBytes}
 use Rattle.fields.specs.WordsLaws.{word-back, wordAt-drop}
 use Rattle.fields.specs.Twos.{signedOf, bitsOf, sumAt, sumBytes, readingAt, readingBytes}
 use Rattle.fields.specs.TwosLaws.{bits-lt, signed-bits, bits-signed, signed-fits}
-use Rattle.walk.specs.Parsed.{Parsed, got, stopUnless, many}
+use Rattle.walk.specs.Parsed.{Parsed, got, andThen, stopUnless, many}
 use Rattle.walk.specs.Fields.{room, word, sum, reading, field, codes}
 use Rattle.walk.specs.Limits.{Below, Bytes}
 use Rattle.walk.proofs.Steps.{then-on, through, passed, cons-back, cons-forth, room-whole, room-got}
@@ -204,3 +204,75 @@ codes-forth (z ∷ zs) x l rest h b e =
 
 pub codes-codec : (zs : List ℕ) → ((z : ℕ) → z ∈ zs → z ≤ 2 ^ 32) → Codec (codes zs) wordsBytes (Below zs)
 codes-codec zs h = record { back = λ x l b. codes-back zs x l h b; forth = λ x l rest b e. codes-forth zs x l rest h b e }
+
+-- ---- things made of others
+
+-- two readings that are the same
+pub codec-same : {A : Type 0} {f g : List ℕ → Parsed A} {bytes : A → List ℕ} {P : A → Type 0} → ((l : List ℕ) → f l ≡ g l) → Codec g bytes P → Codec f bytes P
+codec-same e c = record { back = λ x l p. e _ ∙ c .back x l p; forth = λ x l rest b h. c .forth x l rest b (sym (e l) ∙ h) }
+
+-- a test of what was read
+module _ {A : Type 0} (t : A → Bool) (n : ℕ) where
+  abbrev pub tested : (List ℕ → Parsed A) → List ℕ → Parsed A
+  tested f l = andThen (f l) (λ x rest. stopUnless (t x) n (got x rest))
+
+  pub codec-test : {f : List ℕ → Parsed A} {bytes : A → List ℕ} {P : A → Type 0} → Codec f bytes P → Codec (tested f) bytes (λ x. P x × (t x ≡ true))
+  codec-test {f} {bytes} {P} c = record {
+    back = λ x l p. then-on (λ x rest. stopUnless (t x) n (got x rest)) (c .back x l (p .0)) ∙ rw (p .1);
+    forth = λ x l rest b e.
+        let u = through (f l) (λ x rest. stopUnless (t x) n (got x rest)) e in
+        let p = passed (t (u .0)) (got (u .0) (u .1)) n (u .3) in
+        let q : u .0 ≡ x = cc (p .1) in
+        let k : u .1 ≡ rest = cc (p .1) in
+        let r = c .forth (u .0) l (u .1) b (u .2) in
+        ((subst P q (r .0), subst (λ (y : A). t y ≡ true) q (p .0)), r .1 ∙ ap₂ (λ (y : A) (m : List ℕ). bytes y ++ m) q k);
+  }
+
+-- one thing behind another, made into one
+module _ {A B C : Type 0} (make : A → B → C) (one : C → A) (two : C → B) (made : (c : C) → make (one c) (two c) ≡ c) (first : (a : A) (b : B) → one (make a b) ≡ a)
+    (second : (a : A) (b : B) → two (make a b) ≡ b) where
+  abbrev pub pair : (List ℕ → Parsed A) → (A → List ℕ → Parsed B) → List ℕ → Parsed C
+  pair f g l = andThen (f l) (λ a rest. andThen (g a rest) (λ b rest′. got (make a b) rest′))
+
+  pub codec-pair : {f : List ℕ → Parsed A} {g : A → List ℕ → Parsed B} {fore : A → List ℕ} {aft : B → List ℕ} {P : A → Type 0} {Q : A → B → Type 0}
+      → Codec f fore P → ((a : A) → P a → Codec (g a) aft (Q a)) → Codec (pair f g) (λ c. fore (one c) ++ aft (two c)) (λ c. P (one c) × Q (one c) (two c))
+  codec-pair {f} {g} {fore} {aft} {P} {Q} k m = record {
+    back = λ c l p.
+        ap (pair f g) (append-assoc (fore (one c)) (aft (two c)) l)
+        ∙ then-on (λ a rest. andThen (g a rest) (λ b rest′. got (make a b) rest′)) (k .back (one c) (aft (two c) ++ l) (p .0))
+        ∙ then-on (λ b rest′. got (make (one c) b) rest′) (m (one c) (p .0) .back (two c) l (p .1))
+        ∙ ap (λ (d : C). got d l) (made c);
+    forth = λ c l rest h e.
+        let t = through (f l) (λ a rest. andThen (g a rest) (λ b rest′. got (make a b) rest′)) e in
+        let x = k .forth (t .0) l (t .1) h (t .2) in
+        let u = through (g (t .0) (t .1)) (λ b rest′. got (make (t .0) b) rest′) (t .3) in
+        let y = m (t .0) (x .0) .forth (u .0) (t .1) (u .1) (bytes-behind (fore (t .0)) (t .1) (subst Bytes (x .1) h)) (u .2) in
+        let q : make (t .0) (u .0) ≡ c = cc (u .3) in
+        let r : u .1 ≡ rest = cc (u .3) in
+        let i : t .0 ≡ one c = sym (first (t .0) (u .0)) ∙ ap one q in
+        let j : u .0 ≡ two c = sym (second (t .0) (u .0)) ∙ ap two q in
+        let p : P (one c) = subst P i (x .0) in
+        let z : Q (one c) (two c) = subst (λ (a : A). Q a (two c)) i (subst (Q (t .0)) j (y .0)) in
+        let all : l ≡ fore (t .0) ++ (aft (u .0) ++ u .1) = x .1 ∙ ap (λ (n : List ℕ). fore (t .0) ++ n) (y .1) in
+        let here : l ≡ fore (one c) ++ (aft (two c) ++ rest) = all ∙ ap₂ (λ (a : A) (n : List ℕ). fore a ++ n) i (ap₂ (λ (b : B) (n : List ℕ). aft b ++ n) j r) in
+        ((p, z), here ∙ sym (append-assoc (fore (one c)) (aft (two c)) rest));
+  }
+
+-- a count, and as many things
+module _ {A : Type 0} {count : List ℕ → Parsed ℕ} {g : ℕ → List ℕ → Parsed (List A)} {bytes : List A → List ℕ} {C : ℕ → Type 0} {P : List A → Type 0} where
+  pub codec-count : Codec count wordBytes C → ((n : ℕ) → Codec (g n) bytes (λ xs. (length xs ≡ n) × P xs))
+      → Codec (λ l. andThen (count l) g) (λ xs. wordBytes (length xs) ++ bytes xs) (λ xs. C (length xs) × P xs)
+  codec-count c m = record {
+    back = λ xs l p.
+        ap (λ (k : List ℕ). andThen (count k) g) (append-assoc (wordBytes (length xs)) (bytes xs) l)
+        ∙ then-on g (c .back (length xs) (bytes xs ++ l) (p .0))
+        ∙ m (length xs) .back xs l (refl, p .1);
+    forth = λ xs l rest b e.
+        let t = through (count l) g e in
+        let f = c .forth (t .0) l (t .1) b (t .2) in
+        let r = m (t .0) .forth xs (t .1) rest (bytes-behind (wordBytes (t .0)) (t .1) (subst Bytes (f .1) b)) (t .3) in
+        let n : length xs ≡ t .0 = r .0 .0 in (
+          (subst C (sym n) (f .0), r .0 .1),
+          f .1 ∙ ap₂ (λ (k : ℕ) (y : List ℕ). wordBytes k ++ y) (sym n) (r .1) ∙ sym (append-assoc (wordBytes (length xs)) (bytes xs) rest),
+        );
+  }
