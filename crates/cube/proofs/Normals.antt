@@ -2,18 +2,19 @@
 use mathlib.Core.Path.{_≡_, sym, _∙_, ap, subst}
 use mathlib.Core.Logic.{_≢_, _⊎_, inl, inr, _↔_}
 use mathlib.Core.Bool.{true, false, not, false≢true}
-use mathlib.Core.List.{List, [], _∷_}
-use Prim.Native.Nat.{ℕ, _≤_}
+use mathlib.Core.List.{List, [], _∷_, map}
+use Prim.Native.Nat.{ℕ, _*_, _≤_}
 use native.Mathlib.Omega.{arith}
 use lib.Dec.{eqb, leb}
-use lib.ListN.{length}
+use native.Mathlib.Nat.{le-trans, mul-le-mul-right}
+use lib.ListN.{length, length-map}
 use borrow.Author.Tests.{eqb-true, eqb-false, leb-true, le-leb}
 use Rattle.lists.specs.Lists.{_∈_, Distinct}
 use Rattle.lists.specs.Order.{earlier}
 use Rattle.lists.proofs.Tests.{cases, truth}
-use Rattle.lists.proofs.Members.{keep-in, keep-of, flat-in, flat-of}
+use Rattle.lists.proofs.Members.{keep-in, keep-of, keep-length, flat-in, flat-of, flat-length}
 use Rattle.lists.proofs.Pairwise.{pairwise-keep, pairwise-imp, pairwise-flat}
-use Rattle.lists.proofs.Order.{by-codes, rising-distinct}
+use Rattle.lists.proofs.Order.{by-codes, rising-distinct, sort-length}
 use Rattle.cube.specs.Lattice.{Lattice, Laws}
 use Rattle.cube.specs.Cube.{within, Exists, cuboid}
 use Rattle.cube.specs.Condensed.{proper, single, listed, reach, shared, normals, Base}
@@ -100,3 +101,18 @@ module _ (L : Lattice) (W : Laws L) (xs : List (List ℕ)) (b : Base L xs) where
       let q : t .0 ≡ x = cc (v, w) in
       subst (λ (y : List ℕ). c ∈ reach L y (listed L xs y)) q (t .2))
       (λ m. absurd (omega (arith, ap length w, normals-in m)))
+
+-- There are not many: at most one of a node for each row.
+shared-length : (L : Lattice) (xs : List (List ℕ)) (s : ℕ) → length (shared L xs s) ≤ length xs
+unfolding shared cuboid
+shared-length L xs s = omega (
+  arith,
+  keep-length (λ c. leb 2 (length (within L xs c))) (cuboid L xs s),
+  sort-length earlier (map (L .cell s) xs),
+  length-map xs (L .cell s),
+)
+
+pub normals-length : (L : Lattice) (xs : List (List ℕ)) → length (normals L xs) ≤ length (L .nodes) * length xs
+unfolding normals proper
+normals-length L xs = le-trans (flat-length (shared L xs) (length xs) (proper L) (λ s m. shared-length L xs s))
+    (mul-le-mul-right (length xs) (keep-length (λ s. not (eqb s (L .finest))) (L .nodes)))

@@ -1,20 +1,26 @@
 -- Sums and counts are a measure, and stay within 64 bits.
 use mathlib.Core.Path.{_≡_}
-use mathlib.Core.Bool.{Bool, true, false, cond}
-use Prim.Native.Nat.{ℕ, suc, _+_, _-_, _≤_}
+use mathlib.Core.Bool.{Bool, true, false, cond, _&&_, false≢true}
+use mathlib.Core.List.{List, [], _∷_, foldl, List·Memᴰ·head, List·Memᴰ·tail}
+use Prim.Native.Nat.{ℕ, zero, suc, suc-le-suc, _+_, _-_, _*_, _≤_}
 use native.Mathlib.Omega.{arith}
-use borrow.Author.Tests.{ltb-true}
+use borrow.Author.Tests.{ltb-true, leb-true}
 use mathlib.Core.Path.{refl}
-use lib.Dec.{ltb}
+use lib.Dec.{leb, ltb}
 use native.Mathlib.Nat.{zero-add, add-comm, add-assoc}
-use lib.IntN.{ℤ, pos, negsuc, natAbs, subℕ, _+ℤ_, +ℤ-idl, +ℤ-comm, +ℤ-assoc}
-use lib.Signed.{mag}
+use lib.IntN.{ℤ, pos, negsuc, natAbs, negℤ, subℕ, _+ℤ_, _*ℤ_, +ℤ-idl, +ℤ-comm, +ℤ-assoc}
+use lib.Signed.{mag, leZ}
 use mir.Syntax.{w64}
 use mir.Val.{SFits, toZ, ofZ}
 use mir.Facts.{toZ-ofZ}
 use Rattle.cube.specs.declared.Total.{Total}
-use Rattle.cube.specs.Measure.{nothing, plus, Adds, sums}
-use Rattle.cube.specs.Bounds.{most, Bounded}
+use Rattle.cube.specs.Measure.{nothing, plus, Adds, sums, Row}
+use Rattle.cube.specs.Bounds.{most, canMake, Bounded, countOf, Summable}
+use Rattle.cube.specs.Lattice.{Lattice}
+use Rattle.cube.specs.Cube.{total}
+use Rattle.lists.specs.Lists.{_∈_, keep}
+use Rattle.lists.proofs.Tests.{cases, truth, both}
+use Rattle.lists.proofs.Members.{keep-in}
 
 pub sums-add : Adds sums
 sums-add = record {
@@ -54,3 +60,38 @@ bounded-nothing = record { sum = omega arith; count = omega arith }
 
 pub bounded-plus : (t row : Total) → Bounded t → Bounded row → t .count + row .count ≤ most → Bounded (plus t row)
 bounded-plus t row b c h = record { sum = omega (arith, b .sum, c .sum, abs-add (t .sum) (row .sum)); count = h }
+
+-- the total of any rows that can be totalled is bounded
+totals-bounded : (t : Total) (rows : List (Row Total)) → Bounded t → ((r : Row Total) → r ∈ rows → Bounded (r .total)) → t .count + countOf rows ≤ most
+    → Bounded (foldl (λ u r. plus u (r .total)) t rows)
+totals-bounded t [] b e h = b
+totals-bounded t (r ∷ rows) b e h = totals-bounded (plus t (r .total)) rows
+    (bounded-plus t (r .total) b (e r (List·Memᴰ·head refl)) (omega (arith, h)))
+    (λ q m. e q (List·Memᴰ·tail m)) (omega (arith, h))
+
+countOf-keep : (p : Row Total → Bool) (rows : List (Row Total)) → countOf (keep p rows) ≤ countOf rows
+countOf-keep p [] = omega arith
+countOf-keep p (r ∷ rows) = cases (truth (p r)) (λ e. rw e (omega (arith, countOf-keep p rows))) (λ e. rw e (omega (arith, countOf-keep p rows)))
+
+pub total-bounded : (L : Lattice) (rows : List (Row Total)) (c : List ℕ) → Summable rows → Bounded (total L sums rows c)
+unfolding total
+total-bounded L rows c s = totals-bounded nothing (keep (λ r. L .falls c (r .codes)) rows) bounded-nothing
+    (λ r m. s .each r (keep-in (λ r. L .falls c (r .codes)) rows m .0))
+    (omega (arith, countOf-keep (λ r. L .falls c (r .codes)) rows, s .few))
+
+-- a sum that so many readings can make
+abs-neg : (k : ℕ) → natAbs (negℤ (pos k)) ≤ k
+abs-neg zero = omega arith
+abs-neg (suc k) = omega arith
+
+low-abs : (k m : ℕ) → leZ (negℤ (pos k)) (negsuc m) ≡ true → suc m ≤ k
+low-abs zero m h = absurd (false≢true h)
+low-abs (suc k) m h = suc-le-suc (leb-true m k h)
+
+pub made-bounded : (t : Total) → canMake (t .count) (t .sum) ≡ true → t .count ≤ most → Bounded t
+unfolding canMake
+made-bounded t h k = record { sum = go (t .sum) h; count = k }
+  where
+    go : (z : ℤ) → leZ (negsuc 2147483647 *ℤ pos (t .count)) z && leZ z (pos 2147483647 *ℤ pos (t .count)) ≡ true → natAbs z ≤ 2147483648 * t .count
+    go (pos m) h = omega (arith, leb-true m (2147483647 * t .count) (both (leZ (negsuc 2147483647 *ℤ pos (t .count)) (pos m)) (leb m (2147483647 * t .count)) h .1))
+    go (negsuc m) h = low-abs (2147483648 * t .count) m (both (leZ (negsuc 2147483647 *ℤ pos (t .count)) (negsuc m)) (leZ (negsuc m) (pos 2147483647 *ℤ pos (t .count))) h .0)

@@ -7,14 +7,15 @@ use Prim.Native.Nat.{ℕ, zero, suc, _/_, _%_, _^_, _<_, _≤_}
 use native.Mathlib.Omega.{arith}
 use lib.Dec.{leb, ltb}
 use lib.Count.{ones, ones-step, ones-le}
+use lib.ListN.{length}
 use lib.Pow.{pow-pos, pow-mono, ones-lt}
 use borrow.Author.Tests.{leb-true, le-leb, lt-ltb, ltb-true}
 use Rattle.lists.specs.Lists.{_∈_, keep, below}
 use Rattle.lists.specs.Order.{Strict, Rising}
 use Rattle.lists.proofs.Tests.{cases, both, both-of}
-use Rattle.lists.proofs.Members.{keep-in, keep-of, below-in, below-of}
+use Rattle.lists.proofs.Members.{keep-in, keep-of, below-in, below-of, below-length}
 use Rattle.lists.proofs.Pairwise.{pairwise-keep}
-use Rattle.lists.proofs.Order.{earlier-cons, by-codes, sort-in, sort-of, sort-rising, rising-unique}
+use Rattle.lists.proofs.Order.{earlier-cons, by-codes, sort-in, sort-of, sort-rising, sort-length, rising-unique}
 use Rattle.lattice.specs.Sets.{rank, before, full, sets, holds}
 
 -- ---- lattice order
@@ -89,6 +90,10 @@ sets-of d h = sort-of before by-lattice (below-of (2 ^ d) h)
 pub sets-rising : (d : ℕ) → Rising before (sets d)
 unfolding sets
 sets-rising d = sort-rising before by-lattice (below (2 ^ d))
+
+pub sets-length : (d : ℕ) → length (sets d) ≤ 2 ^ d
+unfolding sets
+sets-length d = omega (arith, sort-length before (below (2 ^ d)), below-length (2 ^ d))
 
 -- the sets of fewer dimensions are those below 2 to that power, in the same order
 pub sets-part : (d e : ℕ) → d ≤ e → sets d ≡ keep (λ s. ltb s (2 ^ d)) (sets e)

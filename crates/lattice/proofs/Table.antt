@@ -47,13 +47,13 @@ table-is l e =
 pub table-at : (l : List ℕ) (k : ℕ) → right l ≡ true → getD l k 0 ≡ getD (sets 8) k 0
 table-at l k e = ap (λ (t : List ℕ). getD t k 0) (table-is l e)
 
-sets-length : length (sets 8) ≡ 256
+all-sets : length (sets 8) ≡ 256
 unfolding sets ones onesIn
-sets-length = refl
+all-sets = refl
 
 -- the set at an earlier place comes before that at a later place, and each set has a place
 pub set-rises : (k j : ℕ) → k < j → j < 256 → before (getD (sets 8) k 0) (getD (sets 8) j 0) ≡ true
-set-rises k j h l = pairwise-at 0 (λ s t. before s t ≡ true) (sets 8) k j (sets-rising 8) h (rw sets-length l)
+set-rises k j h l = pairwise-at 0 (λ s t. before s t ≡ true) (sets 8) k j (sets-rising 8) h (rw all-sets l)
 
 pub set-place : (s : ℕ) → s < 256 → (k : ℕ) × (k < 256) × (getD (sets 8) k 0 ≡ s)
-set-place s h = let r = in-at 0 (sets-of 8 h) in (r .0, rw sets-length at (r .1), r .2)
+set-place s h = let r = in-at 0 (sets-of 8 h) in (r .0, rw all-sets at (r .1), r .2)

@@ -1,12 +1,13 @@
 -- Members of the lists that tests, functions and bounds make.
-use mathlib.Core.Path.{_≡_, refl, sym, ap₂}
+use mathlib.Core.Path.{_≡_, refl, sym, ap, ap₂}
 use mathlib.Core.Logic.{_≢_, _⊎_, inl, inr}
 use mathlib.Core.Bool.{Bool, true, false}
 use mathlib.Core.List.{List, [], _∷_, _++_, map, flatMap, List·Memᴰ·head, List·Memᴰ·tail, List·Memᴰ·not-nil, List·Memᴰ·append-cases, Memᴰ·append-left, Memᴰ·append-right}
-use Prim.Native.Nat.{ℕ, zero, suc, _<_}
+use Prim.Native.Nat.{ℕ, zero, suc, _*_, _≤_, _<_}
 use native.Mathlib.Omega.{arith}
 use lib.Dec.{eqb}
-use lib.ListN.{length, getD}
+use lib.ListN.{length, getD, length-append}
+use native.Mathlib.Nat.{suc-mul}
 use borrow.Author.Tests.{eqb-true, eqb-false}
 use Rattle.lists.specs.Lists.{_∈_, only, keep, below}
 use Rattle.lists.proofs.Tests.{cases, truth}
@@ -54,6 +55,10 @@ module _ {A : Type 0} where
       (λ e. rw (e, keep-append p l m))
       (λ e. rw (e, keep-append p l m))
 
+  pub keep-length : (p : A → Bool) (l : List A) → length (keep p l) ≤ length l
+  keep-length p [] = omega arith
+  keep-length p (x ∷ l) = cases (truth (p x)) (λ e. rw e (omega (arith, keep-length p l))) (λ e. rw e (omega (arith, keep-length p l)))
+
   -- tests that agree on the members keep the same
   pub keep-same : (p q : A → Bool) (l : List A) → ((x : A) → x ∈ l → p x ≡ q x) → keep p l ≡ keep q l
   keep-same p q [] h = refl
@@ -86,6 +91,19 @@ module _ {A B : Type 0} where
   pub keep-map : (p : B → Bool) (f : A → B) (l : List A) → keep p (map f l) ≡ map f (keep (λ x. p (f x)) l)
   keep-map p f [] = refl
   keep-map p f (x ∷ l) = cases (truth (p (f x))) (λ e. rw (e, keep-map p f l)) (λ e. rw (e, keep-map p f l))
+
+-- lists of at most n members each
+pub flat-length : {A B : Type 0} (f : A → List B) (n : ℕ) (l : List A) → ((x : A) → x ∈ l → length (f x) ≤ n) → length (flatMap f l) ≤ length l * n
+unfolding flatMap
+flat-length f n [] h = omega arith
+flat-length f n (x ∷ l) h =
+    let r = flat-length f n l (λ y m. h y (List·Memᴰ·tail m)) in
+    let m = suc-mul (length l) n in
+    omega (arith, h x (List·Memᴰ·head refl), length-append (f x) (flatMap f l))
+
+pub below-length : (n : ℕ) → length (below n) ≡ n
+below-length zero = refl
+below-length (suc n) = ap suc (below-length n)
 
 pub below-in : {s : ℕ} (n : ℕ) → s ∈ below n → s < n
 below-in zero m = absurd (List·Memᴰ·not-nil m)

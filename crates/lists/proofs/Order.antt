@@ -3,9 +3,10 @@ use mathlib.Core.Path.{_≡_, refl, sym, _∙_, ap₂}
 use mathlib.Core.Logic.{_≢_, _⊎_, inl, inr}
 use mathlib.Core.Bool.{Bool, true, false, _&&_, false≢true, or-true}
 use mathlib.Core.List.{List, [], _∷_, List·Memᴰ·head, List·Memᴰ·tail, List·Memᴰ·not-nil, List·Memᴰ·cases-cons}
-use Prim.Native.Nat.{ℕ, _<_}
+use Prim.Native.Nat.{ℕ, suc, _≤_, _<_}
 use native.Mathlib.Omega.{arith}
 use lib.Dec.{eqb, ltb}
+use lib.ListN.{length}
 use borrow.Author.Tests.{ltb-true, ltb-false, eqb-true, lt-ltb, le-ltb, eq-eqb, ne-eqb}
 use Rattle.lists.specs.Lists.{_∈_, Distinct}
 use Rattle.lists.specs.Order.{earlier, same, Strict, Rising, place, insert, sort}
@@ -136,6 +137,20 @@ module _ {A : Type 0} (less : A → A → Bool) where
     -- no element of a rising list occurs twice
     pub rising-distinct : (l : List A) → Rising less l → Distinct l
     rising-distinct l r = pairwise-imp (λ x y. less x y ≡ true) _≢_ l (λ x y m n p e. o .irrefl y (rw e at p)) r
+
+  -- sorting may drop repeated members
+  insert-length : (x : A) (l : List A) → length (insert less x l) ≤ suc (length l)
+  insert-length x [] = omega arith
+  insert-length x (y ∷ l) = go (less x y) (less y x) (insert-length x l)
+    where
+      go : (a b : Bool) → length (insert less x l) ≤ suc (length l) → length (place a b x y l (insert less x l)) ≤ suc (suc (length l))
+      go true b h = omega arith
+      go false true h = omega (arith, h)
+      go false false h = omega arith
+
+  pub sort-length : (l : List A) → length (sort less l) ≤ length l
+  sort-length [] = omega arith
+  sort-length (x ∷ l) = omega (arith, insert-length x (sort less l), sort-length l)
 
   pub sort-in : {z : A} (l : List A) → z ∈ sort less l → z ∈ l
   sort-in [] m = m
