@@ -1,5 +1,5 @@
 -- The entries of an archive as bytes: what is written is read back, and what was read stands there.
-use mathlib.Core.Path.{_≡_, refl, sym, ap, ap₂, _∙_, subst}
+use mathlib.Core.Path.{_≡_, refl, sym, ap, _∙_, subst}
 use mathlib.Core.Bool.{true}
 use mathlib.Core.List.{List, [], _∷_, _++_, flatMap, append-assoc}
 use Prim.Native.Nat.{ℕ, zero, suc, _+_, _^_, _≤_, _<_}
@@ -12,9 +12,9 @@ use Rattle.lists.specs.Order.{earlier}
 use Rattle.fields.specs.Words.{wordBytes, wordsBytes}
 use Rattle.fields.specs.Twos.{sumBytes}
 use Rattle.walk.specs.Parsed.{Parsed, stop, got, andThen, stopUnless, many}
-use Rattle.walk.specs.Fields.{word, sum, field, codes}
+use Rattle.walk.specs.Fields.{word, sum, codes}
 use Rattle.walk.specs.Limits.{Below, Bytes}
-use Rattle.walk.proofs.Steps.{then-on, through, cons-back, cons-forth}
+use Rattle.walk.proofs.Steps.{cons-back, cons-forth}
 use Rattle.walk.proofs.Codecs.{Codec, bytes-behind, word-codec, sum-codec, field-codec, words-codec, codes-codec, many-codec, codec-same, codec-test, codec-pair, codec-count, tested, pair}
 use Rattle.cube.specs.declared.Total.{Total}
 use Rattle.cube.specs.Measure.{Row}

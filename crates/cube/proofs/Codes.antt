@@ -1,11 +1,12 @@
 -- The sets of D dimensions have the laws of a lattice of groupings.
-use mathlib.Core.Path.{_≡_, refl, sym, _∙_, ap₂}
+use mathlib.Core.Path.{_≡_, refl, sym, _∙_, ap, ap₂}
 use mathlib.Core.Logic.{_≢_}
 use mathlib.Core.Bool.{true, false, _&&_, _||_, false≢true}
 use mathlib.Core.List.{List, [], _∷_}
 use Prim.Native.Nat.{ℕ, zero, suc, _/_, _%_, _^_, _<_, _≤_}
 use native.Mathlib.Omega.{arith}
 use lib.Dec.{eqb}
+use lib.ListN.{length}
 use borrow.Author.Tests.{eqb-true, eq-eqb, ne-eqb}
 use Rattle.lists.specs.Order.{same}
 use Rattle.lists.proofs.Tests.{cases, truth, both, both-of}
@@ -70,6 +71,21 @@ cell-agree s (a ∷ x) (b ∷ y) e =
     let p : shown (s % 2) a ≡ shown (s % 2) b = cc in
     let q : cell (s / 2) x ≡ cell (s / 2) y = cc in
     both-of (alike-shown (s % 2) a b p) (cell-agree (s / 2) x y q)
+
+-- rows agree on a set just where their cells are the same
+alike-eqb : (n a b : ℕ) → alike n a b ≡ eqb (shown n a) (shown n b)
+alike-eqb zero a b = refl
+alike-eqb (suc n) a b = refl
+
+pub agree-same : (s : ℕ) (x y : List ℕ) → agree s x y ≡ same (cell s x) (cell s y)
+agree-same s [] [] = refl
+agree-same s [] (b ∷ y) = refl
+agree-same s (a ∷ x) [] = refl
+agree-same s (a ∷ x) (b ∷ y) = ap₂ _&&_ (alike-eqb (s % 2) a b) (agree-same (s / 2) x y)
+
+pub length-cell : (s : ℕ) (x : List ℕ) → length (cell s x) ≡ length x
+length-cell s [] = refl
+length-cell s (a ∷ x) = ap suc (length-cell (s / 2) x)
 
 -- a cell has one set
 bit-shown : (n a : ℕ) → a < ALL → n < 2 → bit (eqb (shown n a) ALL) ≡ n

@@ -1,7 +1,7 @@
 -- Sums and counts are a measure, and stay within 64 bits.
 use mathlib.Core.Path.{_≡_}
 use mathlib.Core.Bool.{Bool, true, false, cond, _&&_, false≢true}
-use mathlib.Core.List.{List, [], _∷_, foldl, List·Memᴰ·head, List·Memᴰ·tail}
+use mathlib.Core.List.{List, [], _∷_, _++_, foldl, List·Memᴰ·head, List·Memᴰ·tail}
 use Prim.Native.Nat.{ℕ, zero, suc, suc-le-suc, _+_, _-_, _*_, _≤_}
 use native.Mathlib.Omega.{arith}
 use borrow.Author.Tests.{ltb-true, leb-true}
@@ -68,6 +68,10 @@ totals-bounded t [] b e h = b
 totals-bounded t (r ∷ rows) b e h = totals-bounded (plus t (r .total)) rows
     (bounded-plus t (r .total) b (e r (List·Memᴰ·head refl)) (omega (arith, h)))
     (λ q m. e q (List·Memᴰ·tail m)) (omega (arith, h))
+
+pub count-append : (l m : List (Row Total)) → countOf (l ++ m) ≡ countOf l + countOf m
+count-append [] m = omega arith
+count-append (r ∷ l) m = omega (arith, count-append l m)
 
 countOf-keep : (p : Row Total → Bool) (rows : List (Row Total)) → countOf (keep p rows) ≤ countOf rows
 countOf-keep p [] = omega arith

@@ -3,5 +3,6 @@ pub mod Tests
 pub mod Members
 pub mod Pairwise
 pub mod Places
+pub mod Parts
 pub mod Pigeonhole
 pub mod Order

@@ -79,6 +79,17 @@ module _ {A : Type 0} {less : A → A → Bool} (o : Strict less) where
   pub strict-turned : (x y : A) → less x y ≡ true → less y x ≡ false
   strict-turned x y e = cases (truth (less y x)) (λ f. absurd (o .irrefl x (o .trans x y x e f))) (λ f. f)
 
+-- x comes before y, and z does not: x comes before z
+pub before-cut : (x y z : List ℕ) → earlier x y ≡ true → earlier z y ≡ false → earlier x z ≡ true
+before-cut x y z e f = cases (truth (earlier y z)) (by-codes .trans x y z e) (λ g. rw (← by-codes .total y z g f) e)
+
+-- not coming before is transitive
+pub not-cut : (x y z : List ℕ) → earlier x y ≡ false → earlier y z ≡ false → earlier x z ≡ false
+not-cut x y z e f = cases (truth (earlier x z)) (λ g. absurd (false≢true (sym e ∙ before-cut x z y g f))) (λ g. g)
+
+pub not-same : (x y : List ℕ) → earlier x y ≡ true → same y x ≡ false
+not-same x y e = cases (truth (same y x)) (λ f. absurd (by-codes .irrefl x (rw (same-eq y x f) at e))) (λ f. f)
+
 -- ---- lists that rise strictly
 
 module _ {A : Type 0} (less : A → A → Bool) where

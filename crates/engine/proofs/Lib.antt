@@ -1,0 +1,12 @@
+-- Laws of ordered rows, their runs, and the groups that these are.
+pub mod Numbers
+pub mod Arranged
+pub mod Search
+pub mod Moved
+pub mod Runs
+pub mod Totals
+pub mod Counts
+pub mod Groups
+pub mod Indexed
+pub mod Gathered
+pub mod CellCodes
