@@ -1,3 +1,4 @@
 -- Laws of archives.
 pub mod Written
+pub mod Walkable
 pub mod Examples

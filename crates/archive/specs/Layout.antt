@@ -4,6 +4,7 @@
 --   Based             a base entry: a base row and its list of sets
 --   cellBytes r       a normal entry or a listed cell: codes or ALL, sum, count
 --   baseBytes b       a base entry: codes, sum, count, list count, list
+--   section bytes xs  a count, and the things counted
 --   Held              what an archive's fields hold: sizes, base entries, normal entries
 --   layout a          the file: opening, D, sizes, base count, base entries, normal count, normal entries, check word
 --   required zs rows  what an archive of these sizes and base rows holds: our entries
@@ -41,14 +42,17 @@ cellBytes r = wordsBytes (r .codes) ++ (sumBytes (r .total .sum) ++ wordBytes (r
 unfoldable pub baseBytes : Based → List ℕ
 baseBytes b = cellBytes (b .row) ++ (wordBytes (length (b .list)) ++ wordsBytes (b .list))
 
+-- a count, and the things counted
+abbrev pub section : {A : Type 0} → (A → List ℕ) → List A → List ℕ
+section bytes xs = wordBytes (length xs) ++ flatMap bytes xs
+
 pub record Held : Type 0 where
   pub sizes : List ℕ
   pub bases : List Based
   pub cells : List (Row Total)
 
 unfoldable pub layout : Held → List ℕ
-layout a =
-    checked (headerBytes CUBE (a .sizes) ++ (wordBytes (length (a .bases)) ++ (flatMap baseBytes (a .bases) ++ (wordBytes (length (a .cells)) ++ flatMap cellBytes (a .cells)))))
+layout a = checked (headerBytes CUBE (a .sizes) ++ (section baseBytes (a .bases) ++ section cellBytes (a .cells)))
 
 -- our base entry of a row: the row with our list
 abbrev pub based : ℕ → List (Row Total) → Row Total → Based

@@ -15,7 +15,7 @@ use Rattle.walk.specs.Fields.{reading, field, codes, header, headerBytes, close
 use Rattle.walk.specs.Limits.{Sized, Bytes}
 use Rattle.walk.proofs.Steps.{then-on, through}
 use Rattle.walk.proofs.Codecs.{Codec, bytes-behind, reading-codec, field-codec, many-codec, codes-codec}
-use Rattle.walk.proofs.Ends.{header-codec, close-forth, close-back}
+use Rattle.walk.proofs.Ends.{header-codec, close-forth, close-back, sizes-words}
 use Rattle.cube.specs.declared.Total.{Total}
 use Rattle.cube.specs.Measure.{Row}
 use Rattle.table.specs.Layout.{FACT, Held, rowBytes, tableBytes, Reads, Limits}
@@ -51,10 +51,6 @@ module _ (zs : List ℕ) (h : (z : ℕ) → z ∈ zs → z ≤ 2 ^ 32) where
 
   pub row-codec : Codec (row zs) rowBytes (Reads zs)
   row-codec = record { back = row-back; forth = row-forth }
-
--- sizes are words
-sizes-words : {zs : List ℕ} → Sized zs → (z : ℕ) → z ∈ zs → z ≤ 2 ^ 32
-sizes-words s z m = omega (arith, s .each z m .1)
 
 count-codec : Codec (field 0 1025 5) wordBytes (λ n. (0 ≤ n) × (n < 1025))
 count-codec = field-codec 0 1025 5 (omega arith)

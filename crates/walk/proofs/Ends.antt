@@ -1,12 +1,13 @@
 -- The header and the check word as bytes.
 use mathlib.Core.Path.{_≡_, refl, sym, ap, ap₂, _∙_, subst}
 use mathlib.Core.List.{List, [], _++_, append-assoc, append-nil}
-use Prim.Native.Nat.{ℕ, _-_, _≤_, _<_}
+use Prim.Native.Nat.{ℕ, _-_, _^_, _≤_, _<_}
 use native.Mathlib.Omega.{arith}
 use lib.Dec.{eqb}
 use lib.ListN.{length, take, drop, length-append}
 use lib.Seq.{drop-at, take-at}
 use borrow.Author.Tests.{eqb-true, eq-eqb}
+use Rattle.lists.specs.Lists.{_∈_}
 use Rattle.fields.specs.Words.{wordBytes, wordsBytes}
 use Rattle.fields.specs.Opening.{startsWith}
 use Rattle.fields.specs.OpeningLaws.{starts-append, starts-is}
@@ -55,6 +56,10 @@ header-codec opening four = record {
       ∙ words-codec size-codec (length zs) .back zs l (refl, λ z m. (h .each z m .0, omega (arith, h .each z m .1)));
   forth = header-forth opening four;
 }
+
+-- sizes are words
+pub sizes-words : {zs : List ℕ} → Sized zs → (z : ℕ) → z ∈ zs → z ≤ 2 ^ 32
+sizes-words s z m = omega (arith, s .each z m .1)
 
 -- the check word behind a body
 module _ (body l : List ℕ) where
