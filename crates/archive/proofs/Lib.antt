@@ -1,4 +1,6 @@
 -- Laws of archives.
 pub mod Written
 pub mod Walkable
+pub mod Limits
+pub mod Accepted
 pub mod Examples

@@ -12,7 +12,7 @@ use Rattle.fields.specs.Twos.{readingBytes}
 use Rattle.fields.specs.Check.{checkOf}
 use Rattle.walk.specs.Parsed.{Parsed, got, andThen, many}
 use Rattle.walk.specs.Fields.{reading, field, codes, header, headerBytes, close}
-use Rattle.walk.specs.Limits.{Sized, Bytes}
+use Rattle.walk.specs.Limits.{Bytes}
 use Rattle.walk.proofs.Steps.{then-on, through}
 use Rattle.walk.proofs.Codecs.{Codec, bytes-behind, reading-codec, field-codec, many-codec, codes-codec}
 use Rattle.walk.proofs.Ends.{header-codec, close-forth, close-back, sizes-words}
