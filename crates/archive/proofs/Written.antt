@@ -162,12 +162,12 @@ module _ (zs : List ℕ) (h : (z : ℕ) → z ∈ zs → z ≤ 2 ^ 32) where
   entries-forth zero x before bs l rest k e = let p : [] ≡ bs = cc in let q : l ≡ rest = cc in rw (← p) (refl, tt, q)
   entries-forth (suc n) x before bs l rest k e =
       let t = cons-forth (λ b. entries zs n (b .row .codes) (before + b .row .total .count)) (entry zs x before l) e in
-      let g = entry-codec zs x before h .forth (t .0) l (t .1) k (t .3) in
-      let r = entries-forth n (t .0 .row .codes) (before + t .0 .row .total .count) (t .2) (t .1) rest (bytes-behind (baseBytes (t .0)) (t .1) (subst Bytes (g .1) k)) (t .4) in
+      let g = entry-codec zs x before h .forth (t .0) l (t .2) k (t .3) in
+      let r = entries-forth n (t .0 .row .codes) (before + t .0 .row .total .count) (t .1) (t .2) rest (bytes-behind (baseBytes (t .0)) (t .2) (subst Bytes (g .1) k)) (t .4) in
       rw (t .5) (
         ap suc (r .0),
         (g .0, r .1),
-        g .1 ∙ ap (λ (m : List ℕ). baseBytes (t .0) ++ m) (r .2) ∙ sym (append-assoc (baseBytes (t .0)) (flatMap baseBytes (t .2)) rest),
+        g .1 ∙ ap (λ (m : List ℕ). baseBytes (t .0) ++ m) (r .2) ∙ sym (append-assoc (baseBytes (t .0)) (flatMap baseBytes (t .1)) rest),
       )
 
   -- the base count and the base entries

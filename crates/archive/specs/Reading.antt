@@ -8,7 +8,11 @@
 --   bases zs            the base count (5) and the base entries
 --   cell d, cells d     a normal entry, and the normal count with the normal entries: fields of any value
 --   walkArchive s       what the fields of s hold, or the first of the stops 1 to 11
+--   ArchiveRead         what the walk over an archive answers: the enum of src/lib.rt
+--   answer p            the answer's number and values for what was read: the stop's number, or D, the base count and the normal count
+--   Stored p ..         the arrays have the base rows that were read
 --   readArchive s       the sizes and base rows of s, or the first stop: 12 if the entries are not what the base rows require
+use mathlib.Core.Path.{_≡_}
 use mathlib.Core.Bool.{Bool, _&&_}
 use mathlib.Core.List.{List, [], map}
 use Prim.Native.Nat.{ℕ, zero, suc, _+_}
@@ -16,11 +20,14 @@ use lib.Dec.{leb}
 use lib.IntN.{ℤ}
 use lib.ListN.{length}
 use Rattle.lists.specs.Order.{earlier, same}
-use Rattle.walk.specs.Parsed.{Parsed, got, andThen, stopUnless, consed, many}
+use Rattle.walk.specs.Parsed.{Parsed, stop, got, andThen, stopUnless, consed, many}
 use Rattle.walk.specs.Fields.{word, sum, field, codes, header, close}
 use Rattle.cube.specs.declared.Total.{Total}
 use Rattle.cube.specs.Measure.{Row}
 use Rattle.cube.specs.Bounds.{most, canMake}
+use Rattle.rows.specs.Rows.{rowsOf}
+use Rattle.archive.specs.declared.ArchiveRead.{ArchiveRead}
+use Rattle.archive.specs.declared.ArchiveRead.the-variants as Answer
 use Rattle.archive.specs.Layout.{CUBE, Based, Held, archiveBytes}
 
 unfoldable pub rising : List ℕ → List ℕ → List ℕ → Parsed (List ℕ)
@@ -64,6 +71,14 @@ walkArchive s =
 -- the base rows that an archive's fields hold
 abbrev pub rowsIn : Held → List (Row Total)
 rowsIn a = map (λ b. b .row) (a .bases)
+
+abbrev pub answer : Parsed Held → ArchiveRead
+answer (stop n) = Answer.Stop n
+answer (got a rest) = Answer.Entries (length (a .sizes)) (length (a .bases)) (length (a .cells))
+
+abbrev pub Stored : Parsed Held → List ℕ → List ℤ → List ℕ → Type 0
+Stored (stop n) codes amounts counts = Unit {0}
+Stored (got a rest) codes amounts counts = rowsOf (length (a .sizes)) (length (a .bases)) codes amounts counts ≡ rowsIn a
 
 unfoldable pub readArchive : List ℕ → Parsed Held
 readArchive s = andThen (walkArchive s) (λ a rest. stopUnless (same s (archiveBytes (a .sizes) (rowsIn a))) 12 (got a rest))

@@ -157,11 +157,11 @@ module _ {A : Type 0} {f : List ℕ → Parsed A} {bytes : A → List ℕ} {P : 
       rw (← p) ((refl, λ x m. absurd (List·Memᴰ·not-nil m)), q)
   many-forth (suc n) xs l rest b e =
       let t = cons-forth (λ x. many n f) (f l) e in
-      let g = c .forth (t .0) l (t .1) b (t .3) in
-      let r = many-forth n (t .2) (t .1) rest (bytes-behind (bytes (t .0)) (t .1) (subst Bytes (g .1) b)) (t .4) in
+      let g = c .forth (t .0) l (t .2) b (t .3) in
+      let r = many-forth n (t .1) (t .2) rest (bytes-behind (bytes (t .0)) (t .2) (subst Bytes (g .1) b)) (t .4) in
       rw (t .5) (
         (ap suc (r .0 .0), λ x m. cases (List·Memᴰ·cases-cons m) (λ q. subst P (sym q) (g .0)) (r .0 .1 x)),
-        g .1 ∙ ap (λ (k : List ℕ). bytes (t .0) ++ k) (r .1) ∙ sym (append-assoc (bytes (t .0)) (flatMap bytes (t .2)) rest),
+        g .1 ∙ ap (λ (k : List ℕ). bytes (t .0) ++ k) (r .1) ∙ sym (append-assoc (bytes (t .0)) (flatMap bytes (t .1)) rest),
       )
 
   -- n things
@@ -198,9 +198,9 @@ unfolding codes wordsBytes
 codes-forth [] x l rest h b e = let p : [] ≡ x = cc in let q : l ≡ rest = cc in rw (← p) (tt, q)
 codes-forth (z ∷ zs) x l rest h b e =
     let t = cons-forth (λ a. codes zs) (field 0 z 6 l) e in
-    let g = field-codec 0 z 6 (h z (List·Memᴰ·head refl)) .forth (t .0) l (t .1) b (t .3) in
-    let r = codes-forth zs (t .2) (t .1) rest (λ y m. h y (List·Memᴰ·tail m)) (bytes-behind (wordBytes (t .0)) (t .1) (subst Bytes (g .1) b)) (t .4) in
-    rw (t .5) ((g .0 .1, r .0), g .1 ∙ ap (λ (k : List ℕ). wordBytes (t .0) ++ k) (r .1) ∙ sym (append-assoc (wordBytes (t .0)) (wordsBytes (t .2)) rest))
+    let g = field-codec 0 z 6 (h z (List·Memᴰ·head refl)) .forth (t .0) l (t .2) b (t .3) in
+    let r = codes-forth zs (t .1) (t .2) rest (λ y m. h y (List·Memᴰ·tail m)) (bytes-behind (wordBytes (t .0)) (t .2) (subst Bytes (g .1) b)) (t .4) in
+    rw (t .5) ((g .0 .1, r .0), g .1 ∙ ap (λ (k : List ℕ). wordBytes (t .0) ++ k) (r .1) ∙ sym (append-assoc (wordBytes (t .0)) (wordsBytes (t .1)) rest))
 
 pub codes-codec : (zs : List ℕ) → ((z : ℕ) → z ∈ zs → z ≤ 2 ^ 32) → Codec (codes zs) wordsBytes (Below zs)
 codes-codec zs h = record { back = λ x l b. codes-back zs x l h b; forth = λ x l rest b e. codes-forth zs x l rest h b e }

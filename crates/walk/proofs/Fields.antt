@@ -1,26 +1,25 @@
 -- The ends of a field whose value is tested, of codes, of the header and of the check word.
-use mathlib.Core.Path.{_≡_, sym, ap, ap₂, _∙_, subst}
+use mathlib.Core.Path.{_≡_, ap, _∙_, subst}
 use mathlib.Core.Bool.{true, false, _&&_, and-false}
-use mathlib.Core.List.{List, [], _∷_}
-use Prim.Native.Nat.{ℕ, zero, suc, _+_, _-_, _*_, _≤_, _<_}
-use native.Mathlib.Nat.{add-zero, mul-zero}
+use mathlib.Core.List.{List}
+use Prim.Native.Nat.{ℕ, _+_, _-_, _≤_, _<_}
+use native.Mathlib.Nat.{add-zero}
 use native.Mathlib.Omega.{arith}
 use lib.Dec.{eqb, leb, ltb}
-use lib.ListN.{length, getD, take, drop, length-append, length-drop, drop-of-length-le}
+use lib.ListN.{length, getD, take, drop, length-drop, drop-of-length-le}
 use lib.Seq.{drop-cons, drop-drop}
 use native.Mathlib.Numerals.{add-one}
 use borrow.Author.Tests.{le-leb, lt-leb, lt-ltb, le-ltb, leb-true, ltb-true, eq-eqb, ne-eqb}
 use Rattle.lists.proofs.Tests.{both}
-use Rattle.fields.specs.Words.{wordAt, wordsAt}
+use Rattle.fields.specs.Words.{wordAt}
 use Rattle.fields.specs.WordsLaws.{wordAt-drop}
 use Rattle.fields.specs.Opening.{startsWith}
-use Rattle.fields.specs.OpeningLaws.{starts-is}
 use Rattle.fields.specs.Check.{checkOf}
 use Rattle.walk.specs.declared.Walk.the-variants.{At}
-use Rattle.walk.specs.Parsed.{Parsed, stop, got, andThen, stopUnless, consed, many}
+use Rattle.walk.specs.Parsed.{Parsed, stop, got, andThen, stopUnless, consed}
 use Rattle.walk.specs.Fields.{room, word, field, codes, sizes, header, close}
 use Rattle.walk.specs.Walked.{Says}
-use Rattle.walk.proofs.Steps.{then-on, then-off, through, passed, cons-forth, room-got, Follows, step-on, step-off, step-done}
+use Rattle.walk.proofs.Steps.{then-on, then-off, through, passed, room-got, Follows, step-on, step-off, step-done}
 
 -- a word at a place
 pub word-at-place : (s : List ℕ) (at : ℕ) → wordAt (drop at s) 0 ≡ wordAt s at
@@ -97,21 +96,6 @@ field-at s low limit n at {v} {k} h e l =
     let j : length s - k ≡ length s - (at + 4) = rw (length-drop, length-drop) at (ap length (f .2)) in
     record { whole = f .0; end = omega (arith, f .0); value = f .1; least = b .0; below = b .1 }
 
--- fields one after the other are the words there
-pub fields-at : (s : List ℕ) (low limit n count at : ℕ) {ws rest : List ℕ} → at ≤ length s → many count (field low limit n) (drop at s) ≡ got ws rest
-    → (length ws ≡ count) × (ws ≡ wordsAt s count at) × (at + 4 * count ≤ length s) × (rest ≡ drop (at + 4 * count) s)
-unfolding many wordsAt
-fields-at s low limit n zero at {ws} {rest} h e =
-    let p : ws ≡ [] = cc in
-    let q : rest ≡ drop at s = cc in
-    (ap length p, p, omega arith, q ∙ rw (mul-zero, add-zero))
-fields-at s low limit n (suc count) at {ws} {rest} h e =
-    let t = cons-forth (λ x. many count (field low limit n)) (field low limit n (drop at s)) e in
-    let f = field-rest s low limit n at h (t .3) in
-    let r = fields-at s low limit n count (at + 4) (f .0) (ap (many count (field low limit n)) (sym (f .2)) ∙ t .4) in
-    let k : at + 4 + 4 * count ≡ at + 4 * suc count = omega arith in
-    (ap length (t .5) ∙ ap suc (r .0), t .5 ∙ ap₂ _∷_ (f .1) (r .1), omega (arith, r .2), r .3 ∙ ap (λ (j : ℕ). drop j s) k)
-
 -- ---- codes, each below its size
 
 module _ {s : List ℕ} (zs : List ℕ) (at i : ℕ) {whole : Parsed (List ℕ)} (v : Follows s (codes (drop i zs) (drop at s)) whole) where
@@ -139,34 +123,6 @@ module _ (s opening : List ℕ) where
   pub header-on : startsWith s opening ≡ true → header opening s ≡ andThen (field 1 9 3 (drop 4 s)) sizes
   unfolding header
   header-on e = rw e
-
--- a header that was read
-pub record Header (s zs : List ℕ) (k : ℕ) : Type 0 where
-  pub some : 1 ≤ length zs
-  pub few : length zs ≤ 8
-  pub dims : wordAt s 4 ≡ length zs
-  pub sizes : zs ≡ wordsAt s (length zs) 8
-  pub inside : 8 + 4 * length zs ≤ length s
-  pub end : k ≡ 8 + 4 * length zs
-
-pub header-at : (s opening zs : List ℕ) {k : ℕ} → length opening ≡ 4 → header opening s ≡ got zs (drop k s) → k ≤ length s → Header s zs k
-unfolding header
-header-at s opening zs {k} four e l =
-    let o = passed (startsWith s opening) (andThen (field 1 9 3 (drop 4 s)) sizes) 1 e in
-    let h : 4 ≤ length s = omega (arith, ap length (starts-is s opening (o .0)), length-append opening (drop (length opening) s)) in
-    let t = through (field 1 9 3 (drop 4 s)) sizes (o .1) in
-    let f = field-rest s 1 9 3 4 h (t .2) in
-    let b = tested-in 1 9 3 (drop 4 s) (t .2) in
-    let r = fields-at s 1 65536 4 (t .0) 8 (f .0) (ap (sizes (t .0)) (sym (f .2)) ∙ t .3) in
-    let j : length s - k ≡ length s - (8 + 4 * t .0) = rw (length-drop, length-drop) at (ap length (r .3)) in
-    record {
-      some = omega (arith, r .0, b .0);
-      few = omega (arith, r .0, b .1);
-      dims = sym (f .1) ∙ sym (r .0);
-      sizes = r .1 ∙ ap (λ (n : ℕ). wordsAt s n 8) (sym (r .0));
-      inside = omega (arith, r .0, r .2);
-      end = omega (arith, r .0, r .2);
-    }
 
 -- ---- the check word
 

@@ -98,12 +98,12 @@ module _ {A : Type 0} (more : A → List ℕ → Parsed (List A)) where
   cons-back {x = x} e f = then-on (behind more) e ∙ then-on (λ xs rest′. got (x ∷ xs) rest′) f
 
   pub cons-forth : (p : Parsed A) {xs : List A} {end : List ℕ} → consed p more ≡ got xs end
-      → (x : A) × (rest : List ℕ) × (ys : List A) × (p ≡ got x rest) × (more x rest ≡ got ys end) × (xs ≡ x ∷ ys)
+      → (x : A) × (ys : List A) × (rest : List ℕ) × (p ≡ got x rest) × (more x rest ≡ got ys end) × (xs ≡ x ∷ ys)
   cons-forth p {xs} {end} e =
       let t = through p (behind more) e in
       let u = through (more (t .0) (t .1)) (λ ys rest′. got (t .0 ∷ ys) rest′) (t .3) in
       let q : u .1 ≡ end = cc (u .3) in
-      (t .0, t .1, u .0, t .2, u .2 ∙ ap (got (u .0)) q, cc (u .3))
+      (t .0, u .0, t .1, t .2, u .2 ∙ ap (got (u .0)) q, cc (u .3))
 
 -- a first thing and more behind it: where the first was read, and where it stopped
 module _ {A : Type 0} {s : List ℕ} {p whole : Parsed (List A)} (i : Follows s p whole) {q : Parsed A} (more : A → List ℕ → Parsed (List A)) (e : p ≡ consed q more) where

@@ -1,0 +1,34 @@
+-- The order of codes under all eight dimensions is that of the codes themselves.
+use mathlib.Core.Path.{_≡_, refl}
+use mathlib.Core.Bool.{Bool, true, false}
+use mathlib.Core.List.{List, [], _∷_}
+use Prim.Native.Nat.{ℕ, zero, suc, _≤_}
+use native.Mathlib.Omega.{arith}
+use lib.ListN.{length}
+use Rattle.lists.specs.Order.{earlier}
+use Rattle.lattice.specs.Sets.{full}
+use Rattle.lattice.proofs.Sets.{full-suc}
+use Rattle.cube.specs.Codes.{cell}
+use Rattle.rows.specs.declared.Order.{Order}
+use Rattle.rows.specs.declared.Order.the-variants.{Before, Equal, After}
+use Rattle.rows.specs.Compare.{ordered, compared}
+
+-- a set of at least as many dimensions shows every code
+cell-wide : (d : ℕ) (x : List ℕ) → length x ≤ d → cell (full d) x ≡ x
+cell-wide d [] h = refl
+cell-wide zero (a ∷ x) h = absurd (omega arith)
+cell-wide (suc d) (a ∷ x) h = rw (full-suc d .0, full-suc d .1, cell-wide d x (omega arith))
+
+abbrev pub isBefore : Order → Bool
+isBefore Before = true
+isBefore Equal = false
+isBefore After = false
+
+ordered-before : (p q : Bool) → p ≡ isBefore (ordered p q)
+ordered-before true q = refl
+ordered-before false true = refl
+ordered-before false false = refl
+
+pub earlier-compared : (x y : List ℕ) {o : Order} → length x ≤ 8 → length y ≤ 8 → o ≡ compared 255 x y → earlier x y ≡ isBefore o
+unfolding compared
+earlier-compared x y h i e = rw (e, cell-wide 8 x h, cell-wide 8 y i) (ordered-before (earlier x y) (earlier y x))
