@@ -2,38 +2,21 @@
 use mathlib.Core.Path.{_≡_, refl, sym, ap, subst, _∙_}
 use mathlib.Core.List.{List, [], _∷_, _++_, map, append-nil}
 use Prim.Native.Nat.{ℕ, suc, _+_, _-_, _*_, _≤_, _<_}
-use native.Mathlib.Nat.{suc-mul, sub-zero}
+use native.Mathlib.Nat.{sub-zero}
 use native.Mathlib.Numerals.{add-one}
 use native.Mathlib.Omega.{arith}
 use lib.IntN.{ℤ}
-use lib.ListN.{length, take, drop, set}
+use lib.ListN.{length, drop}
 use lib.Seq.{append-snoc}
-use borrow.Rule.Slice.PartMut.{midOf, putMid, mid-len}
-use Rattle.fields.specs.Words.{wordAt, wordsAt}
-use Rattle.fields.specs.WordsLaws.{length-wordsAt}
-use Rattle.fields.specs.Twos.{sumAt}
 use Rattle.cube.specs.declared.Total.{Total}
 use Rattle.cube.specs.Measure.{Row}
 use Rattle.rows.specs.Rows.{rowsOf}
-use Rattle.rows.proofs.Flat.{rows-put}
 use Rattle.walk.specs.Parsed.{got}
 use Rattle.archive.specs.Layout.{Based}
 use Rattle.archive.specs.Reading.{entry, entries, walkArchive, rowsIn, Stored}
 use Rattle.walk.proofs.Steps.{cons-forth}
 use Rattle.archive.proofs.Entry.{rowThere, widthThere, Entry, entry-read}
 use Rattle.archive.proofs.Fields.{Accepted, accepted-stored}
-
--- the row that stands at a place, written behind i rows
-pub row-put : (b : List ℕ) (d at i : ℕ) (c : List ℕ) (s : List ℤ) (k : List ℕ) {row : List ℕ} {v : ℤ} {m : ℕ} → suc i * d ≤ length c → i < length s → i < length k
-    → row ≡ wordsAt b (length (midOf (i * d) (i * d + d - i * d) c)) at → v ≡ sumAt b (at + 4 * d) → m ≡ wordAt b (at + 4 * d + 8)
-    → rowsOf d (suc i) (putMid (i * d) (i * d + d - i * d) c row) (set s i v) (set k i m) ≡ rowsOf d i c s k ++ rowThere b d at ∷ []
-row-put b d at i c s k {row} {v} {m} hc hs hk er ev em =
-    let o = suc-mul i d in
-    let w : i * d + d - i * d ≡ d = omega arith in
-    let l : length (midOf (i * d) (i * d + d - i * d) c) ≡ d = mid-len (i * d) (i * d + d) c (omega arith) ∙ w in
-    let r : row ≡ wordsAt b d at = er ∙ ap (λ (n : ℕ). wordsAt b n at) l in
-    let q : putMid (i * d) (i * d + d - i * d) c row ≡ take (i * d) c ++ (row ++ drop d (drop (i * d) c)) = rw w in
-    rw q (rows-put d i c row s v k m (ap length r ∙ length-wordsAt b d at) (omega arith) hs hk ∙ rw (r, ev, em))
 
 -- one row goes from those left to those stored
 moved : {A : Type 0} (xs : List A) (a : A) (left : List A) {ys all : List A} → ys ≡ xs ++ a ∷ [] → all ≡ xs ++ a ∷ left → all ≡ ys ++ left

@@ -218,11 +218,9 @@ fn store_row(
         ≡ rowsOf dims i (now (codes .entry)) (now (sums .entry)) (now (counts .entry))
         ++ record { codes = wordsAt (now (s .entry)) dims at; total = record { sum = sumAt (now (s .entry)) (at + 4 * dims); count = wordAt (now (s .entry)) (at + 4 * dims + 8) } } ∷ [] ⌝ }
 {
-    let from = i * dims;
-    let to = from + dims;
-    fields::read_words(s, at, &mut codes[from..to]);
-    sums[i] = fields::sum_at(s, at + 4 * dims);
-    counts[i] = fields::word_at(s, at + 4 * dims + 8);
+    let sum = fields::sum_at(s, at + 4 * dims);
+    let count = fields::word_at(s, at + 4 * dims + 8);
+    rows::store_row(s, at, dims, sum, count, i, codes, sums, counts);
 }
 
 // The base rows of an archive whose fields are right.

@@ -2,13 +2,16 @@
 use mathlib.Core.Path.{_≡_, refl, sym, ap, ap₂, _∙_}
 use mathlib.Core.Logic.{_≢_}
 use mathlib.Core.List.{List, [], _∷_, _++_}
-use Prim.Native.Nat.{ℕ, zero, suc, _+_, _*_, _≤_, _<_}
+use Prim.Native.Nat.{ℕ, zero, suc, _+_, _-_, _*_, _≤_, _<_}
 use native.Mathlib.Nat.{zero-mul, suc-mul, add-comm, not-suc-le-zero, le-of-suc-le-suc}
 use native.Mathlib.Numerals.{add-one}
 use native.Mathlib.Omega.{arith}
 use lib.IntN.{ℤ, pos}
 use lib.ListN.{length, getD, take, drop, set, take-append-drop}
 use lib.Seq.{drop-drop, getD-drop, getD-set-same, getD-set-other, take-at, drop-at, length-take-le}
+use borrow.Rule.Slice.PartMut.{midOf, putMid, mid-len}
+use Rattle.fields.specs.Words.{wordsAt}
+use Rattle.fields.specs.WordsLaws.{length-wordsAt}
 use Rattle.cube.specs.declared.Total.{Total}
 use Rattle.cube.specs.Measure.{Row, nothing}
 use Rattle.rows.specs.Rows.{rowsOf}
@@ -88,3 +91,15 @@ module _ (d k : ℕ) (codes c : List ℕ) (sums : List ℤ) (z : ℤ) (counts : 
   rows-put =
       rows-more d k over (set sums k z) (set counts k t)
       ∙ ap₂ (λ (l : List (Row Total)) (r : Row Total). l ++ r ∷ []) (rows-same d k over codes (set sums k z) sums (set counts k t) counts put-before) put-here
+
+-- the same of words read into the part of the codes that row i has
+pub row-stored : (b : List ℕ) (d at i : ℕ) (codes : List ℕ) (sums : List ℤ) (counts : List ℕ) {c : List ℕ} {u z : ℤ} (n : ℕ)
+    → i * d + d ≤ length codes → i < length sums → i < length counts → c ≡ wordsAt b (length (midOf (i * d) (i * d + d - i * d) codes)) at → u ≡ z
+    → rowsOf d (i + 1) (putMid (i * d) (i * d + d - i * d) codes c) (set sums i u) (set counts i n)
+    ≡ rowsOf d i codes sums counts ++ record { codes = wordsAt b d at; total = record { sum = z; count = n } } ∷ []
+row-stored b d at i codes sums counts {c} {u} {z} n h p q e f =
+    let w : i * d + d - i * d ≡ d = omega arith in
+    let l : length (midOf (i * d) (i * d + d - i * d) codes) ≡ d = mid-len (i * d) (i * d + d) codes h ∙ w in
+    let r : c ≡ wordsAt b d at = e ∙ ap (λ (m : ℕ). wordsAt b m at) l in
+    let o : putMid (i * d) (i * d + d - i * d) codes c ≡ take (i * d) codes ++ (c ++ drop d (drop (i * d) codes)) = rw w in
+    rw (o, add-one) (rows-put d i codes c sums u counts n (ap length r ∙ length-wordsAt b d at) h p q ∙ rw (r, f))

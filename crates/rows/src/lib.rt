@@ -1,11 +1,13 @@
 // Rows of codes in a flat slice: row i of `dims` codes starts at i * dims.
 ghost use mathlib.Core.Path.{_≡_};
-ghost use Prim.Native.Nat.{_*_, _<_};
+ghost use mathlib.Core.List.{[], _∷_, _++_};
+ghost use Prim.Native.Nat.{_+_, _*_, _≤_, _<_};
 ghost use lib.ListN.{length};
+ghost use Rattle.fields.specs.Words.{wordsAt};
 ghost use Rattle.lists.specs.Lists.{Distinct};
 ghost use Rattle.cube.specs.Codes.{agree, plain};
 ghost use Rattle.cube.specs.Condensed.{single};
-ghost use Rattle.rows.specs.Rows.{cut, rowAt};
+ghost use Rattle.rows.specs.Rows.{cut, rowAt, rowsOf};
 ghost use Rattle.rows.specs.Compare.{compared};
 
 // The codes of a row.
@@ -83,4 +85,28 @@ pub fn compare(mine: &[u32], other: &[u32], set: u32) -> Order
         rest = rest / 2;
     }
     Order::Equal
+}
+
+// Stores the codes at a byte offset, with a sum and a count, as row i of the arrays.
+pub fn store_row(
+    s: &[u8],
+    at: usize,
+    dims: usize,
+    sum: i64,
+    count: u32,
+    i: usize,
+    codes: &mut [u32],
+    sums: &mut [i64],
+    counts: &mut [u32],
+)
+    requires { ⌜ at + 4 * dims ≤ length (now s) ⌝ }
+    requires { ⌜ (i * dims + dims ≤ length (now codes)) × (i < length (now sums)) × (i < length (now counts)) ⌝ }
+    ensures { λ _. ⌜ rowsOf dims (i + 1) (now (codes .exit)) (now (sums .exit)) (now (counts .exit))
+        ≡ rowsOf dims i (now (codes .entry)) (now (sums .entry)) (now (counts .entry)) ++ record { codes = wordsAt (now (s .entry)) dims at; total = record { sum = sum; count = count } } ∷ [] ⌝ }
+{
+    let from = i * dims;
+    let to = from + dims;
+    fields::read_words(s, at, &mut codes[from..to]);
+    sums[i] = sum;
+    counts[i] = count;
 }
