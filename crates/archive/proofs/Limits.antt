@@ -15,7 +15,7 @@ use Rattle.lists.proofs.Tests.{cases, both, both-of}
 use Rattle.lists.proofs.Order.{by-codes, rising-distinct}
 use Rattle.lattice.specs.Sets.{sets}
 use Rattle.lattice.proofs.Sets.{sets-in, sets-length}
-use Rattle.walk.specs.Limits.{Below}
+use Rattle.walk.proofs.Limits.{below-coded}
 use Rattle.cube.specs.declared.Total.{Total}
 use Rattle.cube.specs.Measure.{sums, Row, codesOf}
 use Rattle.cube.specs.Bounds.{most, canMake, countOf, Summable}
@@ -89,13 +89,6 @@ count-le [] m = absurd (List·Memᴰ·not-nil m)
 count-le {r} (q ∷ rows) m = cases (List·Memᴰ·cases-cons m)
     (λ e. let f : r .total .count ≡ q .total .count = ap (λ (p : Row Total). p .total .count) e in omega (arith, f))
     (λ i. omega (arith, count-le rows i))
-
--- codes below sizes are codes
-below-coded : (zs x : List ℕ) → ((z : ℕ) → z ∈ zs → z ≤ 65535) → Below zs x → Coded (length zs) x
-below-coded [] [] h b = tt
-below-coded [] (a ∷ x) h b = absurd b
-below-coded (z ∷ zs) [] h b = absurd b
-below-coded (z ∷ zs) (a ∷ x) h b = (omega (arith, b .0, h z (List·Memᴰ·head refl)), below-coded zs x (λ y m. h y (List·Memᴰ·tail m)) (b .1))
 
 coded-length : (d : ℕ) (x : List ℕ) → Coded d x → length x ≡ d
 coded-length zero [] k = refl

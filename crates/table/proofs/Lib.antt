@@ -1,2 +1,3 @@
 -- Laws of tables.
 pub mod Accepted
+pub mod Storing

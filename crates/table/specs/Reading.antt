@@ -3,14 +3,18 @@
 --   row zs          a row: its codes, below the sizes zs, and a reading
 --   body s zs       row count, rows and check word of the bytes s
 --   readTable s     what the bytes s hold, or the first stop
+--   rowThere s d at the row that stands at a place: d codes and a reading
+--   rowsAt s d n at the n rows from a place on
 --   TableRead       the code's answer: the enum of src/lib.rt
 --   answer p        the answer's number and values for what was read: the stop's number, or D and the number of base rows
 --   Stored p ..     the arrays have the base rows of the table that was read
 use mathlib.Core.Path.{_≡_}
-use mathlib.Core.List.{List}
-use Prim.Native.Nat.{ℕ}
+use mathlib.Core.List.{List, [], _∷_}
+use Prim.Native.Nat.{ℕ, zero, suc, _+_, _*_}
 use lib.IntN.{ℤ}
 use lib.ListN.{length}
+use Rattle.fields.specs.Words.{wordsAt}
+use Rattle.fields.specs.Twos.{readingAt}
 use Rattle.walk.specs.Parsed.{Parsed, stop, got, andThen, many}
 use Rattle.walk.specs.Fields.{reading, field, codes, header, close}
 use Rattle.cube.specs.declared.Total.{Total}
@@ -33,6 +37,13 @@ body s zs l =
 
 unfoldable pub readTable : List ℕ → Parsed Held
 readTable s = andThen (header FACT s) (body s)
+
+abbrev pub rowThere : List ℕ → ℕ → ℕ → Row Total
+rowThere s d at = record { codes = wordsAt s d at; total = record { sum = readingAt s (at + 4 * d); count = 1 } }
+
+unfoldable pub rowsAt : List ℕ → ℕ → ℕ → ℕ → List (Row Total)
+rowsAt s d zero at = []
+rowsAt s d (suc n) at = rowThere s d at ∷ rowsAt s d n (at + (4 * d + 4))
 
 -- the base rows of a table
 abbrev pub based : Held → List (Row Total)

@@ -1,11 +1,13 @@
 // A table read from its bytes: its stops, and its base rows.
 use walk::Walk;
+ghost use mathlib.Core.Path.{_≡_};
 ghost use Prim.Native.Nat.{_+_, _*_, _≤_};
 ghost use lib.ListN.{length, drop};
 ghost use Rattle.fields.specs.Words.{wordsAt};
 ghost use Rattle.walk.specs.Parsed.{many};
 ghost use Rattle.walk.specs.Walked.{Walked};
-ghost use Rattle.table.specs.Reading.{row, body, readTable};
+ghost use Rattle.rows.specs.Rows.{rowsOf};
+ghost use Rattle.table.specs.Reading.{row, body, readTable, rowsAt};
 
 // What reading a table answers: a stop's number, or D and the number of base rows.
 pub enum TableRead {
@@ -75,5 +77,29 @@ fn check_table(s: &[u8]) -> Walk
             let mut sizes = [0u32; 8];
             check_sized(s, &mut sizes[..dims], at)
         }
+    }
+}
+
+// The rows from a place on into the arrays that are lent.
+fn store_rows(
+    s: &[u8],
+    dims: usize,
+    count: usize,
+    start: usize,
+    codes: &mut [u32],
+    sums: &mut [i64],
+    counts: &mut [u32],
+)
+    requires { ⌜ start + count * (4 * dims + 4) ≤ length (now s) ⌝ }
+    requires { ⌜ (count * dims ≤ length (now codes)) × (count ≤ length (now sums)) × (count ≤ length (now counts)) ⌝ }
+    ensures { λ _. ⌜ rowsOf dims count (now (codes .exit)) (now (sums .exit)) (now (counts .exit)) ≡ rowsAt (now (s .entry)) dims count start ⌝ }
+{
+    let mut at = start;
+    let mut i = 0;
+    while i < count {
+        let reading = fields::reading_at(s, at + 4 * dims);
+        rows::store_row(s, at, dims, reading, 1, i, codes, sums, counts);
+        at += 4 * dims + 4;
+        i += 1;
     }
 }

@@ -5,3 +5,4 @@ pub mod Any
 pub mod Places
 pub mod Codecs
 pub mod Ends
+pub mod Limits

@@ -1,0 +1,15 @@
+-- Codes below sizes within the limits are codes of a table.
+use mathlib.Core.Path.{refl}
+use mathlib.Core.List.{List, [], _∷_, List·Memᴰ·head, List·Memᴰ·tail}
+use Prim.Native.Nat.{ℕ, _≤_}
+use native.Mathlib.Omega.{arith}
+use lib.ListN.{length}
+use Rattle.lists.specs.Lists.{_∈_}
+use Rattle.cube.specs.Codes.{Coded}
+use Rattle.walk.specs.Limits.{Below}
+
+pub below-coded : (zs x : List ℕ) → ((z : ℕ) → z ∈ zs → z ≤ 65535) → Below zs x → Coded (length zs) x
+below-coded [] [] h b = tt
+below-coded [] (a ∷ x) h b = absurd b
+below-coded (z ∷ zs) [] h b = absurd b
+below-coded (z ∷ zs) (a ∷ x) h b = (omega (arith, b .0, h z (List·Memᴰ·head refl)), below-coded zs x (λ y m. h y (List·Memᴰ·tail m)) (b .1))
