@@ -6,6 +6,9 @@ ghost use lib.ListN.{length, drop};
 ghost use Rattle.fields.specs.Words.{wordsAt};
 ghost use Rattle.walk.specs.Parsed.{many};
 ghost use Rattle.walk.specs.Walked.{Walked};
+ghost use Rattle.cube.specs.Measure.{sums as measure};
+ghost use Rattle.cube.specs.Bounds.{Summable};
+ghost use Rattle.cube.specs.Table.{Table, folded};
 ghost use Rattle.rows.specs.Rows.{rowsOf};
 ghost use Rattle.table.specs.Reading.{row, body, readTable, rowsAt};
 
@@ -102,4 +105,40 @@ fn store_rows(
         at += 4 * dims + 4;
         i += 1;
     }
+}
+
+// The base rows of the rows from a place on, which are first stored in buffers of their own, into the arrays that are lent. Returns how many there are.
+fn fold_rows(
+    s: &[u8],
+    dims: usize,
+    count: usize,
+    start: usize,
+    own: &mut [u32],
+    amounts: &mut [i64],
+    tallies: &mut [u32],
+    index: &mut [u32],
+    codes: &mut [u32],
+    sums: &mut [i64],
+    counts: &mut [u32],
+) -> usize
+    requires { ⌜ (count * dims ≡ length (now own)) × (length (now amounts) ≡ count) × (length (now tallies) ≡ count) × (length (now index) ≡ count) × (count ≤ 1024) × (dims ≤ 8) ⌝ }
+    requires { ⌜ (start + count * (4 * dims + 4) ≤ length (now s)) × (8192 ≤ length (now codes)) × (1024 ≤ length (now sums)) × (1024 ≤ length (now counts)) ⌝ }
+    requires { ⌜ Table dims (rowsAt (now s) dims count start) × Summable (rowsAt (now s) dims count start) ⌝ }
+    ensures { λ r. ⌜ rowsOf dims r (now (codes .exit)) (now (sums .exit)) (now (counts .exit)) ≡ folded measure dims (rowsAt (now (s .entry)) dims count start) ⌝ }
+    ensures { λ r. ⌜ r ≤ count ⌝ }
+{
+    store_rows(s, dims, count, start, own, amounts, tallies);
+    let full = lattice::sets_of(dims as u32) - 1;
+    engine::group_rows(
+        own,
+        amounts,
+        tallies,
+        count,
+        dims,
+        full,
+        index,
+        codes,
+        sums,
+        counts,
+    )
 }
