@@ -1,3 +1,4 @@
 -- Laws of tables.
 pub mod Accepted
 pub mod Storing
+pub mod Rows

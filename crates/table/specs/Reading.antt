@@ -5,12 +5,13 @@
 --   readTable s     what the bytes s hold, or the first stop
 --   rowThere s d at the row that stands at a place: d codes and a reading
 --   rowsAt s d n at the n rows from a place on
+--   Rowed s d n     n rows of d codes stand behind a header, are rows of a table, and can be totalled
 --   TableRead       the code's answer: the enum of src/lib.rt
 --   answer p        the answer's number and values for what was read: the stop's number, or D and the number of base rows
 --   Stored p ..     the arrays have the base rows of the table that was read
 use mathlib.Core.Path.{_≡_}
 use mathlib.Core.List.{List, [], _∷_}
-use Prim.Native.Nat.{ℕ, zero, suc, _+_, _*_}
+use Prim.Native.Nat.{ℕ, zero, suc, _+_, _*_, _≤_}
 use lib.IntN.{ℤ}
 use lib.ListN.{length}
 use Rattle.fields.specs.Words.{wordsAt}
@@ -19,7 +20,8 @@ use Rattle.walk.specs.Parsed.{Parsed, stop, got, andThen, many}
 use Rattle.walk.specs.Fields.{reading, field, codes, header, close}
 use Rattle.cube.specs.declared.Total.{Total}
 use Rattle.cube.specs.Measure.{sums, Row}
-use Rattle.cube.specs.Table.{folded}
+use Rattle.cube.specs.Bounds.{Summable}
+use Rattle.cube.specs.Table.{Table, folded}
 use Rattle.rows.specs.Rows.{rowsOf}
 use Rattle.table.specs.declared.TableRead.{TableRead}
 use Rattle.table.specs.declared.TableRead.the-variants as Answer
@@ -44,6 +46,13 @@ rowThere s d at = record { codes = wordsAt s d at; total = record { sum = readin
 unfoldable pub rowsAt : List ℕ → ℕ → ℕ → ℕ → List (Row Total)
 rowsAt s d zero at = []
 rowsAt s d (suc n) at = rowThere s d at ∷ rowsAt s d n (at + (4 * d + 4))
+
+pub record Rowed (s : List ℕ) (d n : ℕ) : Type 0 where
+  pub dims : d ≤ 8
+  pub few : n ≤ 1024
+  pub inside : 12 + 4 * d + n * (4 * d + 4) ≤ length s
+  pub table : Table d (rowsAt s d n (12 + 4 * d))
+  pub summable : Summable (rowsAt s d n (12 + 4 * d))
 
 -- the base rows of a table
 abbrev pub based : Held → List (Row Total)

@@ -31,7 +31,7 @@ any-as {f = f} e a = subst (Any f) e a
 pub any-none : {A : Type 0} (x : A) → Any (got x) 0
 any-none x = record { short = λ l h. absurd (omega arith); whole = λ l h. (x, refl) }
 
-any-value : {A : Type 0} (width : ℕ) (value : List ℕ → A) → Any (λ l. andThen (room width l) (λ u rest. got (value l) rest)) width
+pub any-value : {A : Type 0} (width : ℕ) (value : List ℕ → A) → Any (λ l. andThen (room width l) (λ u rest. got (value l) rest)) width
 any-value width value = record {
   short = λ l h. then-off (λ u rest. got (value l) rest) (room-short width l h);
   whole = λ l h. (value l, then-on (λ u rest. got (value l) rest) (room-whole width l h));
