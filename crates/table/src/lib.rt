@@ -10,7 +10,7 @@ ghost use Rattle.cube.specs.Measure.{sums as measure};
 ghost use Rattle.cube.specs.Bounds.{Summable};
 ghost use Rattle.cube.specs.Table.{Table, folded};
 ghost use Rattle.rows.specs.Rows.{rowsOf};
-ghost use Rattle.table.specs.Reading.{row, body, readTable, rowsAt};
+ghost use Rattle.table.specs.Reading.{row, body, readTable, rowsAt, Rowed, answer, Stored};
 
 // What reading a table answers: a stop's number, or D and the number of base rows.
 pub enum TableRead {
@@ -141,4 +141,63 @@ fn fold_rows(
         sums,
         counts,
     )
+}
+
+// The base rows of n rows of d codes behind the header. Returns how many there are.
+fn fold_table(
+    s: &[u8],
+    d: usize,
+    n: usize,
+    codes: &mut [u32],
+    sums: &mut [i64],
+    counts: &mut [u32],
+) -> usize
+    requires { ⌜ Rowed (now s) d n × (8192 ≤ length (now codes)) × (1024 ≤ length (now sums)) × (1024 ≤ length (now counts)) ⌝ }
+    ensures { λ r. ⌜ rowsOf d r (now (codes .exit)) (now (sums .exit)) (now (counts .exit)) ≡ folded measure d (rowsAt (now (s .entry)) d n (12 + 4 * d)) ⌝ }
+    ensures { λ r. ⌜ r ≤ n ⌝ }
+{
+    let mut own = [0u32; 8192];
+    let mut amounts = [0i64; 1024];
+    let mut tallies = [0u32; 1024];
+    let mut index = [0u32; 1024];
+    let size = n * d;
+    let start = 12 + 4 * d;
+    fold_rows(
+        s,
+        d,
+        n,
+        start,
+        &mut own[..size],
+        &mut amounts[..n],
+        &mut tallies[..n],
+        &mut index[..n],
+        codes,
+        sums,
+        counts,
+    )
+}
+
+// Reads a table: its stops, and its base rows into the arrays that are lent.
+pub fn read_table(
+    s: &[u8],
+    codes: &mut [u32; 8192],
+    sums: &mut [i64; 1024],
+    counts: &mut [u32; 1024],
+) -> TableRead
+    ensures { λ r. ⌜ r ≡ answer (readTable (now (s .entry))) ⌝ }
+    ensures { λ r. ⌜ Stored (readTable (now (s .entry))) (now (codes .exit)) (now (sums .exit)) (now (counts .exit)) ⌝ }
+{
+    match check_table(s) {
+        Walk::Stop(n) => TableRead::Stop(n),
+        Walk::At(_) => {
+            let dims = fields::word_at(s, 4);
+            let d = dims as usize;
+            let n = fields::word_at(s, 8 + 4 * d) as usize;
+            let rows = fold_table(s, d, n, codes, sums, counts);
+            TableRead::Rows {
+                dims,
+                rows: rows as u32,
+            }
+        }
+    }
 }
