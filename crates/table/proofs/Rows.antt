@@ -1,6 +1,6 @@
 -- The rows of a table that was read stand behind its header, one after the other.
 use mathlib.Core.Path.{_≡_, refl, sym, ap, ap₂, _∙_, subst}
-use mathlib.Core.List.{List, [], _∷_, List·Memᴰ·head, List·Memᴰ·tail, List·Memᴰ·not-nil, List·Memᴰ·cases-cons}
+use mathlib.Core.List.{List, [], _∷_, List·Memᴰ·head, List·Memᴰ·tail}
 use Prim.Native.Nat.{ℕ, zero, suc, _+_, _*_, _^_, _≤_, _<_}
 use native.Mathlib.Nat.{suc-mul}
 use native.Mathlib.Omega.{arith}
@@ -8,10 +8,9 @@ use lib.IntN.{ℤ, pos, negsuc, natAbs}
 use lib.ListN.{length, drop}
 use lib.Signed.{mag}
 use Rattle.lists.specs.Lists.{_∈_}
-use Rattle.lists.proofs.Tests.{cases}
-use Rattle.fields.specs.Words.{wordAt, wordsAt}
+use Rattle.fields.specs.Words.{wordAt}
 use Rattle.fields.specs.Twos.{signedOf, readingAt}
-use Rattle.walk.specs.Parsed.{Parsed, got, andThen, many}
+use Rattle.walk.specs.Parsed.{stop, got, andThen, many}
 use Rattle.walk.specs.Fields.{room, reading, field, codes, header, close}
 use Rattle.walk.specs.Limits.{Bytes}
 use Rattle.walk.proofs.Steps.{through, cons-forth}
@@ -20,11 +19,15 @@ use Rattle.walk.proofs.Any.{Any, any-value}
 use Rattle.walk.proofs.Places.{Took, took-then, any-took, field-read, codes-read, header-read}
 use Rattle.walk.proofs.Limits.{below-coded}
 use Rattle.cube.specs.declared.Total.{Total}
-use Rattle.cube.specs.Measure.{Row}
-use Rattle.cube.specs.Bounds.{most, Bounded, countOf, Summable}
+use Rattle.cube.specs.Measure.{sums, Row}
+use Rattle.cube.specs.Bounds.{countOf, Summable}
 use Rattle.cube.specs.Codes.{Coded}
-use Rattle.table.specs.Layout.{FACT, Held, Reads, Limits}
-use Rattle.table.specs.Reading.{row, body, readTable, rowThere, rowsAt, Rowed}
+use Rattle.table.specs.Layout.{FACT, Held, Reads}
+use Rattle.rows.specs.Rows.{rowsOf}
+use Rattle.rows.proofs.Flat.{rows-length}
+use Rattle.cube.specs.Table.{folded}
+use Rattle.table.specs.declared.TableRead.the-variants as Answer
+use Rattle.table.specs.Reading.{row, body, readTable, rowThere, rowsAt, Rowed, based, answer, Stored}
 use Rattle.table.proofs.Accepted.{read, rowed, counted, table-forth}
 
 any-reading : Any reading 4
@@ -120,3 +123,17 @@ rowed-table s t {rest} b e =
         few = omega (arith, counts-few (t .sizes) (t .rows) (l .each), l .few);
       });
     }
+
+-- the answer for a table that was read, where arrays have its base rows
+pub read-answer : (s : List ℕ) (t : Held) {rest : List ℕ} → readTable s ≡ got t rest → (d n r : ℕ) → d ≡ length (t .sizes) → n ≡ length (t .rows)
+    → (c : List ℕ) (z : List ℤ) (k : List ℕ) → rowsOf d r c z k ≡ folded sums d (rowsAt s d n (12 + 4 * d))
+    → (Answer.Rows d r ≡ answer (readTable s)) × Stored (readTable s) c z k
+read-answer s t {rest} e d n r p q c z k f =
+    let w = placed s t e .rows in
+    let base : rowsOf d r c z k ≡ based t
+    = f ∙ ap₂ (λ (i j : ℕ). folded sums i (rowsAt s i j (12 + 4 * i))) p q ∙ ap (folded sums (length (t .sizes))) (sym w) in
+    let size : r ≡ length (based t) = sym (rows-length d r c z k) ∙ ap length base in
+    rw e (ap₂ Answer.Rows p size, sym (ap₂ (λ (i j : ℕ). rowsOf i j c z k) p size) ∙ base)
+
+pub stop-answer : (s : List ℕ) {n : ℕ} → readTable s ≡ stop n → (c : List ℕ) (z : List ℤ) (k : List ℕ) → (Answer.Stop n ≡ answer (readTable s)) × Stored (readTable s) c z k
+stop-answer s e c z k = rw e (refl, tt)

@@ -189,7 +189,7 @@ pub fn read_table(
 {
     match check_table(s) {
         Walk::Stop(n) => TableRead::Stop(n),
-        Walk::At(_) => {
+        Walk::At(place) => {
             let dims = fields::word_at(s, 4);
             let d = dims as usize;
             let n = fields::word_at(s, 8 + 4 * d) as usize;

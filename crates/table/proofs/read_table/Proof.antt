@@ -1,78 +1,57 @@
+-- `table::read_table` meets its contract: a table that passes has its rows behind the header, and their base rows are stored.
+use mathlib.Core.Path.{_≡_, sym, ap, _∙_, subst}
+use Prim.Native.Nat.{ℕ, _+_, _*_, _<_}
+use native.Mathlib.Omega.{arith}
 use borrow.Author.Needs.{needs}
+use denote.Ref.{now}
+use lib.ListN.{length}
+use Rattle.lists.proofs.Members.{in-at}
+use Rattle.fields.specs.Words.{wordAt}
+use Rattle.walk.specs.Limits.{Bytes}
+use Rattle.walk.proofs.Steps.{seen}
+use Rattle.table.specs.Reading.{Rowed}
+use Rattle.table.proofs.Rows.{Placed, placed, rowed-table, read-answer, stop-answer}
 use Rattle.table.proofs.read_table.Statement.{statement}
 use Rattle.table.proofs.read_table.Tie as tie
-use Rattle.table.proofs.read_table.Reads as reads
-use Rattle.table.proofs.read_table.Lts as lts
-use Rattle.fields.proofs.word_at.Reads as word-at-reads
-use Rattle.table.proofs.check_table.Reads as check-table-reads
-use Rattle.table.proofs.fold_table.Reads as fold-table-reads
 
--- src/lib.rt:190:11
-check-table-requires : tie.Need-check-table-requires
-check-table-requires c κs = search needs
+-- what stands where
+there : (c : tie.After-known-told2) → Placed (now (c .before .before .before .before .before .args .s)) (seen (c .before .place .given .1) (c .before .before .before .check-table .ensures) .0)
+there c = let g = seen (c .before .place .given .1) (c .before .before .before .check-table .ensures) in placed (now (c .before .before .before .before .before .args .s)) (g .0) (g .1)
 
--- src/lib.rt:191:20
-enum-known-n : tie.Need-enum-known-n
-enum-known-n c = search needs
+bytes : (c : tie.After-shared-slice-known) → Bytes (now (c .before .args .s))
+bytes c b m = let k = in-at 0 m in subst (λ (x : ℕ). x < 256) (k .2) (c .shared-slice-known .given (k .0) .fits)
 
--- src/lib.rt:193:17
-enum-told : tie.Need-enum-told
-enum-told c = search needs
-
--- src/lib.rt:193:17
 word-at-requires : tie.Need-word-at-requires
-word-at-requires c κs = ?
+word-at-requires c κs = omega (arith, there c .whole)
 
--- src/lib.rt:194:21
-cast-d : tie.Need-cast-d
-cast-d c = search needs
-
--- src/lib.rt:195:44
-mul-word-at : tie.Need-mul-word-at
-mul-word-at c = search needs
-
--- src/lib.rt:195:40
-add-word-at : tie.Need-add-word-at
-add-word-at c = search needs
-
--- src/lib.rt:195:21
 word-at-requires-2 : tie.Need-word-at-requires-2
-word-at-requires-2 c κs = ?
+word-at-requires-2 c κs = omega (arith, there (c .before) .whole, there (c .before) .dims, c .word-at .ensures)
 
--- src/lib.rt:195:21
-cast-n : tie.Need-cast-n
-cast-n c = search needs
+-- D and the row count
+dims : (c : tie.After-word-at) → c .word-at .result ≡ length (seen (c .before .before .place .given .1) (c .before .before .before .before .check-table .ensures) .0 .sizes)
+dims c = c .word-at .ensures ∙ sym (there (c .before) .dims)
 
--- src/lib.rt:196:17
+count : (c : tie.After-word-at2) → c .word-at2 .result ≡ length (seen (c .before .before .before .place .given .1) (c .before .before .before .before .before .check-table .ensures) .0 .rows)
+count c = c .word-at2 .ensures ∙ ap (λ (d : ℕ). wordAt (now (c .before .before .before .before .before .before .before .args .s)) (8 + 4 * d)) (dims (c .before)) ∙ sym (there (c .before .before) .count)
+
 fold-table-requires : tie.Need-fold-table-requires
-fold-table-requires c κs = ?
+fold-table-requires c κs =
+    let s = now (c .before .before .before .before .before .before .before .before .before .before .args .s) in
+    let g = seen (c .before .before .before .before .before .before .place .given .1) (c .before .before .before .before .before .before .before .before .check-table .ensures) in
+    let r = rowed-table s (g .0) (bytes (c .before .before .before .before .before .before .before .before .before)) (g .1) in (
+      subst (λ (d : ℕ). Rowed s d (c .before .before .before .word-at2 .result)) (sym (dims (c .before .before .before .before))) (subst (Rowed s (length (g .0 .sizes))) (sym (count (c .before .before .before))) r),
+      search needs,
+      search needs,
+      search needs,
+    )
 
--- src/lib.rt:199:23
-cast-t12 : tie.Need-cast-t12
-cast-t12 c = search needs
-
--- src/lib.rt:181:1
 returns : tie.Need-returns
-returns c = ?
+returns c = let a = c .before .before .before .before .before .args in stop-answer (now (a .s)) (seen (c .before .n .given .1) (c .before .before .before .check-table .ensures)) (now (a .codes)) (now (a .sums)) (now (a .counts))
 
--- src/lib.rt:181:1
 returns-2 : tie.Need-returns-2
-returns-2 c = ?
+returns-2 c =
+    let g = seen (c .before .before .before .before .before .before .before .place .given .1) (c .before .before .before .before .before .before .before .before .before .check-table .ensures) in
+    read-answer (now (c .before .before .before .before .before .before .before .before .before .before .before .args .s)) (g .0) (g .1) (c .before .before .before .before .before .word-at .result) (c .before .before .before .before .word-at2 .result) (c .fold-table .result) (dims (c .before .before .before .before .before)) (count (c .before .before .before .before)) _ _ _ (c .fold-table .ensures .0)
 
 pub read-table-spec : {M : Type 1} → statement M
-read-table-spec =
-    tie.close
-    (tie.spec
-    check-table-requires
-    enum-known-n
-    enum-told
-    word-at-requires
-    cast-d
-    mul-word-at
-    add-word-at
-    word-at-requires-2
-    cast-n
-    fold-table-requires
-    cast-t12
-    returns
-    returns-2)
+read-table-spec = tie.close (tie.spec (λ c κs. search needs) (λ c. search needs) (λ c. search needs) word-at-requires (λ c. search needs) (λ c. search needs) (λ c. search needs) word-at-requires-2 (λ c. search needs) fold-table-requires (λ c. search needs) returns returns-2)

@@ -1,5 +1,5 @@
 -- `table::store_rows` meets its contract: the rows that are stored and those left are the table's.
-use mathlib.Core.Path.{_≡_, refl, sym, _∙_}
+use mathlib.Core.Path.{_≡_, refl, _∙_}
 use Prim.Native.Nat.{_+_, _-_, _*_, _≤_}
 use native.Mathlib.Omega.{arith}
 use mir.Syntax.{w64}
