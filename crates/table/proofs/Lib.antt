@@ -1,4 +1,5 @@
 -- Laws of tables.
 pub mod Accepted
+pub mod Examples
 pub mod Storing
 pub mod Rows

@@ -14,8 +14,8 @@ use Rattle.fields.specs.OpeningLaws.{starts-append, starts-is}
 use Rattle.fields.specs.Check.{checkOf, checked}
 use Rattle.fields.specs.CheckLaws.{check-lt}
 use Rattle.lists.proofs.Pigeonhole.{no-more}
-use Rattle.walk.specs.Parsed.{Parsed, got, andThen, stopUnless}
-use Rattle.walk.specs.Fields.{word, field, sizes, header, headerBytes, close}
+use Rattle.walk.specs.Parsed.{got, andThen, stopUnless}
+use Rattle.walk.specs.Fields.{word, field, sizes, header, headerBytes, ended, close}
 use Rattle.walk.specs.Limits.{Sized, Bytes}
 use Rattle.walk.proofs.Steps.{then-on, through, passed}
 use Rattle.walk.proofs.Fields.{header-on}
@@ -69,23 +69,23 @@ module _ (body l : List ℕ) where
   body-of : take (length (body ++ l) - length l) (body ++ l) ≡ body
   body-of = ap (λ k. take k (body ++ l)) before ∙ take-at body l (length body) refl
 
-  ended : ℕ → List ℕ → Parsed (Unit {0})
-  ended w rest = stopUnless (eqb (length rest) 0) 10 (stopUnless (eqb w (checkOf (take (length (body ++ l) - length l) (body ++ l)))) 11 (got tt rest))
+  close-is : close (body ++ l) l ≡ andThen (word l) (ended body)
+  unfolding close
+  close-is = ap (λ b. andThen (word l) (ended b)) body-of
 
   pub close-forth : {u : Unit {0}} {rest : List ℕ} → Bytes l → close (body ++ l) l ≡ got u rest → (l ≡ wordBytes (checkOf body)) × (rest ≡ [])
-  unfolding close ended
   close-forth {u} {rest} b e =
-      let t = through (word l) ended e in
+      let t = through (word l) (ended body) (sym close-is ∙ e) in
       let f = word-codec .forth (t .0) l (t .1) b (t .2) in
-      let p = passed (eqb (length (t .1)) 0) (stopUnless (eqb (t .0) (checkOf (take (length (body ++ l) - length l) (body ++ l)))) 11 (got tt (t .1))) 10 (t .3) in
-      let q = passed (eqb (t .0) (checkOf (take (length (body ++ l) - length l) (body ++ l)))) (got tt (t .1)) 11 (p .1) in
+      let p = passed (eqb (length (t .1)) 0) (stopUnless (eqb (t .0) (checkOf body)) 11 (got tt (t .1))) 10 (t .3) in
+      let q = passed (eqb (t .0) (checkOf body)) (got tt (t .1)) 11 (p .1) in
       let n : t .1 ≡ [] = no-more (t .1) (eqb-true (length (t .1)) 0 (p .0)) in
-      let w : t .0 ≡ checkOf body = eqb-true (t .0) (checkOf (take (length (body ++ l) - length l) (body ++ l))) (q .0) ∙ ap checkOf body-of in
+      let w : t .0 ≡ checkOf body = eqb-true (t .0) (checkOf body) (q .0) in
       let r : t .1 ≡ rest = cc (q .1) in
       (f .1 ∙ ap₂ (λ (v : ℕ) (k : List ℕ). wordBytes v ++ k) w n, sym r ∙ n)
 
 pub close-back : (body : List ℕ) → close (checked body) (wordBytes (checkOf body)) ≡ got tt []
-unfolding close ended
 close-back body =
-    then-on (ended body (wordBytes (checkOf body))) (ap word (sym (append-nil (wordBytes (checkOf body)))) ∙ word-codec .back (checkOf body) [] (check-lt body))
-    ∙ rw (body-of body (wordBytes (checkOf body)), eq-eqb (checkOf body) (checkOf body) refl)
+    close-is body (wordBytes (checkOf body))
+    ∙ then-on (ended body) (ap word (sym (append-nil (wordBytes (checkOf body)))) ∙ word-codec .back (checkOf body) [] (check-lt body))
+    ∙ rw (eq-eqb (checkOf body) (checkOf body) refl)

@@ -17,7 +17,7 @@ use Rattle.fields.specs.Opening.{startsWith}
 use Rattle.fields.specs.Check.{checkOf}
 use Rattle.walk.specs.declared.Walk.the-variants.{At}
 use Rattle.walk.specs.Parsed.{Parsed, stop, got, andThen, stopUnless, consed}
-use Rattle.walk.specs.Fields.{room, word, field, codes, sizes, header, close}
+use Rattle.walk.specs.Fields.{room, word, field, codes, sizes, header, ended, close}
 use Rattle.walk.specs.Walked.{Says}
 use Rattle.walk.proofs.Steps.{then-on, then-off, through, passed, room-got, Follows, step-on, step-off, step-done}
 
@@ -127,22 +127,18 @@ module _ (s opening : List ℕ) where
 -- ---- the check word
 
 module _ (s : List ℕ) (at : ℕ) (h : at ≤ length s) where
-  -- what is asked of a word w that ends the bytes
-  abbrev ended : ℕ → List ℕ → Parsed (Unit {0})
-  ended w rest = stopUnless (eqb (length rest) 0) 10 (stopUnless (eqb w (checkOf (take (length s - length (drop at s)) s))) 11 (got tt rest))
-
   pub close-off : {n : ℕ} → room 4 (drop at s) ≡ stop n → close s (drop at s) ≡ stop n
   unfolding close
-  close-off e = then-off ended (word-off (drop at s) e)
+  close-off e = then-off (ended (take (length s - length (drop at s)) s)) (word-off (drop at s) e)
 
   -- the bytes before the check word
   before : length s - length (drop at s) ≡ at
   before = rw length-drop (omega arith)
 
   module _ {k : ℕ} (g : Says s (room 4 (drop at s)) (At k)) where
-    close-on : close s (drop at s) ≡ ended (wordAt s at) (drop k s)
+    close-on : close s (drop at s) ≡ ended (take (length s - length (drop at s)) s) (wordAt s at) (drop k s)
     unfolding close
-    close-on = then-on ended (word-on (drop at s) (g .1)) ∙ rw (word-at-place s at)
+    close-on = then-on (ended (take (length s - length (drop at s)) s)) (word-on (drop at s) (g .1)) ∙ rw (word-at-place s at)
 
     pub close-follow : k < length s → close s (drop at s) ≡ stop 10
     close-follow l = close-on ∙ rw (ne-eqb (length (drop k s)) 0 (λ e. let f : length s - k ≡ 0 = rw length-drop at e in omega arith))

@@ -7,7 +7,8 @@
 --   sizes d           the sizes of d dimensions: stop 4
 --   header opening    the opening (stop 1), D (stop 3) and the sizes
 --   headerBytes opening zs  these as bytes
---   close s           the check word, which ends the bytes s: stop 10 if bytes follow it, then stop 11 if it is wrong
+--   ended before w    w is the check word of the bytes before it: stop 10 if bytes follow it, then stop 11 if it is wrong
+--   close s           the check word, which ends the bytes s
 use mathlib.Core.Bool.{_&&_}
 use mathlib.Core.List.{List, [], _∷_, _++_}
 use Prim.Native.Nat.{ℕ, _-_}
@@ -48,7 +49,8 @@ header opening l = stopUnless (startsWith l opening) 1 (andThen (field 1 9 3 (dr
 abbrev pub headerBytes : List ℕ → List ℕ → List ℕ
 headerBytes opening zs = opening ++ (wordBytes (length zs) ++ wordsBytes zs)
 
+abbrev pub ended : List ℕ → ℕ → List ℕ → Parsed (Unit {0})
+ended before w rest = stopUnless (eqb (length rest) 0) 10 (stopUnless (eqb w (checkOf before)) 11 (got tt rest))
+
 unfoldable pub close : List ℕ → List ℕ → Parsed (Unit {0})
-close s l =
-    andThen (word l) (λ w rest.
-    stopUnless (eqb (length rest) 0) 10 (stopUnless (eqb w (checkOf (take (length s - length l) s))) 11 (got tt rest)))
+close s l = andThen (word l) (ended (take (length s - length l) s))

@@ -1,0 +1,33 @@
+-- Worked examples of document 01 on a table's bytes, by computation.
+use mathlib.Core.Path.{_≡_, refl}
+use mathlib.Core.List.{List, [], _∷_, _++_, map, flatMap}
+use Prim.Native.Nat.{ℕ}
+use lib.IntN.{pos}
+use lib.ListN.{length, take}
+use Rattle.fields.specs.Words.{wordAt, words, wordsBytes}
+use Rattle.fields.specs.Twos.{readingAt}
+use Rattle.fields.specs.Check.{checkOf}
+use Rattle.walk.specs.Parsed.{stop, got, many}
+use Rattle.walk.specs.Fields.{room, word, reading, field, codes, header, close}
+use Rattle.cube.specs.declared.Total.{Total}
+use Rattle.cube.specs.Measure.{Row}
+use Rattle.table.specs.Layout.{Held, tableBytes}
+use Rattle.table.specs.Reading.{row, body, readTable}
+
+abbrev read : List ℕ → ℕ → Row Total
+read x n = record { codes = x; total = record { sum = pos n; count = 1 } }
+
+abbrev five : Held
+five =
+    record { sizes = 7 ∷ 6 ∷ 3 ∷ []; rows = read (0 ∷ 1 ∷ 1 ∷ []) 50 ∷ read (1 ∷ 1 ∷ 1 ∷ []) 100 ∷ read (2 ∷ 3 ∷ 1 ∷ []) 60 ∷ read (4 ∷ 5 ∷ 1 ∷ []) 70 ∷ read (6 ∷ 5 ∷ 2 ∷ []) 80 ∷ [] }
+
+-- the table of the five rows is 108 bytes
+five-length : length (tableBytes five) ≡ 108
+unfolding tableBytes wordsBytes flatMap
+five-length = refl
+
+-- its bytes; fewer than the opening; the opening and no more; a byte that follows
+reads-five : map readTable (tableBytes five ∷ take 3 (tableBytes five) ∷ take 4 (tableBytes five) ∷ (tableBytes five ++ 0 ∷ []) ∷ [])
+    ≡ got five [] ∷ stop 1 ∷ stop 2 ∷ stop 10 ∷ []
+unfolding readTable body row header field word room reading readingAt many codes close wordAt checkOf words tableBytes wordsBytes flatMap
+reads-five = refl
