@@ -13,3 +13,4 @@ pub mod Walking
 pub mod Fields
 pub mod Storing
 pub mod Examples
+pub mod Lengths

@@ -5,6 +5,7 @@
 --   cellBytes r       a normal entry or a listed cell: codes or ALL, sum, count
 --   baseBytes b       a base entry: codes, sum, count, list count, list
 --   section bytes xs  a count, and the things counted
+--   setsIn bs         how many sets base entries list
 --   Held              what an archive's fields hold: sizes, base entries, normal entries
 --   layout a          the file: opening, D, sizes, base count, base entries, normal count, normal entries, check word
 --   required zs rows  what an archive of these sizes and base rows holds: our entries
@@ -13,7 +14,7 @@
 use mathlib.Core.Path.{_≡_}
 use mathlib.Core.Bool.{true}
 use mathlib.Core.List.{List, [], _∷_, _++_, map, flatMap}
-use Prim.Native.Nat.{ℕ, _≤_}
+use Prim.Native.Nat.{ℕ, _+_, _≤_}
 use lib.ListN.{length}
 use Rattle.lists.specs.Lists.{_∈_}
 use Rattle.lists.specs.Order.{Rising, earlier}
@@ -50,6 +51,10 @@ pub record Held : Type 0 where
   pub sizes : List ℕ
   pub bases : List Based
   pub cells : List (Row Total)
+
+abbrev pub setsIn : List Based → ℕ
+setsIn [] = 0
+setsIn (b ∷ bs) = length (b .list) + setsIn bs
 
 unfoldable pub layout : Held → List ℕ
 layout a = checked (headerBytes CUBE (a .sizes) ++ (section baseBytes (a .bases) ++ section cellBytes (a .cells)))

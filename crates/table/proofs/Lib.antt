@@ -1,5 +1,6 @@
 -- Laws of tables.
 pub mod Accepted
 pub mod Examples
+pub mod Lengths
 pub mod Storing
 pub mod Rows

@@ -6,3 +6,4 @@ pub mod Places
 pub mod Codecs
 pub mod Ends
 pub mod Limits
+pub mod Lengths
