@@ -98,12 +98,20 @@ set-cell zero s (a ∷ x) k p = absurd k
 set-cell (suc d) s [] k p = absurd k
 set-cell (suc d) s (a ∷ x) k p = omega (arith, bit-shown (s % 2) a (k .0) (omega arith), set-cell d (s / 2) x (k .1) (omega arith))
 
--- the full set shows every code, so the row is its own cell
+pub coded-length : (d : ℕ) (x : List ℕ) → Coded d x → length x ≡ d
+coded-length zero [] k = refl
+coded-length zero (a ∷ x) k = absurd k
+coded-length (suc d) [] k = absurd k
+coded-length (suc d) (a ∷ x) k = ap suc (coded-length d x (k .1))
+
+-- the full set of at least as many dimensions shows every code, so the row is its own cell
+pub cell-wide : (d : ℕ) (x : List ℕ) → length x ≤ d → cell (full d) x ≡ x
+cell-wide d [] h = refl
+cell-wide zero (a ∷ x) h = absurd (omega arith)
+cell-wide (suc d) (a ∷ x) h = rw (full-suc d .0, full-suc d .1, cell-wide d x (omega arith))
+
 pub cell-full : (d : ℕ) (x : List ℕ) → Coded d x → cell (full d) x ≡ x
-cell-full zero [] k = refl
-cell-full zero (a ∷ x) k = absurd k
-cell-full (suc d) [] k = absurd k
-cell-full (suc d) (a ∷ x) k = rw (full-suc d .0, full-suc d .1, cell-full d x (k .1))
+cell-full d x k = cell-wide d x (omega (arith, coded-length d x k))
 
 -- a cell in which a row falls is the row's cell of the cell's set
 fits-is : (a b : ℕ) → (eqb a ALL || eqb a b) ≡ true → (bit (eqb a ALL) < 2) × (a ≡ shown (bit (eqb a ALL)) b)

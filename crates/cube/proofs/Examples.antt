@@ -1,7 +1,7 @@
 -- The P examples of document 01, from the definitions by computation: one list, one theorem. Each starts at the rows of a table.
 use mathlib.Core.Path.{_≡_, refl}
 use mathlib.Core.List.{List, [], _∷_, map, flatMap}
-use Prim.Native.Nat.{ℕ}
+use Prim.Native.Nat.{ℕ, suc}
 use lib.IntN.{ℤ, pos, negsuc}
 use lib.Count.{ones, onesIn}
 use lib.ListN.{length}
@@ -21,21 +21,22 @@ abbrev many : List ℕ → ℕ → ℕ → Row Total
 many x s n = record { codes = x; total = record { sum = pos s; count = n } }
 
 -- what an example says: the entries of our condensed cube, how many cells the complete cube has, and answers to questions
-record Said : Type 0 where
-  entries : List (Entry Total)
-  cells : ℕ
-  answers : List (Answer Total)
+pub record Said : Type 0 where
+  pub entries : List (Entry Total)
+  pub cells : ℕ
+  pub answers : List (Answer Total)
 
-record Example : Type 0 where
-  dims : ℕ
-  rows : List (Row Total)
-  questions : List (List ℕ)
-  said : Said
+pub record Example : Type 0 where
+  pub sizes : List ℕ
+  pub rows : List (Row Total)
+  pub questions : List (List ℕ)
+  pub said : Said
 
 abbrev computed : Example → Said
 computed e =
-    let L = plain (e .dims) in
-    let rows = folded sums (e .dims) (e .rows) in
+    let d = length (e .sizes) in
+    let L = plain d in
+    let rows = folded sums d (e .rows) in
     record {
       entries = ours L sums rows;
       cells = length (complete L sums rows);
@@ -45,11 +46,11 @@ computed e =
 abbrev eight : List ℕ
 eight = 1 ∷ 2 ∷ 3 ∷ 4 ∷ 5 ∷ 6 ∷ 7 ∷ 8 ∷ []
 
-abbrev examples : List Example
+abbrev pub examples : List Example
 examples =
     -- the five rows of source document 004
     record {
-      dims = 3;
+      sizes = 7 ∷ 6 ∷ 3 ∷ [];
       rows = row (0 ∷ 1 ∷ 1 ∷ []) (pos 50) ∷ row (1 ∷ 1 ∷ 1 ∷ []) (pos 100) ∷ row (2 ∷ 3 ∷ 1 ∷ []) (pos 60) ∷ row (4 ∷ 5 ∷ 1 ∷ []) (pos 70) ∷ row (6 ∷ 5 ∷ 2 ∷ []) (pos 80) ∷ [];
       questions = (ALL ∷ 5 ∷ 1 ∷ []) ∷ (0 ∷ 3 ∷ ALL ∷ []) ∷ (ALL ∷ 1 ∷ ALL ∷ []) ∷ [];
       said =
@@ -65,14 +66,14 @@ examples =
     }
     -- two readings that add up to nothing make one row
     ∷ record {
-      dims = 1;
+      sizes = 1 ∷ [];
       rows = row (0 ∷ []) (pos 5) ∷ row (0 ∷ []) (negsuc 4) ∷ [];
       questions = [];
       said = record { entries = base (many (0 ∷ []) 0 2) (0 ∷ []) ∷ []; cells = 2; answers = [] };
     }
     -- a reading of 0 is a row like any other
     ∷ record {
-      dims = 2;
+      sizes = 2 ∷ 2 ∷ [];
       rows = row (0 ∷ 0 ∷ []) (pos 5) ∷ row (0 ∷ 1 ∷ []) (pos 0) ∷ [];
       questions = [];
       said =
@@ -86,7 +87,7 @@ examples =
     }
     -- no row is single anywhere
     ∷ record {
-      dims = 2;
+      sizes = 2 ∷ 2 ∷ [];
       rows = row (0 ∷ 0 ∷ []) (pos 1) ∷ row (0 ∷ 1 ∷ []) (pos 1) ∷ row (1 ∷ 0 ∷ []) (pos 1) ∷ row (1 ∷ 1 ∷ []) (pos 1) ∷ [];
       questions = [];
       said =
@@ -100,10 +101,10 @@ examples =
           };
     }
     -- no row, no cell
-    ∷ record { dims = 1; rows = []; questions = (ALL ∷ []) ∷ []; said = record { entries = []; cells = 0; answers = no-record ∷ [] } }
+    ∷ record { sizes = 1 ∷ []; rows = []; questions = (ALL ∷ []) ∷ []; said = record { entries = []; cells = 0; answers = no-record ∷ [] } }
     -- one row stands for all its cells
     ∷ record {
-      dims = 8;
+      sizes = map suc eight;
       rows = row eight (pos 5) ∷ [];
       questions = [];
       said = record { entries = base (row eight (pos 5)) (0 ∷ []) ∷ []; cells = 256; answers = [] };

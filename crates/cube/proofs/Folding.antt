@@ -11,7 +11,7 @@ use Rattle.lattice.specs.Sets.{full}
 use Rattle.cube.specs.Measure.{Measure, Adds, Row, totalOf, totalAt, codesOf}
 use Rattle.cube.specs.Lattice.{Lattice}
 use Rattle.cube.specs.Codes.{Coded, falls, plain}
-use Rattle.cube.specs.Cube.{Exists, cuboid, total, filled, grouped, complete}
+use Rattle.cube.specs.Cube.{cuboid, total, filled, grouped, complete}
 use Rattle.cube.specs.Condensed.{Base}
 use Rattle.cube.specs.Table.{Table, folded}
 use Rattle.cube.proofs.Codes.{cell-full, falls-same}
@@ -66,9 +66,6 @@ module _ {A : Type 0} (M : Measure A) (d : ℕ) (rows : List (Row A)) (t : Table
 
   -- Cells and totals of the base rows are those of the table, under any lattice.
   module _ (L : Lattice) where
-    pub exists-folded : (c : List ℕ) → Exists L (codesOf (folded M d rows)) c ↔ Exists L (codesOf rows) c
-    exists-folded c = (λ h. (h .0, folded-in (h .0) .0 (h .1), h .2), λ h. (h .0, folded-in (h .0) .1 (h .1), h .2))
-
     pub cuboid-folded : (s : ℕ) → cuboid L (codesOf (folded M d rows)) s ≡ cuboid L (codesOf rows) s
     cuboid-folded s = cuboid-same L (codesOf (folded M d rows)) (codesOf rows) s (λ x. folded-in x .0) (λ x. folded-in x .1)
 

@@ -1,11 +1,12 @@
--- Laws of an opening: the test byte by byte.
-use mathlib.Core.Path.{_≡_, refl, ap₂}
-use mathlib.Core.Bool.{Bool, true, false, _&&_, false≢true}
-use mathlib.Core.List.{List, [], _∷_, _++_}
+-- Laws of an opening: the test byte by byte, and part by part.
+use mathlib.Core.Path.{_≡_, refl, sym, ap, ap₂, _∙_}
+use mathlib.Core.Bool.{Bool, true, false, _&&_, false≢true, and-assoc}
+use mathlib.Core.List.{List, [], _∷_, _++_, append-nil}
 use Prim.Native.Nat.{ℕ, _+_, _≤_, _<_}
 use native.Mathlib.Numerals.{add-one}
+use native.Mathlib.Omega.{arith}
 use lib.Dec.{eqb}
-use lib.ListN.{length, drop, getD, drop-of-length-le}
+use lib.ListN.{length, drop, getD, length-append, drop-of-length-le}
 use lib.Seq.{drop-cons}
 use borrow.Author.Tests.{eq-eqb, eqb-true}
 use Rattle.fields.specs.Opening.{startsWith}
@@ -26,6 +27,21 @@ starts-is (y ∷ s) (x ∷ o) e =
     and-true-parts : (a b : Bool) → a && b ≡ true → (a ≡ true) × (b ≡ true)
     and-true-parts true b e = (refl, e)
     and-true-parts false b e = absurd (false≢true e)
+
+-- which is no longer than the list
+pub starts-length : (s o : List ℕ) → startsWith s o ≡ true → length o ≤ length s
+starts-length s o e = omega (arith, ap length (starts-is s o e), length-append o (drop (length o) s))
+
+-- and is the list where both are of one length
+pub starts-whole : (s o : List ℕ) → startsWith s o ≡ true → length s ≡ length o → s ≡ o
+starts-whole s o e h = starts-is s o e ∙ ap (_++_ o) (drop-of-length-le s {i = length o} (omega (arith, h))) ∙ append-nil o
+
+-- two parts one straight after the other
+pub startsWith-append : (s o p : List ℕ) → startsWith s (o ++ p) ≡ startsWith s o && startsWith (drop (length o) s) p
+startsWith-append s [] p = refl
+startsWith-append [] (x ∷ o) p = refl
+startsWith-append (y ∷ s) (x ∷ o) p =
+    ap (λ (b : Bool). eqb y x && b) (startsWith-append s o p) ∙ sym (and-assoc (eqb y x) (startsWith s o) (startsWith (drop (length o) s) p))
 
 -- the test at place i, and what is left after it
 pub starts-at : (s o : List ℕ) (i : ℕ) → i < length s → i < length o

@@ -1,7 +1,6 @@
 -- Laws of two's complement, over the width.
 use mathlib.Core.Path.{_≡_, refl, ap, _∙_}
 use mathlib.Core.Bool.{Bool, true, false, cond}
-use mathlib.Core.List.{List}
 use Prim.Native.Nat.{ℕ, suc, _-_, _^_, _≤_, _<_}
 use native.Mathlib.Omega.{arith}
 use lib.Dec.{ltb}
@@ -9,8 +8,7 @@ use lib.IntN.{ℤ, pos, negsuc}
 use lib.Pow.{pow-pos}
 use lib.Signed.{mag}
 use borrow.Author.Tests.{lt-ltb, le-ltb, ltb-true, ltb-false}
-use Rattle.fields.specs.Words.{wordAt}
-use Rattle.fields.specs.Twos.{signedOf, bitsOf, readingAt}
+use Rattle.fields.specs.Twos.{signedOf, bitsOf}
 
 -- bits of the lower half stand for themselves
 pub signed-low : (k n : ℕ) → n < 2 ^ k → signedOf (suc k) n ≡ pos n
@@ -45,8 +43,3 @@ signed-fits k n = go (ltb n (2 ^ k)) refl
     go : (b : Bool) → ltb n (2 ^ k) ≡ b → mag (signedOf (suc k) n) < 2 ^ k
     go true e = rw (signed-low k n (ltb-true n (2 ^ k) e)) (ltb-true n (2 ^ k) e)
     go false e = rw (signed-high k n (ltb-false n (2 ^ k) e)) (omega (arith, ltb-false n (2 ^ k) e, pow-pos k))
-
--- so does what is read as a reading
-pub reading-fits : (s : List ℕ) (at : ℕ) → mag (readingAt s at) < 2 ^ 31
-unfolding readingAt
-reading-fits s at = signed-fits 31 (wordAt s at)

@@ -128,23 +128,30 @@ pub fn put_reading(out: &mut [u8], reading: i64) -> usize
     put_word(out, (n % 0x1_0000_0000) as u32)
 }
 
+// Whether s begins with the bytes xs.
+pub fn begins(s: &[u8], xs: &[u8]) -> bool
+    ensures { λ r. ⌜ r ≡ startsWith (now (s .entry)) (now (xs .entry)) ⌝ }
+{
+    let mut i = 0;
+    while i < xs.len() {
+        if s.len() <= i {
+            return false;
+        }
+        if s[i] != xs[i] {
+            return false;
+        }
+        i += 1;
+    }
+    true
+}
+
 // Whether s begins with the opening bytes, of which there are four.
 pub fn opening_is(s: &[u8], opening: &[u8; 4]) -> bool
     ensures { λ r. ⌜ r ≡ startsWith (now (s .entry)) (now (opening .entry)) ⌝ }
     ensures { λ r. ⌜ length (now (opening .entry)) ≡ 4 ⌝ }
 {
     let bytes: &[u8] = opening;
-    let mut i = 0;
-    while i < bytes.len() {
-        if s.len() <= i {
-            return false;
-        }
-        if s[i] != bytes[i] {
-            return false;
-        }
-        i += 1;
-    }
-    true
+    begins(s, bytes)
 }
 
 // Writes the opening bytes over the front of out.

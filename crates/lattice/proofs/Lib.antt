@@ -2,3 +2,4 @@
 pub mod Sets
 pub mod Mask
 pub mod Table
+pub mod Turns

@@ -47,7 +47,7 @@ table-is l e =
 pub table-at : (l : List ℕ) (k : ℕ) → right l ≡ true → getD l k 0 ≡ getD (sets 8) k 0
 table-at l k e = ap (λ (t : List ℕ). getD t k 0) (table-is l e)
 
-all-sets : length (sets 8) ≡ 256
+pub all-sets : length (sets 8) ≡ 256
 unfolding sets ones onesIn
 all-sets = refl
 

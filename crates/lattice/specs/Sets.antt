@@ -6,13 +6,15 @@
 --   before s t      s comes before t in lattice order: fewer dimensions first, then the smaller number
 --   full d          the full set of d dimensions
 --   sets d          the sets of d dimensions, in lattice order
+--   setsFrom m k    of the 256 sets in lattice order, those from place k on that are below m
 --   holds d s t     among d dimensions, each one of set t is one of set s
 use mathlib.Core.Bool.{Bool, true, _&&_}
 use mathlib.Core.List.{List, [], _∷_}
 use Prim.Native.Nat.{ℕ, zero, suc, _-_, _/_, _%_, _^_}
-use lib.Dec.{leb}
+use lib.Dec.{leb, ltb}
 use lib.Count.{ones}
-use Rattle.lists.specs.Lists.{below}
+use lib.ListN.{drop}
+use Rattle.lists.specs.Lists.{keep, below}
 use Rattle.lists.specs.Order.{earlier, sort}
 
 abbrev pub size : ℕ → ℕ
@@ -29,6 +31,9 @@ full d = 2 ^ d - 1
 
 unfoldable pub sets : ℕ → List ℕ
 sets d = sort before (below (2 ^ d))
+
+unfoldable pub setsFrom : ℕ → ℕ → List ℕ
+setsFrom m k = keep (λ s. ltb s m) (drop k (sets 8))
 
 abbrev pub holds : ℕ → ℕ → ℕ → Bool
 holds zero s t = true

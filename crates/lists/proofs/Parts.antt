@@ -1,18 +1,33 @@
 -- Parts of lists.
-use mathlib.Core.Path.{_≡_}
-use mathlib.Core.List.{List, _++_, Memᴰ·append-left, Memᴰ·append-right}
-use Prim.Native.Nat.{ℕ, _+_, _≤_}
+use mathlib.Core.Path.{_≡_, sym, _∙_}
+use mathlib.Core.List.{List, [], _∷_, _++_, Memᴰ·append-left, Memᴰ·append-right, Memᴰ·cast}
+use Prim.Native.Nat.{ℕ, zero, suc, _+_, _-_, _≤_, _<_}
+use native.Mathlib.Nat.{zero-add, suc-add}
 use native.Mathlib.Omega.{arith}
-use lib.ListN.{length, take, drop, length-drop, take-append-drop}
-use lib.Seq.{slice, take-append-le, drop-append-le}
+use lib.ListN.{length, getD, take, drop, length-drop, take-append-drop}
+use lib.Seq.{slice, take-nil, drop-nil, take-append-le, drop-append-le, getD-take, getD-drop, length-slice}
 use Rattle.lists.specs.Lists.{_∈_}
+use Rattle.lists.proofs.Members.{at-in}
 
 -- a part of a list that lies in its front
 pub part-front : {A : Type 0} (p q : List A) (a d : ℕ) → a + d ≤ length p → take d (drop a (p ++ q)) ≡ take d (drop a p)
 part-front p q a d h = rw (drop-append-le a p q (omega arith)) (take-append-le d (drop a p) q (simp length-drop (omega arith)))
+
+-- the front of a list, from a place on
+pub drop-take : {A : Type 0} (n m : ℕ) (l : List A) → drop n (take (n + m) l) ≡ take m (drop n l)
+drop-take zero m l = rw zero-add
+drop-take (suc n) m [] = simp (take-nil, drop-nil)
+drop-take (suc n) m (x ∷ l) = rw suc-add (drop-take n m l)
 
 -- members of a part are members
 pub slice-in : {z : ℕ} (from end : ℕ) (l : List ℕ) → z ∈ slice from end l → z ∈ l
 slice-in {z} from end l m =
     let p : z ∈ take end l = rw (take-append-drop from (take end l)) at (Memᴰ·append-right (take from (take end l)) m) in
     rw (take-append-drop end l) at (Memᴰ·append-left (drop end l) p)
+
+-- what stands at a place of a part is a member of it
+pub slice-at : (from end k : ℕ) (l : List ℕ) → from ≤ k → k < end → end ≤ length l → getD l k 0 ∈ slice from end l
+slice-at from end k l g h e =
+    let p : from + (k - from) ≡ k = omega arith in
+    let q : getD (slice from end l) (k - from) 0 ≡ getD l k 0 = getD-drop from (take end l) (k - from) 0 ∙ rw p (getD-take end l k 0 h) in
+    Memᴰ·cast (sym q) (at-in 0 (slice from end l) (k - from) (rw (length-slice from end l e) (omega arith)))

@@ -59,3 +59,9 @@ module _ {A : Type 0} (a : A) where
   distinct-at l k j p h m d = cases (truth (ltb k j))
       (λ e. pairwise-at _≢_ l k j p (ltb-true k j e) m)
       (λ e. let g : j < k = omega (arith, ltb-false k j e) in λ q. pairwise-at _≢_ l j k p g h (sym q))
+
+-- the member at a place of a list that f made
+pub map-at : {A B : Type 0} (f : A → B) (a : A) (b : B) (l : List A) (k : ℕ) → k < length l → getD (map f l) k b ≡ f (getD l k a)
+map-at f a b [] k h = absurd (omega arith)
+map-at f a b (x ∷ l) zero h = refl
+map-at f a b (x ∷ l) (suc k) h = map-at f a b l k (omega arith)

@@ -5,8 +5,8 @@
 use Prim.Native.Nat.{ℕ, _+_, _*_, _^_}
 use Rattle.table.specs.declared.TableRead.{TableRead}
 use Rattle.table.specs.declared.TableRead.the-variants as Table
-use Rattle.archive.specs.declared.ArchiveRead.{ArchiveRead}
-use Rattle.archive.specs.declared.ArchiveRead.the-variants as Archive
+use Rattle.entries.specs.declared.ArchiveRead.{ArchiveRead}
+use Rattle.entries.specs.declared.ArchiveRead.the-variants as Archive
 
 abbrev pub tableNumber : TableRead → ℕ
 tableNumber (Table.Stop n) = 2 ^ 63 + n

@@ -1,9 +1,9 @@
 // The two readers behind a C interface, for the tests in Rust.
-use archive::ArchiveRead;
+use entries::ArchiveRead;
 use table::TableRead;
 ghost use mathlib.Core.Path.{_≡_};
 ghost use Rattle.table.specs.Reading.{readTable, answer as tableAnswer, Stored as TableStored};
-ghost use Rattle.archive.specs.Reading.{walkArchive, answer as archiveAnswer, Stored as ArchiveStored};
+ghost use Rattle.entries.specs.Reading.{walkArchive, answer as archiveAnswer, Stored as ArchiveStored};
 ghost use Rattle.probe.specs.Numbers.{tableNumber, archiveNumber};
 
 // Reads a table: 2^63 plus a stop's number, or D plus 2^32 times the number of base rows.
@@ -34,7 +34,7 @@ pub extern "C" fn probe_archive(
     ensures { λ r. ⌜ r ≡ archiveNumber (archiveAnswer (walkArchive (now (s .entry)))) ⌝ }
     ensures { λ r. ⌜ ArchiveStored (walkArchive (now (s .entry))) (now (codes .exit)) (now (sums .exit)) (now (counts .exit)) ⌝ }
 {
-    match archive::read_archive(s, codes, sums, counts) {
+    match entries::read_archive(s, codes, sums, counts) {
         ArchiveRead::Stop(n) => 9223372036854775808 + n as u64,
         ArchiveRead::Entries {
             dims: _,

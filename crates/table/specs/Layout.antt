@@ -4,7 +4,7 @@
 --   Held            what a table holds: the sizes of its dimensions, and its rows
 --   rowBytes r      a row: its codes and its reading
 --   tableBytes t    the file: opening, D, sizes, row count, rows, check word
---   Below zs x      codes x are below the sizes zs, one each
+--   Reads zs r      a row of a table: codes below the sizes zs, and one reading of 32 bits
 --   Limits t        the limits of document 01
 use mathlib.Core.Path.{_≡_}
 use mathlib.Core.List.{List, [], _∷_, _++_, flatMap}

@@ -1,0 +1,2 @@
+-- Laws of the cells of a table as bytes.
+pub mod Cells

@@ -1,0 +1,46 @@
+-- Laws of bytes compared part by part, for loops and for sections that follow one another.
+use mathlib.Core.Path.{_≡_, refl, sym, ap, _∙_}
+use mathlib.Core.Bool.{Bool, false, _&&_}
+use mathlib.Core.List.{List, [], _++_, append-assoc, append-nil}
+use Prim.Native.Nat.{ℕ, _+_, _≤_}
+use native.Mathlib.Nat.{add-zero}
+use native.Mathlib.Omega.{arith}
+use lib.ListN.{length, drop, length-append}
+use lib.Seq.{drop-drop}
+use Rattle.fields.specs.Opening.{startsWith}
+use Rattle.fields.specs.OpeningLaws.{startsWith-append}
+use Rattle.walk.specs.declared.Walk.the-variants.{Stop, At}
+use Rattle.writing.specs.Matched.{Matched, Matching}
+
+pub matching-none : (all s : List ℕ) (at : ℕ) → at ≤ length s → Matching all all s at at
+matching-none all s at h = record { done = []; whole = refl; begun = refl; place = sym (add-zero at); within = h }
+
+-- what is left settles whether more than what is done stands there
+matching-rest : {all left s : List ℕ} {at₀ at : ℕ} (w : Matching all left s at₀ at) (xs : List ℕ)
+    → startsWith (drop at₀ s) (w .done ++ xs) ≡ startsWith (drop at s) xs
+matching-rest {s = s} {at₀ = at₀} w xs =
+    startsWith-append (drop at₀ s) (w .done) xs
+    ∙ ap (λ (b : Bool). b && startsWith (drop (length (w .done)) (drop at₀ s)) xs) (w .begun)
+    ∙ ap (λ (l : List ℕ). startsWith l xs) (drop-drop (length (w .done)) at₀ s ∙ ap (λ (k : ℕ). drop k s) (sym (w .place)))
+
+-- one part more stands there
+pub matching-more : {all s : List ℕ} {at₀ at k : ℕ} (part left : List ℕ) → Matching all (part ++ left) s at₀ at → Matched s at part (At k) → Matching all left s at₀ k
+matching-more part left w m = record {
+  done = w .done ++ part;
+  whole = append-assoc (w .done) part left ∙ w .whole;
+  begun = matching-rest w part ∙ m .meets .0;
+  place = omega (arith, m .meets .1, w .place, length-append (w .done) part);
+  within = m .meets .2;
+}
+
+-- the next part does not
+pub matching-off : {all s : List ℕ} {at₀ at n : ℕ} (part left : List ℕ) → Matching all (part ++ left) s at₀ at → Matched s at part (Stop n) → Matched s at₀ all (Stop n)
+matching-off {all} {s} {at₀} {at} part left w m =
+    let e : startsWith (drop at₀ s) (w .done ++ (part ++ left)) ≡ false =
+    matching-rest w (part ++ left) ∙ startsWith-append (drop at s) part left ∙ ap (λ (b : Bool). b && startsWith (drop (length part) (drop at s)) left) (m .meets .1) in
+    record { meets = (m .meets .0, rw (w .whole) at e) }
+
+pub matching-done : {all s : List ℕ} {at₀ at : ℕ} → Matching all [] s at₀ at → Matched s at₀ all (At at)
+matching-done {all} {s} {at₀} w =
+    let e : w .done ≡ all = sym (append-nil (w .done)) ∙ w .whole in
+    record { meets = (ap (startsWith (drop at₀ s)) (sym e) ∙ w .begun, w .place ∙ ap (λ (l : List ℕ). at₀ + length l) e, w .within) }

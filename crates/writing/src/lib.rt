@@ -1,0 +1,76 @@
+// Cells and base entries as bytes: written over the front of lent bytes, and compared with given ones.
+use walk::Walk;
+ghost use mathlib.Core.Path.{_≡_};
+ghost use mathlib.Core.List.{flatMap};
+ghost use Prim.Native.Nat.{_+_, _*_, _≤_};
+ghost use lib.ListN.{length};
+ghost use Rattle.fields.specs.Written.{Wrote};
+ghost use Rattle.rows.specs.Rows.{rowsOf};
+ghost use Rattle.walk.specs.Fields.{headerBytes};
+ghost use Rattle.entries.specs.Layout.{CUBE, cellBytes, baseBytes};
+ghost use Rattle.writing.specs.Matched.{Matched};
+
+// Writes the front of an archive: the opening, D and the sizes.
+pub fn put_header(out: &mut [u8], sizes: &[u32]) -> usize
+    requires { ⌜ (length (now sizes) ≤ 8) × (8 + 4 * length (now sizes) ≤ length (now out)) ⌝ }
+    ensures { λ r. ⌜ Wrote (headerBytes CUBE (now (sizes .entry))) (now (out .entry)) (now (out .exit)) r ⌝ }
+{
+    let mut at = fields::put_opening(out, b"CUBE");
+    at += fields::put_word(&mut out[at..], sizes.len() as u32);
+    at + fields::put_words(&mut out[at..], sizes)
+}
+
+// Writes a cell: its codes or ALL, its sum and its count.
+pub fn put_cell(out: &mut [u8], codes: &[u32], sum: i64, count: u32) -> usize
+    requires { ⌜ 4 * length (now codes) + 12 ≤ length (now out) ⌝ }
+    ensures { λ r. ⌜ Wrote (cellBytes (record { codes = now (codes .entry); total = record { sum = sum; count = count } })) (now (out .entry)) (now (out .exit)) r ⌝ }
+{
+    let mut at = fields::put_words(out, codes);
+    at += fields::put_sum(&mut out[at..], sum);
+    at + fields::put_word(&mut out[at..], count)
+}
+
+// Writes the cells of n rows one straight after the other.
+pub fn put_cells(
+    out: &mut [u8],
+    codes: &[u32],
+    sums: &[i64],
+    counts: &[u32],
+    n: usize,
+    dims: usize,
+) -> usize
+    requires { ⌜ (n * dims ≡ length (now codes)) × (n ≤ length (now sums)) × (n ≤ length (now counts)) × (n * (4 * dims + 12) ≤ length (now out)) ⌝ }
+    ensures { λ r. ⌜ Wrote (flatMap cellBytes (rowsOf dims n (now (codes .entry)) (now (sums .entry)) (now (counts .entry)))) (now (out .entry)) (now (out .exit)) r ⌝ }
+{
+    let mut at = 0;
+    for i in 0..n {
+        let mine = rows::row_of(codes, n, dims, i);
+        let sum = sums[i];
+        let count = counts[i];
+        at += put_cell(&mut out[at..], mine, sum, count);
+    }
+    at
+}
+
+// Writes a base entry: a row and its list.
+pub fn put_entry(out: &mut [u8], codes: &[u32], sum: i64, count: u32, list: &[u32]) -> usize
+    requires { ⌜ 4 * length (now codes) + 16 + 4 * length (now list) ≤ length (now out) ⌝ }
+    requires { ⌜ length (now list) ≤ 70 ⌝ }
+    ensures { λ r. ⌜ Wrote (baseBytes (record { row = record { codes = now (codes .entry); total = record { sum = sum; count = count } }; list = now (list .entry) })) (now (out .entry)) (now (out .exit)) r ⌝ }
+{
+    let mut at = put_cell(out, codes, sum, count);
+    at += fields::put_word(&mut out[at..], list.len() as u32);
+    at + fields::put_words(&mut out[at..], list)
+}
+
+// Whether the bytes s have the bytes xs from a place on: the place behind them, or stop 12.
+pub fn match_bytes(s: &[u8], at: usize, xs: &[u8]) -> Walk
+    requires { ⌜ at ≤ length (now s) ⌝ }
+    ensures { λ r. ⌜ Matched (now (s .entry)) at (now (xs .entry)) r ⌝ }
+{
+    if fields::begins(&s[at..], xs) {
+        Walk::At(at + xs.len())
+    } else {
+        Walk::Stop(12)
+    }
+}
