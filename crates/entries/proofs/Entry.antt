@@ -133,7 +133,7 @@ module _ (s : List ℕ) (at : ℕ) where
 
 -- ---- an entry that was read at a place
 
-sum-read : (s : List ℕ) (at : ℕ) {z : ℤ} {rest : List ℕ} → at ≤ length s → sum (drop at s) ≡ got z rest → Took s at 8 rest × (z ≡ sumAt s at)
+pub sum-read : (s : List ℕ) (at : ℕ) {z : ℤ} {rest : List ℕ} → at ≤ length s → sum (drop at s) ≡ got z rest → Took s at 8 rest × (z ≡ sumAt s at)
 unfolding sum
 sum-read s at {z} {rest} h e =
     let t = through (room 8 (drop at s)) (λ u l. got (sumAt (drop at s) 0) l) e in

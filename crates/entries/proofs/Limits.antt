@@ -31,7 +31,7 @@ use Rattle.cube.proofs.Normals.{normals-in, normals-length}
 use Rattle.cube.proofs.Antichain.{listed-short}
 use Rattle.entries.specs.Layout.{Based, Held, based, required, Fair, Limits}
 use Rattle.entries.specs.Reading.{fair, rowsIn}
-use Rattle.entries.proofs.Written.{Words, Enters, Entered}
+use Rattle.entries.proofs.Written.{Words, Wide, Enters, Entered}
 use Rattle.entries.proofs.Walkable.{Walkable}
 
 -- ---- base entries that were read
@@ -82,13 +82,7 @@ walkable-limits a w = record {
   counts = omega (arith, entered-count (a .sizes) [] 0 (a .bases) (omega arith) (w .entered));
 }
 
--- ---- base rows within the limits
-
-count-le : {r : Row Total} (rows : List (Row Total)) → r ∈ rows → r .total .count ≤ countOf rows
-count-le [] m = absurd (List·Memᴰ·not-nil m)
-count-le {r} (q ∷ rows) m = cases (List·Memᴰ·cases-cons m)
-    (λ e. let f : r .total .count ≡ q .total .count = ap (λ (p : Row Total). p .total .count) e in omega (arith, f))
-    (λ i. omega (arith, count-le rows i))
+-- ---- our normal entries
 
 -- a cell is made of words
 cell-words : (d s : ℕ) (x : List ℕ) → Coded d x → (w : ℕ) → w ∈ cell s x → w < 2 ^ 32
@@ -99,6 +93,40 @@ cell-words (suc d) s (a ∷ x) k w m = cases (List·Memᴰ·cases-cons m) (λ e.
     word : (b : ℕ) → shown b a < 2 ^ 32
     word zero = omega arith
     word (suc b) = omega (arith, k .0)
+
+module _ (d : ℕ) (rows : List (Row Total)) where
+  -- a normal cell of ours is made of words
+  normal-words : Base (plain d) (codesOf rows) → (c : List ℕ) → c ∈ normals (plain d) (codesOf rows) → Words d c
+  normal-words b c m =
+      let h = within-exists (plain d) (codesOf rows) c (omega (arith, normals-in (plain d) (plain-laws d) (codesOf rows) b m)) in
+      let k = b .valid (h .0) (h .1) in
+      let e = plain-laws d .cell-of c (h .0) k (h .2) .1 in
+      rw e (length-cell _ (h .0) ∙ coded-length d (h .0) k, cell-words d _ (h .0) k)
+
+  -- and its total is not too wide
+  pub normals-wide : Base (plain d) (codesOf rows) → Summable rows → {r : Row Total} → r ∈ map (filled (plain d) sums rows) (normals (plain d) (codesOf rows))
+      → Words d (r .codes) × Wide (r .total)
+  normals-wide b s m =
+      let q = Memᴰ·of-map (filled (plain d) sums rows) (normals (plain d) (codesOf rows)) m in
+      let t = total-bounded (plain d) rows (q .0) s in
+      rw (← q .2) (normal-words b (q .0) (q .1), (bounded-fits _ t .sfits, omega (arith, t .count)))
+
+  -- there are not many
+  pub normals-few : d ≤ 8 → length rows ≤ 1024 → length (normals (plain d) (codesOf rows)) ≤ 262144
+  normals-few h k =
+      let n = normals-length (plain d) (codesOf rows) in
+      let l = length-map rows (λ q. q .codes) in
+      let s : length (sets d) ≤ 256 = omega (arith, sets-length d, pow-mono h) in
+      let m : length (sets d) * length (codesOf rows) ≤ 256 * length (codesOf rows) = mul-le-mul-right (length (codesOf rows)) s in
+      omega (arith, n, m, k, l)
+
+-- ---- base rows within the limits
+
+count-le : {r : Row Total} (rows : List (Row Total)) → r ∈ rows → r .total .count ≤ countOf rows
+count-le [] m = absurd (List·Memᴰ·not-nil m)
+count-le {r} (q ∷ rows) m = cases (List·Memᴰ·cases-cons m)
+    (λ e. let f : r .total .count ≡ q .total .count = ap (λ (p : Row Total). p .total .count) e in omega (arith, f))
+    (λ i. omega (arith, count-le rows i))
 
 module _ (zs : List ℕ) (rows : List (Row Total)) (l : Limits zs rows) where
   abbrev d : ℕ
@@ -148,32 +176,12 @@ module _ (zs : List ℕ) (rows : List (Row Total)) (l : Limits zs rows) where
       go [] e = absurd (omega (arith, l .sized .some))
       go (a ∷ x) e = refl
 
-  -- a normal cell of ours is made of words, and its total is not too wide
-  normal-words : (c : List ℕ) → c ∈ normals (plain d) (codesOf rows) → Words d c
-  normal-words c m =
-      let h = within-exists (plain d) (codesOf rows) c (omega (arith, normals-in (plain d) (plain-laws d) (codesOf rows) limits-base m)) in
-      let k = limits-base .valid (h .0) (h .1) in
-      let e = plain-laws d .cell-of c (h .0) k (h .2) .1 in
-      rw e (length-cell _ (h .0) ∙ coded-length d (h .0) k, cell-words d _ (h .0) k)
-
-  -- there are fewer than 2 to the power 32 of them
-  normals-few : length (normals (plain d) (codesOf rows)) < 2 ^ 32
-  normals-few =
-      let n = normals-length (plain d) (codesOf rows) in
-      let k : length (codesOf rows) ≤ 1024 = omega (arith, l .few, length-map rows (λ q. q .codes)) in
-      let s : length (sets d) ≤ 256 = omega (arith, sets-length d, pow-mono (l .sized .few)) in
-      let m : length (sets d) * length (codesOf rows) ≤ 256 * length (codesOf rows) = mul-le-mul-right (length (codesOf rows)) s in
-      omega (arith, n, m, k)
-
   pub limits-walkable : Walkable (required zs rows)
   unfolding required
   limits-walkable = record {
     sized = l .sized;
     few = omega (arith, l .few, length-map rows (based d rows));
     entered = entered [] 0 rows (l .each) first (l .rising) (omega (arith, l .counts));
-    count = omega (arith, normals-few, length-map (normals (plain d) (codesOf rows)) (filled (plain d) sums rows));
-    each = λ r m.
-        let q = Memᴰ·of-map (filled (plain d) sums rows) (normals (plain d) (codesOf rows)) m in
-        let b = total-bounded (plain d) rows (q .0) limits-summable in
-        rw (← q .2) (normal-words (q .0) (q .1), (bounded-fits _ b .sfits, omega (arith, b .count)));
+    count = omega (arith, normals-few d rows (l .sized .few) (l .few), length-map (normals (plain d) (codesOf rows)) (filled (plain d) sums rows));
+    each = λ r m. normals-wide d rows limits-base limits-summable m;
   }

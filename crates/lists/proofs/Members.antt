@@ -1,8 +1,8 @@
 -- Members of the lists that tests, functions and bounds make.
-use mathlib.Core.Path.{_≡_, refl, sym, ap, ap₂}
+use mathlib.Core.Path.{_≡_, refl, sym, ap, ap₂, _∙_}
 use mathlib.Core.Logic.{_≢_, _⊎_, inl, inr}
 use mathlib.Core.Bool.{Bool, true, false}
-use mathlib.Core.List.{List, [], _∷_, _++_, map, flatMap, List·Memᴰ·head, List·Memᴰ·tail, List·Memᴰ·not-nil, List·Memᴰ·append-cases, Memᴰ·append-left, Memᴰ·append-right}
+use mathlib.Core.List.{List, [], _∷_, _++_, map, flatMap, List·Memᴰ·head, List·Memᴰ·tail, List·Memᴰ·not-nil, append-assoc, List·Memᴰ·append-cases, Memᴰ·append-left, Memᴰ·append-right}
 use Prim.Native.Nat.{ℕ, zero, suc, _*_, _≤_, _<_}
 use native.Mathlib.Omega.{arith}
 use lib.Dec.{eqb}
@@ -93,6 +93,12 @@ module _ {A B : Type 0} where
   keep-map p f (x ∷ l) = cases (truth (p (f x))) (λ e. rw (e, keep-map p f l)) (λ e. rw (e, keep-map p f l))
 
 -- lists of at most n members each
+-- what a list gives, then what another gives
+pub flat-append : {A B : Type 0} (f : A → List B) (l m : List A) → flatMap f (l ++ m) ≡ flatMap f l ++ flatMap f m
+unfolding flatMap
+flat-append f [] m = refl
+flat-append f (x ∷ l) m = ap (λ (r : List _). f x ++ r) (flat-append f l m) ∙ sym (append-assoc (f x) (flatMap f l) (flatMap f m))
+
 pub flat-length : {A B : Type 0} (f : A → List B) (n : ℕ) (l : List A) → ((x : A) → x ∈ l → length (f x) ≤ n) → length (flatMap f l) ≤ length l * n
 unfolding flatMap
 flat-length f n [] h = omega arith

@@ -1,2 +1,3 @@
 -- Laws of the cells of a table as bytes.
 pub mod Cells
+pub mod Turns

@@ -1,14 +1,17 @@
 -- Laws of bytes compared part by part, for loops and for sections that follow one another.
-use mathlib.Core.Path.{_≡_, refl, sym, ap, _∙_}
+use mathlib.Core.Path.{_≡_, refl, sym, ap, subst, _∙_}
 use mathlib.Core.Bool.{Bool, false, _&&_}
 use mathlib.Core.List.{List, [], _++_, append-assoc, append-nil}
 use Prim.Native.Nat.{ℕ, _+_, _≤_}
 use native.Mathlib.Nat.{add-zero}
 use native.Mathlib.Omega.{arith}
-use lib.ListN.{length, drop, length-append}
+use lib.ListN.{length, drop, length-append, take}
 use lib.Seq.{drop-drop}
 use Rattle.fields.specs.Opening.{startsWith}
 use Rattle.fields.specs.OpeningLaws.{startsWith-append}
+use Rattle.fields.specs.Written.{Wrote}
+use Rattle.fields.specs.WrittenLaws.{wrote-front}
+use Rattle.walk.specs.declared.Walk.{Walk}
 use Rattle.walk.specs.declared.Walk.the-variants.{Stop, At}
 use Rattle.writing.specs.Matched.{Matched, Matching}
 
@@ -44,3 +47,15 @@ pub matching-done : {all s : List ℕ} {at₀ at : ℕ} → Matching all [] s at
 matching-done {all} {s} {at₀} w =
     let e : w .done ≡ all = sym (append-nil (w .done)) ∙ w .whole in
     record { meets = (ap (startsWith (drop at₀ s)) (sym e) ∙ w .begun, w .place ∙ ap (λ (l : List ℕ). at₀ + length l) e, w .within) }
+
+-- the same bytes by another name
+matched-as : {s xs ys : List ℕ} {at : ℕ} {w : Walk} → xs ≡ ys → Matched s at xs w → Matched s at ys w
+matched-as {s} {at} {w} e m = subst (λ (zs : List ℕ). Matched s at zs w) e m
+
+-- what a case of the answer tells
+pub matched-told : {s xs : List ℕ} {at : ℕ} {w v : Walk} → w ≡ v → Matched s at xs w → Matched s at xs v
+matched-told {s} {xs} {at} e m = subst (λ (u : Walk). Matched s at xs u) e m
+
+-- what was written over a front is what the front is compared as
+pub front-matched : {xs l m s : List ℕ} {at n : ℕ} {w : Walk} → Wrote xs l m n → Matched s at (take n m) w → Matched s at xs w
+front-matched wrote h = matched-as (wrote-front wrote) h

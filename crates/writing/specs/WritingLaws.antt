@@ -1,5 +1,5 @@
 -- Laws of writing part by part, for loops and for sections that follow one another.
-use mathlib.Core.Path.{_≡_, refl, sym, ap, _∙_}
+use mathlib.Core.Path.{_≡_, refl, sym, ap, subst, _∙_}
 use mathlib.Core.List.{[], List, _++_, append-assoc, append-nil}
 use Prim.Native.Nat.{ℕ, _+_, _-_, _≤_}
 use native.Mathlib.Omega.{arith}
@@ -29,3 +29,7 @@ module _ {A : Type 0} where
   pub writing-room : {all l m : List A} {at : ℕ} (part left : List A) → Writing all (part ++ left) l m at → length all ≤ length l → at + length part ≤ length m
   writing-room {all} {l} {m} {at} part left w h =
       omega (arith, w .wrote .count, w .wrote .same, ap length (w .whole), length-append (w .done) (part ++ left), length-append part left)
+
+  -- the same list by another name
+  pub wrote-as : {xs ys l m : List A} {n : ℕ} → xs ≡ ys → Wrote xs l m n → Wrote ys l m n
+  wrote-as {l} {m} {n} e w = subst (λ (zs : List A). Wrote zs l m n) e w

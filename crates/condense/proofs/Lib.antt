@@ -1,0 +1,8 @@
+-- Laws of lists in flat arrays, of open rows, and of the cells that rows share.
+pub mod Lists
+pub mod Open
+pub mod Noted
+pub mod Kept
+pub mod Partly
+pub mod Grown
+pub mod Shared

@@ -1,0 +1,2 @@
+-- Lengths of cuboids, and the expansion set by set.
+pub mod Lengths

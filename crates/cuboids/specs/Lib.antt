@@ -1,0 +1,2 @@
+-- Cuboids as bytes.
+pub mod Cuboids

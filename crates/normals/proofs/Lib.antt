@@ -1,0 +1,2 @@
+-- The normal entries set by set.
+pub mod Sections

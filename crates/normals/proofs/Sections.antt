@@ -1,0 +1,93 @@
+-- The normal entries are those of the sets one after the other, and how long they are.
+use mathlib.Core.Path.{_≡_, refl, sym, ap, _∙_}
+use mathlib.Core.Bool.{Bool}
+use mathlib.Core.List.{List, [], _∷_, _++_, map, flatMap, map-append, Memᴰ·of-map}
+use Prim.Native.Nat.{ℕ, _+_, _*_, _≤_}
+use native.Mathlib.Nat.{mul-le-mul}
+use native.Mathlib.Omega.{arith}
+use lib.IntN.{ℤ}
+use lib.Dec.{leb}
+use lib.ListN.{length, take, length-map}
+use lib.Seq.{length-take-le}
+use Rattle.lists.specs.Lists.{_∈_, keep}
+use Rattle.lists.specs.Order.{earlier}
+use Rattle.lists.proofs.Members.{keep-in, keep-length, flat-append}
+use Rattle.lists.proofs.Order.{sort-length}
+use Rattle.lattice.specs.Sets.{full, setsFrom}
+use Rattle.cube.specs.declared.Total.{Total}
+use Rattle.cube.specs.Measure.{Row, sums as measure, codesOf}
+use Rattle.cube.specs.Codes.{cell, plain}
+use Rattle.cube.specs.Cube.{within, cuboid, filled}
+use Rattle.cube.specs.Condensed.{proper, shared, normals}
+use Rattle.cube.specs.Table.{Table}
+use Rattle.cube.proofs.Codes.{coded-length, length-cell}
+use Rattle.cube.proofs.Cells.{cuboid-in}
+use Rattle.rows.specs.Rows.{rowsOf}
+use Rattle.walk.proofs.Lengths.{length-flat}
+use Rattle.entries.specs.Layout.{cellBytes}
+use Rattle.entries.proofs.Lengths.{cell-length}
+use Rattle.singles.proofs.Ready.{rows-front}
+use Rattle.condense.specs.Shared.{sharedRows, normalRows}
+use Rattle.condense.proofs.Partly.{proper-first}
+use Rattle.writing.proofs.Cells.{cells-length}
+use Rattle.writing.proofs.Turns.{turns}
+use Rattle.normals.specs.Normals.{sharedBytes, normalBytes}
+
+-- ---- set by set
+
+sets-flat : (d : ℕ) (rows : List (Row Total)) (ss : List ℕ)
+    → flatMap cellBytes (map (filled (plain d) measure rows) (flatMap (shared (plain d) (codesOf rows)) ss)) ≡ flatMap (sharedBytes d rows) ss
+unfolding flatMap sharedBytes sharedRows
+sets-flat d rows [] = refl
+sets-flat d rows (s ∷ ss) =
+    let cells = shared (plain d) (codesOf rows) in
+    let fill = filled (plain d) measure rows in
+    ap (flatMap cellBytes) (map-append fill (cells s) (flatMap cells ss))
+    ∙ flat-append cellBytes (map fill (cells s)) (map fill (flatMap cells ss))
+    ∙ ap (λ (k : List ℕ). flatMap cellBytes (map fill (cells s)) ++ k) (sets-flat d rows ss)
+
+pub turns-start : (d : ℕ) (rows : List (Row Total)) → d ≤ 8 → turns (sharedBytes d rows) (full d) 0 ≡ normalBytes d rows
+unfolding turns setsFrom normalBytes normalRows normals
+turns-start d rows h = ap (flatMap (sharedBytes d rows)) (sym (proper-first d h)) ∙ sym (sets-flat d rows (proper (plain d)))
+
+-- ---- lengths
+
+pub shared-length : (d n s : ℕ) (rows : List (Row Total)) (cells : List ℕ) (amounts : List ℤ) (tallies : List ℕ)
+    → rowsOf d n cells amounts tallies ≡ sharedRows d rows s → n * d ≤ length cells → length (sharedBytes d rows s) ≡ n * (4 * d + 12)
+unfolding sharedBytes
+shared-length d n s rows cells amounts tallies e h =
+    ap (λ (l : List (Row Total)). length (flatMap cellBytes l)) (sym (rows-front d n cells amounts tallies ∙ e))
+    ∙ cells-length d n (take (n * d) cells) (take n amounts) (take n tallies) (sym (length-take-le (n * d) cells h))
+
+-- no more than 1,024 cells of 44 bytes
+module _ (d s : ℕ) (rows : List (Row Total)) (t : Table d rows) where
+  shared-long : (r : Row Total) → r ∈ sharedRows d rows s → length (cellBytes r) ≡ 4 * d + 12
+  unfolding sharedRows shared
+  shared-long r m =
+      let many : List ℕ → Bool = λ c. leb 2 (length (within (plain d) (codesOf rows) c)) in
+      let q = Memᴰ·of-map (filled (plain d) measure rows) (keep many (cuboid (plain d) (codesOf rows) s)) m in
+      let p = cuboid-in (plain d) (codesOf rows) s (keep-in many (cuboid (plain d) (codesOf rows) s) (q .1) .0) in
+      let o = Memᴰ·of-map (λ z. z .codes) rows (p .1) in
+      cell-length d r (sym (ap (λ (z : Row Total). length (z .codes)) (q .2)) ∙ ap length (p .2) ∙ length-cell s (p .0) ∙ sym (ap length (o .2)) ∙ coded-length d (o .0 .codes) (t (o .0) (o .1)))
+
+  shared-few : length (sharedRows d rows s) ≤ length rows
+  unfolding sharedRows shared cuboid
+  shared-few =
+      let many : List ℕ → Bool = λ c. leb 2 (length (within (plain d) (codesOf rows) c)) in
+      let xs = map (cell s) (codesOf rows) in
+      omega (
+        arith,
+        length-map (keep many (cuboid (plain d) (codesOf rows) s)) (filled (plain d) measure rows),
+        keep-length many (cuboid (plain d) (codesOf rows) s),
+        sort-length earlier xs,
+        length-map (codesOf rows) (cell s),
+        length-map rows (λ r. r .codes),
+      )
+
+  pub shared-room : d ≤ 8 → length rows ≤ 1024 → length (sharedBytes d rows s) ≤ 45056
+  unfolding sharedBytes
+  shared-room h k =
+      let few : length (sharedRows d rows s) ≤ 1024 = omega (arith, shared-few, k) in
+      let wide : 4 * d + 12 ≤ 44 = omega (arith, h) in
+      let m = mul-le-mul few wide in
+      omega (arith, m, length-flat cellBytes (4 * d + 12) (sharedRows d rows s) shared-long)

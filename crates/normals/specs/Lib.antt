@@ -1,0 +1,2 @@
+-- The normal entries as bytes.
+pub mod Normals

@@ -1,0 +1,92 @@
+-- Which entry answers a question: none where no row falls in the cell, the row's where it is single on the cell's set, and otherwise the normal entry at the cell.
+use mathlib.Core.Path.{_≡_, refl, sym, ap, subst, _∙_}
+use mathlib.Core.Bool.{true, false, false≢true}
+use mathlib.Core.Option.{some as just}
+use mathlib.Core.List.{List, [], _∷_}
+use Prim.Native.Nat.{ℕ, zero, suc, _+_, _*_, _≤_, _<_}
+use native.Mathlib.Omega.{arith}
+use lib.Dec.{ltb}
+use lib.ListN.{length, getD, getElem?, length-map}
+use borrow.Author.Tests.{ltb-true, ltb-false}
+use Rattle.lists.specs.Lists.{_∈_}
+use Rattle.lists.specs.Order.{same}
+use Rattle.lists.proofs.Tests.{cases, truth}
+use Rattle.lists.proofs.Members.{at-in, in-at}
+use Rattle.lists.proofs.Places.{map-at}
+use Rattle.lists.proofs.Order.{same-eq, same-refl}
+use Rattle.lattice.specs.Sets.{sets}
+use Rattle.cube.specs.declared.Total.{Total}
+use Rattle.cube.specs.Measure.{Row, sums as measure, codesOf}
+use Rattle.cube.specs.Bounds.{Summable}
+use Rattle.cube.specs.Codes.{falls, cell, set-of, plain}
+use Rattle.cube.specs.Cube.{within, total}
+use Rattle.cube.specs.Condensed.{Answer, no-record, found, single, normals, Base, lookup, ours}
+use Rattle.cube.proofs.Codes.{plain-laws}
+use Rattle.cube.proofs.Cells.{single-within, crowd-within}
+use Rattle.cube.proofs.Promises.{normal-cells, ours-condensed, row-answers, normal-answers}
+use Rattle.cube.proofs.Questions.{lookup-none}
+use Rattle.rows.specs.Rows.{rowAt}
+use Rattle.rows.proofs.Flat.{blank}
+use Rattle.entries.proofs.Entry.{rowThere}
+use Rattle.questions.specs.Questions.{First, Finds, Held}
+use Rattle.questions.proofs.Search.{liesAt}
+use Rattle.questions.proofs.Stored.{held-count, held-there}
+
+-- the member at a place
+just-at : {A : Type 0} (a : A) (l : List A) (k : ℕ) → k < length l → getElem? l k ≡ just (getD l k a)
+just-at a [] k h = absurd (omega arith)
+just-at a (x ∷ l) zero h = refl
+just-at a (x ∷ l) (suc k) h = just-at a l k (omega arith)
+
+module _ (d : ℕ) (rows : List (Row Total)) (b : Base (plain d) (codesOf rows)) (c : List ℕ) where
+  abbrev xs : List (List ℕ)
+  xs = codesOf rows
+
+  abbrev cells : List (List ℕ)
+  cells = normals (plain d) xs
+
+  abbrev answer : Answer Total
+  answer = lookup (plain d) c (ours (plain d) measure rows)
+
+  pub answer-none : First c xs (length rows) → answer ≡ no-record
+  answer-none f = lookup-none (plain d) measure rows (ours-condensed d rows b) c
+      (λ h. let k = in-at [] (h .1) in false≢true (sym (f .before (k .0) (rw length-map at (k .1))) ∙ ap (falls c) (k .2) ∙ h .2))
+
+  -- where a row falls in the cell, the cell is the row's of the cell's set
+  module _ (i : ℕ) (h : i < length rows) (f : falls c (rowAt xs i) ≡ true) where
+    there : rowAt xs i ∈ xs
+    there = at-in [] xs i (rw length-map h)
+
+    own : (set-of c ∈ sets d) × (c ≡ cell (set-of c) (rowAt xs i))
+    own = plain-laws d .cell-of c (rowAt xs i) (b .valid (rowAt xs i) there) f
+
+    pub answer-row : single (plain d) xs (set-of c) (rowAt xs i) ≡ true → answer ≡ found i (getD rows i blank .total)
+    answer-row e =
+        let w : within (plain d) xs c ≡ rowAt xs i ∷ [] = ap (within (plain d) xs) (own .1) ∙ single-within (plain d) (plain-laws d) xs b (own .0) there e in
+        row-answers d rows b c i (just-at blank rows i h) (w ∙ ap (λ (y : List ℕ). y ∷ []) (map-at (λ r. r .codes) blank [] rows i h))
+
+    pub shared-cell : single (plain d) xs (set-of c) (rowAt xs i) ≡ false → c ∈ cells
+    shared-cell e =
+        normal-cells d rows b c .1 (subst (λ (y : List ℕ). 2 ≤ length (within (plain d) xs y)) (sym (own .1)) (crowd-within (plain d) (plain-laws d) xs b (own .0) there e))
+
+  -- the search among the normal entries finds the one at the cell
+  module _ {s : List ℕ} {at n k : ℕ} (held : Held s at n d rows) (m : Summable rows) (e : length c ≡ d) (g : Finds s at n c k) (i : c ∈ cells) where
+    lies : (j : ℕ) → j < n → liesAt s at c j ≡ same (getD cells j []) c
+    lies j h = rw e (ap (λ (r : Row Total). same (r .codes) c) (held-there held b m j h))
+
+    pub found-here : (k < n) × (getD cells k [] ≡ c)
+    found-here =
+        let j = in-at [] i in
+        let h : j .0 < n = omega (arith, j .1, held-count held) in
+        let t : liesAt s at c (j .0) ≡ true = lies (j .0) h ∙ ap (λ (x : List ℕ). same x c) (j .2) ∙ same-refl c in
+        let l : k < n = cases (truth (ltb (j .0) k))
+        (λ q. absurd (false≢true (sym (g .before (j .0) (ltb-true (j .0) k q)) ∙ t)))
+        (λ q. omega (arith, ltb-false (j .0) k q)) in
+        (l, same-eq (getD cells k []) c (sym (lies k l) ∙ g .here l))
+
+    pub answer-normal : answer ≡ found (length rows + k) (rowThere s d (at + k * (4 * d + 12)) .total)
+    answer-normal =
+        let h : k < length cells = omega (arith, found-here .0, held-count held) in
+        let q = found-here .1 in
+        normal-answers d rows b c k (just-at [] cells k h ∙ ap just q)
+        ∙ ap (found (length rows + k)) (ap (total (plain d) measure rows) (sym q) ∙ sym (ap (λ (r : Row Total). r .total) (held-there held b m k (found-here .0))))

@@ -1,0 +1,2 @@
+-- Questions to an archive.
+pub mod Questions
