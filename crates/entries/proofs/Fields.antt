@@ -55,7 +55,7 @@ from s a {l} {end} {rest} w e f =
     }
 
 -- what was read came through the header and the base entries
-parts : (s : List ℕ) {a : Held} {rest : List ℕ} → walkArchive s ≡ got a rest
+pub parts : (s : List ℕ) {a : Held} {rest : List ℕ} → walkArchive s ≡ got a rest
     → (l : List ℕ) × (end : List ℕ) × (header CUBE s ≡ got (a .sizes) l) × (bases (a .sizes) l ≡ got (a .bases) end)
 unfolding walkArchive
 parts s {a} {rest} w =

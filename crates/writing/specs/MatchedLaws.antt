@@ -49,7 +49,7 @@ matching-done {all} {s} {at₀} w =
     record { meets = (ap (startsWith (drop at₀ s)) (sym e) ∙ w .begun, w .place ∙ ap (λ (l : List ℕ). at₀ + length l) e, w .within) }
 
 -- the same bytes by another name
-matched-as : {s xs ys : List ℕ} {at : ℕ} {w : Walk} → xs ≡ ys → Matched s at xs w → Matched s at ys w
+pub matched-as : {s xs ys : List ℕ} {at : ℕ} {w : Walk} → xs ≡ ys → Matched s at xs w → Matched s at ys w
 matched-as {s} {at} {w} e m = subst (λ (zs : List ℕ). Matched s at zs w) e m
 
 -- what a case of the answer tells

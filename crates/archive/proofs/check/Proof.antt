@@ -1,0 +1,18 @@
+-- `archive::check` meets its contract: the reader's answer without D.
+use mathlib.Core.Path.{sym, _∙_}
+use denote.Ref.{now}
+use Rattle.archive.proofs.Opened.{check-refused, check-passed}
+use borrow.Author.Needs.{needs}
+use Rattle.archive.proofs.check.Statement.{statement}
+use Rattle.archive.proofs.check.Tie as tie
+
+returns : tie.Need-returns
+returns c = check-refused (now (c .before .before .before .before .before .before .before .before .args .archive)) (sym (c .before .before .before .read-required .ensures .0) ∙ c .before .n .given .1)
+
+returns-2 : tie.Need-returns-2
+returns-2 c = check-passed (now (c .before .before .before .before .before .before .before .before .args .archive)) (sym (c .before .before .before .read-required .ensures .0) ∙ c .before .bases .given .1)
+
+pub check-spec : {M : Type 1} → statement M
+check-spec =
+    tie.close
+    (tie.spec (λ c κs. search needs) (λ c. search needs) (λ c. search needs) returns returns-2)

@@ -1,0 +1,21 @@
+-- `archive::expand_in` meets its contract: the reader's stops, or the expansion of an archive that it accepts.
+use mathlib.Core.Path.{sym, _∙_}
+use denote.Ref.{now}
+use Rattle.archive.proofs.Answers.{stopped}
+use Rattle.archive.proofs.Opened.{expand-refused}
+use borrow.Author.Needs.{needs}
+use Rattle.archive.proofs.expand_in.Statement.{statement}
+use Rattle.archive.proofs.expand_in.Tie as tie
+
+expand-read-requires : tie.Need-expand-read-requires
+expand-read-requires c κs =
+    let r = c .before .before .before .before .before .before .before .before .before .before .read-required .ensures in
+    record { told = sym (r .0) ∙ c .before .before .before .before .before .before .before .before .dims .given .1; room = (search needs, search needs, search needs); stored = r .1 }
+
+returns : tie.Need-returns
+returns c = stopped (now (c .before .before .before .before .before .before .before .before .before .args .out)) (expand-refused (now (c .before .before .before .before .before .before .before .before .before .args .s)) (sym (c .before .before .before .read-required .ensures .0) ∙ c .before .n .given .1))
+
+pub expand-in-spec : {M : Type 1} → statement M
+expand-in-spec =
+    tie.close
+    (tie.spec (λ c κs. search needs) (λ c. search needs) (λ c. search needs) expand-read-requires returns (λ c. search needs) (λ c. search needs))

@@ -1,0 +1,39 @@
+-- `archive::expand_read` meets its contract: the expansion is written where there is room.
+use mathlib.Core.Path.{sym}
+use Prim.Native.Nat.{_*_}
+use native.Mathlib.Nat.{mul-le-mul}
+use native.Mathlib.Omega.{arith}
+use denote.Ref.{now}
+use lib.ListN.{take}
+use Rattle.required.proofs.Judged.{bytes-of}
+use Rattle.archive.proofs.Answers.{answered-as}
+use Rattle.archive.proofs.Opened.{Opened, opened, expand-bytes}
+use borrow.Author.Needs.{needs}
+use Rattle.archive.proofs.expand_read.Statement.{statement}
+use Rattle.archive.proofs.expand_read.Tie as tie
+
+rows-in : (c : tie.After-shared-slice-known) → (let a = c .before .args in Opened (now (a .s)) (a .dims) (a .bases) (a .cells) (take (a .bases * a .dims) (now (a .codes))) (take (a .bases) (now (a .sums))) (take (a .bases) (now (a .counts))))
+rows-in c = opened (bytes-of (now (c .before .args .s)) (λ i. omega (arith, c .shared-slice-known .given i))) (c .before .pre)
+
+mul-size : tie.Need-mul-size
+mul-size c = let r = rows-in (c .before .before .before) .ready in let m = mul-le-mul (r .few) (r .dims) in omega (arith, m)
+
+slice-aggregate-fit-expansion : tie.Need-slice-aggregate-fit-expansion
+slice-aggregate-fit-expansion c = rows-in (c .before .before .before .before .before) .ready .size
+
+slice-aggregate-fit-expansion-2 : tie.Need-slice-aggregate-fit-expansion-2
+slice-aggregate-fit-expansion-2 c = sym (rows-in (c .before .before .before .before .before .before) .ready .amounts)
+
+slice-aggregate-fit-expansion-3 : tie.Need-slice-aggregate-fit-expansion-3
+slice-aggregate-fit-expansion-3 c = sym (rows-in (c .before .before .before .before .before .before .before) .ready .tallies)
+
+fit-expansion-requires : tie.Need-fit-expansion-requires
+fit-expansion-requires c κs = rows-in (c .before .before .before .before .before .before .before) .ready
+
+returns : tie.Need-returns
+returns c = answered-as (expand-bytes (rows-in (c .before .before .before .before .before .before .before .before .before .before))) (c .before .before .fit-expansion .ensures)
+
+pub expand-read-spec : {M : Type 1} → statement M
+expand-read-spec =
+    tie.close
+    (tie.spec mul-size slice-aggregate-fit-expansion slice-aggregate-fit-expansion-2 slice-aggregate-fit-expansion-3 fit-expansion-requires (λ c. search needs) returns)

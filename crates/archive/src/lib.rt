@@ -1,0 +1,337 @@
+// The archive: built from a table, checked, asked for a cell, listed by cuboid, expanded.
+// Every call answers for whatever bytes it is lent, looks at the output last, and leaves every byte of it alone when it stops.
+use entries::ArchiveRead;
+use questions::Look;
+use table::TableRead;
+ghost use mathlib.Core.Path.{_≡_};
+ghost use Prim.Native.Nat.{_+_, _*_, _≤_};
+ghost use lib.ListN.{length};
+ghost use Rattle.rows.specs.Rows.{rowsOf};
+ghost use Rattle.fields.specs.Words.{wordsAt};
+ghost use Rattle.table.specs.Reading.{readTable, answer, Stored};
+ghost use Rattle.entries.specs.Layout.{archiveBytes, Limits};
+ghost use Rattle.singles.specs.Ready.{Ready};
+ghost use Rattle.cuboids.specs.Cuboids.{cuboidBytes, expansionBytes};
+ghost use Rattle.archive.specs.Answers.{bytes, Answered};
+ghost use Rattle.archive.specs.Calls.{Accepts, builds, checks, listsCuboid, expands, looksUp};
+
+// What a call that writes an output answers: the length written, or a stop's number.
+pub enum Written {
+    Length(usize),
+    Stop(u32),
+}
+
+// What a check answers: the base count and the normal count, or a stop's number.
+pub enum Checked {
+    Entries { bases: u32, cells: u32 },
+    Stop(u32),
+}
+
+// What a question answers: the cell's sum and count and the number of the entry that carries them, 'no record', or a stop's number.
+pub enum Found {
+    Cell { sum: i64, count: u32, entry: u32 },
+    NoRecord,
+    Stop(u32),
+}
+
+// Writes the archive of base rows where there is room for it; the sizes, which stand in the table, go into the buffer that is lent.
+fn write_sized(
+    s: &[u8],
+    sizes: &mut [u32],
+    codes: &[u32],
+    sums: &[i64],
+    counts: &[u32],
+    rows: usize,
+    out: &mut [u8],
+) -> Written
+    requires { ⌜ (8 + 4 * length (now sizes) ≤ length (now s)) × Ready (length (now sizes)) rows (now codes) (now sums) (now counts) ⌝ }
+    requires { ⌜ Limits (wordsAt (now s) (length (now sizes)) 8) (rowsOf (length (now sizes)) rows (now codes) (now sums) (now counts)) ⌝ }
+    ensures { λ r. ⌜ Answered (bytes (archiveBytes (wordsAt (now (s .entry)) (length (now (sizes .entry))) 8) (rowsOf (length (now (sizes .entry))) rows (now (codes .entry)) (now (sums .entry)) (now (counts .entry))))) (now (out .entry)) (now (out .exit)) r ⌝ }
+{
+    fields::read_words(s, 8, sizes);
+    let needed = building::write_archive(out, sizes, codes, sums, counts, rows);
+    if out.len() < needed {
+        return Written::Stop(15);
+    }
+    Written::Length(needed)
+}
+
+// Writes the archive of a table that was accepted; the arrays have its base rows.
+fn build_read(
+    s: &[u8],
+    codes: &[u32],
+    sums: &[i64],
+    counts: &[u32],
+    dims: u32,
+    rows: u32,
+    out: &mut [u8],
+) -> Written
+    requires { ⌜ answer (readTable (now s)) ≡ TableRead.Rows dims rows ⌝ }
+    requires { ⌜ (8192 ≤ length (now codes)) × (1024 ≤ length (now sums)) × (1024 ≤ length (now counts)) × Stored (readTable (now s)) (now codes) (now sums) (now counts) ⌝ }
+    ensures { λ r. ⌜ Answered (builds (now (s .entry))) (now (out .entry)) (now (out .exit)) r ⌝ }
+{
+    let d = dims as usize;
+    let n = rows as usize;
+    let size = n * d;
+    let mut sizes = [0u32; 8];
+    write_sized(
+        s,
+        &mut sizes[..d],
+        &codes[..size],
+        &sums[..n],
+        &counts[..n],
+        n,
+        out,
+    )
+}
+
+// Reads a table into the arrays that are lent, and builds its archive.
+fn build_in(
+    table: &[u8],
+    codes: &mut [u32; 8192],
+    sums: &mut [i64; 1024],
+    counts: &mut [u32; 1024],
+    out: &mut [u8],
+) -> Written
+    ensures { λ r. ⌜ Answered (builds (now (table .entry))) (now (out .entry)) (now (out .exit)) r ⌝ }
+{
+    match table::read_table(table, codes, sums, counts) {
+        TableRead::Stop(n) => Written::Stop(n),
+        TableRead::Rows { dims, rows } => {
+            build_read(table, codes, sums, counts, dims, rows, out)
+        }
+    }
+}
+
+// Builds the archive of a table.
+pub fn build(table: &[u8], out: &mut [u8]) -> Written
+    ensures { λ r. ⌜ Answered (builds (now (table .entry))) (now (out .entry)) (now (out .exit)) r ⌝ }
+{
+    let mut codes = [0u32; 8192];
+    let mut sums = [0i64; 1024];
+    let mut counts = [0u32; 1024];
+    build_in(table, &mut codes, &mut sums, &mut counts, out)
+}
+
+// Checks an archive: all its stops, 1 to 12.
+pub fn check(archive: &[u8]) -> Checked
+    ensures { λ r. ⌜ r ≡ checks (now (archive .entry)) ⌝ }
+{
+    let mut codes = [0u32; 8192];
+    let mut sums = [0i64; 1024];
+    let mut counts = [0u32; 1024];
+    match required::read_required(archive, &mut codes, &mut sums, &mut counts) {
+        ArchiveRead::Stop(n) => Checked::Stop(n),
+        ArchiveRead::Entries {
+            dims: _,
+            bases,
+            cells,
+        } => Checked::Entries { bases, cells },
+    }
+}
+
+// Writes the cuboid of a set where there is room for it.
+fn fit_cuboid(
+    out: &mut [u8],
+    codes: &[u32],
+    sums: &[i64],
+    counts: &[u32],
+    rows: usize,
+    dims: usize,
+    set: u32,
+) -> Written
+    requires { ⌜ Ready dims rows (now codes) (now sums) (now counts) ⌝ }
+    ensures { λ r. ⌜ Answered (bytes (cuboidBytes dims (rowsOf dims rows (now (codes .entry)) (now (sums .entry)) (now (counts .entry))) set)) (now (out .entry)) (now (out .exit)) r ⌝ }
+{
+    let len = cuboids::cuboid_len(codes, sums, counts, rows, dims, set);
+    if out.len() < len {
+        return Written::Stop(15);
+    }
+    Written::Length(cuboids::put_cuboid(out, codes, sums, counts, rows, dims, set))
+}
+
+// Lists the cuboid of a set of an archive that was accepted.
+fn list_read(
+    s: &[u8],
+    codes: &[u32],
+    sums: &[i64],
+    counts: &[u32],
+    dims: u32,
+    bases: u32,
+    cells: u32,
+    set: u32,
+    out: &mut [u8],
+) -> Written
+    requires { ⌜ Accepts (now s) (now codes) (now sums) (now counts) dims bases cells ⌝ }
+    ensures { λ r. ⌜ Answered (listsCuboid (now (s .entry)) set) (now (out .entry)) (now (out .exit)) r ⌝ }
+{
+    if lattice::sets_of(dims) <= set {
+        return Written::Stop(14);
+    }
+    let d = dims as usize;
+    let n = bases as usize;
+    let size = n * d;
+    fit_cuboid(out, &codes[..size], &sums[..n], &counts[..n], n, d, set)
+}
+
+// Reads an archive into the arrays that are lent, and lists the cuboid of a set.
+fn list_in(
+    s: &[u8],
+    codes: &mut [u32; 8192],
+    sums: &mut [i64; 1024],
+    counts: &mut [u32; 1024],
+    set: u32,
+    out: &mut [u8],
+) -> Written
+    ensures { λ r. ⌜ Answered (listsCuboid (now (s .entry)) set) (now (out .entry)) (now (out .exit)) r ⌝ }
+{
+    match required::read_required(s, codes, sums, counts) {
+        ArchiveRead::Stop(n) => Written::Stop(n),
+        ArchiveRead::Entries { dims, bases, cells } => {
+            list_read(s, codes, sums, counts, dims, bases, cells, set, out)
+        }
+    }
+}
+
+// Lists the cuboid of a set.
+pub fn list_cuboid(archive: &[u8], set: u32, out: &mut [u8]) -> Written
+    ensures { λ r. ⌜ Answered (listsCuboid (now (archive .entry)) set) (now (out .entry)) (now (out .exit)) r ⌝ }
+{
+    let mut codes = [0u32; 8192];
+    let mut sums = [0i64; 1024];
+    let mut counts = [0u32; 1024];
+    list_in(archive, &mut codes, &mut sums, &mut counts, set, out)
+}
+
+// Writes the expansion where there is room for it.
+fn fit_expansion(
+    out: &mut [u8],
+    codes: &[u32],
+    sums: &[i64],
+    counts: &[u32],
+    rows: usize,
+    dims: usize,
+) -> Written
+    requires { ⌜ Ready dims rows (now codes) (now sums) (now counts) ⌝ }
+    ensures { λ r. ⌜ Answered (bytes (expansionBytes dims (rowsOf dims rows (now (codes .entry)) (now (sums .entry)) (now (counts .entry))))) (now (out .entry)) (now (out .exit)) r ⌝ }
+{
+    let len = cuboids::expansion_len(codes, sums, counts, rows, dims);
+    if out.len() < len {
+        return Written::Stop(15);
+    }
+    Written::Length(cuboids::put_expansion(out, codes, sums, counts, rows, dims))
+}
+
+// Expands an archive that was accepted.
+fn expand_read(
+    s: &[u8],
+    codes: &[u32],
+    sums: &[i64],
+    counts: &[u32],
+    dims: u32,
+    bases: u32,
+    cells: u32,
+    out: &mut [u8],
+) -> Written
+    requires { ⌜ Accepts (now s) (now codes) (now sums) (now counts) dims bases cells ⌝ }
+    ensures { λ r. ⌜ Answered (expands (now (s .entry))) (now (out .entry)) (now (out .exit)) r ⌝ }
+{
+    let d = dims as usize;
+    let n = bases as usize;
+    let size = n * d;
+    fit_expansion(out, &codes[..size], &sums[..n], &counts[..n], n, d)
+}
+
+// Reads an archive into the arrays that are lent, and expands it.
+fn expand_in(
+    s: &[u8],
+    codes: &mut [u32; 8192],
+    sums: &mut [i64; 1024],
+    counts: &mut [u32; 1024],
+    out: &mut [u8],
+) -> Written
+    ensures { λ r. ⌜ Answered (expands (now (s .entry))) (now (out .entry)) (now (out .exit)) r ⌝ }
+{
+    match required::read_required(s, codes, sums, counts) {
+        ArchiveRead::Stop(n) => Written::Stop(n),
+        ArchiveRead::Entries { dims, bases, cells } => {
+            expand_read(s, codes, sums, counts, dims, bases, cells, out)
+        }
+    }
+}
+
+// Expands an archive to the complete cube.
+pub fn expand(archive: &[u8], out: &mut [u8]) -> Written
+    ensures { λ r. ⌜ Answered (expands (now (archive .entry))) (now (out .entry)) (now (out .exit)) r ⌝ }
+{
+    let mut codes = [0u32; 8192];
+    let mut sums = [0i64; 1024];
+    let mut counts = [0u32; 1024];
+    expand_in(archive, &mut codes, &mut sums, &mut counts, out)
+}
+
+// Answers a question to an archive that was accepted.
+fn look_read(
+    s: &[u8],
+    codes: &[u32],
+    sums: &[i64],
+    counts: &[u32],
+    dims: u32,
+    bases: u32,
+    cells: u32,
+    question: &[u32],
+) -> Found
+    requires { ⌜ Accepts (now s) (now codes) (now sums) (now counts) dims bases cells ⌝ }
+    ensures { λ r. ⌜ r ≡ looksUp (now (s .entry)) (now (question .entry)) ⌝ }
+{
+    let d = dims as usize;
+    if !questions::fits(s, d, question) {
+        return Found::Stop(13);
+    }
+    let n = bases as usize;
+    let size = n * d;
+    let m = cells as usize;
+    let at = s.len() - 4 - m * (4 * d + 12);
+    match questions::answer(
+        s,
+        at,
+        m,
+        &codes[..size],
+        &sums[..n],
+        &counts[..n],
+        n,
+        d,
+        question,
+    ) {
+        Look::NoRecord => Found::NoRecord,
+        Look::Cell { sum, count, entry } => Found::Cell { sum, count, entry },
+    }
+}
+
+// Reads an archive into the arrays that are lent, and looks up a cell.
+fn look_in(
+    s: &[u8],
+    codes: &mut [u32; 8192],
+    sums: &mut [i64; 1024],
+    counts: &mut [u32; 1024],
+    question: &[u32],
+) -> Found
+    ensures { λ r. ⌜ r ≡ looksUp (now (s .entry)) (now (question .entry)) ⌝ }
+{
+    match required::read_required(s, codes, sums, counts) {
+        ArchiveRead::Stop(n) => Found::Stop(n),
+        ArchiveRead::Entries { dims, bases, cells } => {
+            look_read(s, codes, sums, counts, dims, bases, cells, question)
+        }
+    }
+}
+
+// Looks up a cell: a code or ALL (65,535) for each dimension.
+pub fn look_up(archive: &[u8], question: &[u32]) -> Found
+    ensures { λ r. ⌜ r ≡ looksUp (now (archive .entry)) (now (question .entry)) ⌝ }
+{
+    let mut codes = [0u32; 8192];
+    let mut sums = [0i64; 1024];
+    let mut counts = [0u32; 1024];
+    look_in(archive, &mut codes, &mut sums, &mut counts, question)
+}

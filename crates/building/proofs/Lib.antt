@@ -1,0 +1,2 @@
+-- The sections of an archive, and its length.
+pub mod Archive

@@ -1,0 +1,2 @@
+-- An archive written where there is room for it.
+pub mod Fitted

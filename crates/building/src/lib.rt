@@ -1,0 +1,108 @@
+// An archive written from its sizes and base rows: how long it is, and its sections one straight after the other.
+ghost use mathlib.Core.Path.{_≡_};
+ghost use Prim.Native.Nat.{_≤_};
+ghost use lib.ListN.{length};
+ghost use Rattle.fields.specs.Written.{Wrote};
+ghost use Rattle.cube.specs.Codes.{plain};
+ghost use Rattle.cube.specs.Condensed.{normals};
+ghost use Rattle.rows.specs.Rows.{cut, rowsOf};
+ghost use Rattle.entries.specs.Layout.{archiveBytes, Limits};
+ghost use Rattle.singles.specs.Ready.{Ready};
+ghost use Rattle.bases.specs.Listed.{Listed};
+ghost use Rattle.building.specs.Fitted.{Fitted};
+
+// The length of the archive, by how many normal entries it has.
+fn archive_len(
+    sizes: &[u32],
+    codes: &[u32],
+    sums: &[i64],
+    counts: &[u32],
+    rows: usize,
+    sets: &[u32],
+    lens: &[u32],
+    cells: usize,
+) -> usize
+    requires { ⌜ Listed (length (now sizes)) rows (now codes) (now sums) (now counts) (now sets) (now lens) × (cells ≡ length (normals (plain (length (now sizes))) (cut (length (now sizes)) rows (now codes)))) ⌝ }
+    requires { ⌜ Limits (now sizes) (rowsOf (length (now sizes)) rows (now codes) (now sums) (now counts)) ⌝ }
+    ensures { λ r. ⌜ r ≡ length (archiveBytes (now (sizes .entry)) (rowsOf (length (now (sizes .entry))) rows (now (codes .entry)) (now (sums .entry)) (now (counts .entry)))) ⌝ }
+{
+    let dims = sizes.len();
+    let listed = bases::sets_in(codes, sums, counts, rows, dims, sets, lens);
+    20 + 4 * dims + rows * (4 * dims + 16) + 4 * listed + cells * (4 * dims + 12)
+}
+
+// Writes the archive: header, base count, base entries, normal count, normal entries, check word.
+fn put_archive(
+    out: &mut [u8],
+    sizes: &[u32],
+    codes: &[u32],
+    sums: &[i64],
+    counts: &[u32],
+    rows: usize,
+    sets: &[u32],
+    lens: &[u32],
+    cells: usize,
+) -> usize
+    requires { ⌜ Listed (length (now sizes)) rows (now codes) (now sums) (now counts) (now sets) (now lens) × (cells ≡ length (normals (plain (length (now sizes))) (cut (length (now sizes)) rows (now codes)))) ⌝ }
+    requires { ⌜ length (archiveBytes (now sizes) (rowsOf (length (now sizes)) rows (now codes) (now sums) (now counts))) ≤ length (now out) ⌝ }
+    ensures { λ r. ⌜ Wrote (archiveBytes (now (sizes .entry)) (rowsOf (length (now (sizes .entry))) rows (now (codes .entry)) (now (sums .entry)) (now (counts .entry)))) (now (out .entry)) (now (out .exit)) r ⌝ }
+{
+    let dims = sizes.len();
+    let mut at = writing::put_header(out, sizes);
+    at += fields::put_word(&mut out[at..], rows as u32);
+    at += bases::put_bases(&mut out[at..], codes, sums, counts, rows, dims, sets, lens);
+    at += fields::put_word(&mut out[at..], cells as u32);
+    at += normals::put_normals(&mut out[at..], codes, sums, counts, rows, dims, sets, lens);
+    fields::put_check(out, at)
+}
+
+// Writes the archive where there is room for it. Returns how long it is.
+pub fn write_archive(
+    out: &mut [u8],
+    sizes: &[u32],
+    codes: &[u32],
+    sums: &[i64],
+    counts: &[u32],
+    rows: usize,
+) -> usize
+    requires { ⌜ Ready (length (now sizes)) rows (now codes) (now sums) (now counts) × Limits (now sizes) (rowsOf (length (now sizes)) rows (now codes) (now sums) (now counts)) ⌝ }
+    ensures { λ r. ⌜ Fitted (archiveBytes (now (sizes .entry)) (rowsOf (length (now (sizes .entry))) rows (now (codes .entry)) (now (sums .entry)) (now (counts .entry)))) (now (out .entry)) (now (out .exit)) r ⌝ }
+{
+    let dims = sizes.len();
+    let mut sets = [0u32; 71680];
+    let mut lens = [0u32; 1024];
+    let cells = condense::list_rows(
+        codes,
+        sums,
+        counts,
+        rows,
+        dims,
+        &mut sets,
+        &mut lens[..rows],
+    );
+    let len = archive_len(
+        sizes,
+        codes,
+        sums,
+        counts,
+        rows,
+        &sets,
+        &lens[..rows],
+        cells,
+    );
+    if len <= out.len() {
+        put_archive(
+            out,
+            sizes,
+            codes,
+            sums,
+            counts,
+            rows,
+            &sets,
+            &lens[..rows],
+            cells,
+        )
+    } else {
+        len
+    }
+}

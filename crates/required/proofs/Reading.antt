@@ -1,0 +1,98 @@
+-- What the walk over an archive read, and what stop 12 makes of it.
+use mathlib.Core.Path.{_≡_, sym, ap, ap₂, subst, _∙_}
+use mathlib.Core.Bool.{true, false, false≢true}
+use mathlib.Core.List.{List, []}
+use Prim.Native.Nat.{ℕ, _*_, _≤_}
+use native.Mathlib.Nat.{mul-le-mul}
+use native.Mathlib.Omega.{arith}
+use lib.IntN.{ℤ}
+use lib.ListN.{length, take}
+use lib.Seq.{length-take-le}
+use Rattle.lists.specs.Order.{same}
+use Rattle.lists.proofs.Tests.{cases, truth}
+use Rattle.fields.specs.Words.{wordsAt}
+use Rattle.walk.specs.Parsed.{Parsed, stop, got, andThen, stopUnless}
+use Rattle.walk.specs.Limits.{Bytes}
+use Rattle.cube.specs.declared.Total.{Total}
+use Rattle.cube.specs.Measure.{Row}
+use Rattle.rows.specs.Rows.{rowsOf}
+use Rattle.entries.specs.Layout.{Held, archiveBytes}
+use Rattle.entries.specs.Reading.{walkArchive, readArchive, rowsIn, answer, Stored}
+use Rattle.entries.specs.declared.ArchiveRead.the-variants as Answer
+use Rattle.entries.proofs.Fields.{Accepted, accepted}
+use Rattle.entries.proofs.Walkable.{walk-forth}
+use Rattle.singles.proofs.Ready.{rows-front}
+use Rattle.required.specs.Read.{Read}
+use Rattle.required.proofs.Judged.{sizes-at}
+
+abbrev pub judged : List ℕ → Held → List ℕ → Parsed Held
+judged s a rest = stopUnless (same s (archiveBytes (a .sizes) (rowsIn a))) 12 (got a rest)
+
+stored-walked : (p : Parsed Held) {a : Held} {rest : List ℕ} (c : List ℕ) (t : List ℤ) (k : List ℕ) → p ≡ got a rest → Stored p c t k → rowsOf (length (a .sizes)) (length (a .bases)) c t k ≡ rowsIn a
+stored-walked p c t k e h = subst (λ (q : Parsed Held). Stored q c t k) e h
+
+module _ {s : List ℕ} {d n m : ℕ} (b : Bytes s) (e : answer (walkArchive s) ≡ Answer.Entries d n m) where
+  abbrev walk : Accepted s d n
+  walk = accepted s d n e
+
+  walked : walkArchive s ≡ got (walk .held) []
+  walked = walk .walked ∙ ap (got (walk .held)) (walk-forth s (walk .held) (walk .rest) b (walk .walked) .2)
+
+  pub read-small : n * d ≤ 8192
+  read-small = let k = mul-le-mul (walk .few-bases) (walk .few) in omega (arith, k)
+
+  module _ (codes : List ℕ) (sums : List ℤ) (counts : List ℕ) (room : (8192 ≤ length codes) × (1024 ≤ length sums) × (1024 ≤ length counts))
+      (h : Stored (walkArchive s) codes sums counts) where
+    pub read-size : n * d ≤ length codes
+    read-size = omega (arith, read-small, room .0)
+
+    pub read-amounts : n ≤ length sums
+    read-amounts = omega (arith, walk .few-bases, room .1)
+
+    pub read-tallies : n ≤ length counts
+    read-tallies = omega (arith, walk .few-bases, room .2)
+
+    -- the rows that were read, in parts of the arrays that they fill
+    pub read-of : Read s d n (take (n * d) codes) (take n sums) (take n counts)
+    read-of = record {
+      held = walk .held;
+      walked = walked;
+      dims = walk .dims;
+      size = sym (length-take-le (n * d) codes read-size);
+      amounts = length-take-le n sums read-amounts;
+      tallies = length-take-le n counts read-tallies;
+      rows = rows-front d n codes sums counts
+          ∙ ap₂ (λ (i j : ℕ). rowsOf i j codes sums counts) (sym (walk .dims)) (sym (walk .count)) ∙ stored-walked (walkArchive s) codes sums counts (walk .walked) h;
+    }
+
+-- ---- stop 12
+
+module _ {s : List ℕ} {d n m : ℕ} {codes : List ℕ} {sums : List ℤ} {counts : List ℕ} (e : answer (walkArchive s) ≡ Answer.Entries d n m) (r : Read s d n codes sums counts) where
+  due : same s (archiveBytes (wordsAt s d 8) (rowsOf d n codes sums counts)) ≡ same s (archiveBytes (r .held .sizes) (rowsIn (r .held)))
+  due =
+      ap₂ (λ (zs : List ℕ) (rows : List (Row Total)). same s (archiveBytes zs rows)) (sym (sizes-at s (r .walked) ∙ ap (λ (k : ℕ). wordsAt s k 8) (r .dims))) (r .rows)
+
+  pub passed-required : true ≡ same s (archiveBytes (wordsAt s d 8) (rowsOf d n codes sums counts)) → Answer.Entries d n m ≡ answer (readArchive s)
+  unfolding readArchive
+  passed-required h = let g = sym (h ∙ due) in sym e ∙ rw (r .walked, g)
+
+  pub stopped-required : false ≡ same s (archiveBytes (wordsAt s d 8) (rowsOf d n codes sums counts)) → Answer.Stop 12 ≡ answer (readArchive s)
+  unfolding readArchive
+  stopped-required h = let g = sym (h ∙ due) in rw (r .walked, g)
+
+pub stop-required : (s : List ℕ) {n : ℕ} → answer (walkArchive s) ≡ Answer.Stop n → Answer.Stop n ≡ answer (readArchive s)
+unfolding readArchive
+stop-required s {n} e = go (walkArchive s) e
+  where
+    go : (p : Parsed Held) → answer p ≡ Answer.Stop n → Answer.Stop n ≡ answer (andThen p (judged s))
+    go (stop k) f = sym f
+    go (got a rest) f = let z : false ≡ true = cc in absurd (false≢true z)
+
+-- the rows stay stored
+pub stored-required : (s c : List ℕ) (t : List ℤ) (k : List ℕ) → Stored (walkArchive s) c t k → Stored (readArchive s) c t k
+unfolding readArchive
+stored-required s c t k h = go (walkArchive s) h
+  where
+    go : (p : Parsed Held) → Stored p c t k → Stored (andThen p (judged s)) c t k
+    go (stop n) f = tt
+    go (got a rest) f = cases (truth (same s (archiveBytes (a .sizes) (rowsIn a)))) (λ e. rw e f) (λ e. rw e tt)

@@ -1,0 +1,148 @@
+// An archive judged by its base rows: whether its lists, its normal count and its normal entries are what they require (stop 12).
+use entries::ArchiveRead;
+use walk::Walk;
+ghost use mathlib.Core.Path.{_≡_};
+ghost use Prim.Native.Nat.{_*_, _≤_};
+ghost use lib.ListN.{length};
+ghost use Rattle.lists.specs.Order.{same};
+ghost use Rattle.fields.specs.Words.{wordBytes, wordsAt};
+ghost use Rattle.cube.specs.Codes.{plain};
+ghost use Rattle.cube.specs.Condensed.{normals};
+ghost use Rattle.rows.specs.Rows.{cut, rowsOf};
+ghost use Rattle.entries.specs.Layout.{archiveBytes};
+ghost use Rattle.entries.specs.Reading.{walkArchive, readArchive, answer, Stored};
+ghost use Rattle.writing.specs.Matched.{Matched};
+ghost use Rattle.bases.specs.Listed.{Listed};
+ghost use Rattle.required.specs.Read.{Read, sections};
+
+// Whether the bytes s have a word at a place.
+fn match_word(s: &[u8], at: usize, w: u32) -> Walk
+    requires { ⌜ at ≤ length (now s) ⌝ }
+    ensures { λ r. ⌜ Matched (now (s .entry)) at (wordBytes w) r ⌝ }
+{
+    let mut word = [0u8; 4];
+    let n = fields::put_word(&mut word, w);
+    writing::match_bytes(s, at, &word[..n])
+}
+
+// Whether the bytes s have the sections that base rows require from a place on.
+fn match_sections(
+    s: &[u8],
+    start: usize,
+    codes: &[u32],
+    sums: &[i64],
+    counts: &[u32],
+    rows: usize,
+    dims: usize,
+    sets: &[u32],
+    lens: &[u32],
+    cells: usize,
+) -> Walk
+    requires { ⌜ Listed dims rows (now codes) (now sums) (now counts) (now sets) (now lens) × (start ≤ length (now s)) ⌝ }
+    requires { ⌜ cells ≡ length (normals (plain dims) (cut dims rows (now codes))) ⌝ }
+    ensures { λ r. ⌜ Matched (now (s .entry)) start (sections dims (rowsOf dims rows (now (codes .entry)) (now (sums .entry)) (now (counts .entry)))) r ⌝ }
+{
+    let at = match match_word(s, start, rows as u32) {
+        Walk::Stop(n) => return Walk::Stop(n),
+        Walk::At(at) => at,
+    };
+    let end = match bases::match_bases(s, at, codes, sums, counts, rows, dims, sets, lens) {
+        Walk::Stop(n) => return Walk::Stop(n),
+        Walk::At(end) => end,
+    };
+    let next = match match_word(s, end, cells as u32) {
+        Walk::Stop(n) => return Walk::Stop(n),
+        Walk::At(next) => next,
+    };
+    normals::match_normals(s, next, codes, sums, counts, rows, dims, sets, lens)
+}
+
+// Whether an archive whose fields are right is the one that its base rows require; their lists go into the buffers that are lent.
+fn judge(
+    s: &[u8],
+    codes: &[u32],
+    sums: &[i64],
+    counts: &[u32],
+    rows: usize,
+    dims: usize,
+    sets: &mut [u32],
+    lens: &mut [u32],
+) -> bool
+    requires { ⌜ Read (now s) dims rows (now codes) (now sums) (now counts) × (rows * 70 ≤ length (now sets)) × (length (now lens) ≡ rows) ⌝ }
+    ensures { λ r. ⌜ r ≡ same (now (s .entry)) (archiveBytes (wordsAt (now (s .entry)) dims 8) (rowsOf dims rows (now (codes .entry)) (now (sums .entry)) (now (counts .entry)))) ⌝ }
+{
+    let cells = condense::list_rows(codes, sums, counts, rows, dims, sets, lens);
+    let start = 8 + 4 * dims;
+    match match_sections(s, start, codes, sums, counts, rows, dims, sets, lens, cells) {
+        Walk::Stop(_) => false,
+        Walk::At(end) => s.len() - end == 4,
+    }
+}
+
+// Whether an archive whose fields are right is the one that its base rows require.
+fn is_required(
+    s: &[u8],
+    codes: &[u32],
+    sums: &[i64],
+    counts: &[u32],
+    rows: usize,
+    dims: usize,
+) -> bool
+    requires { ⌜ Read (now s) dims rows (now codes) (now sums) (now counts) ⌝ }
+    ensures { λ r. ⌜ r ≡ same (now (s .entry)) (archiveBytes (wordsAt (now (s .entry)) dims 8) (rowsOf dims rows (now (codes .entry)) (now (sums .entry)) (now (counts .entry)))) ⌝ }
+{
+    let mut sets = [0u32; 71680];
+    let mut lens = [0u32; 1024];
+    judge(
+        s,
+        codes,
+        sums,
+        counts,
+        rows,
+        dims,
+        &mut sets,
+        &mut lens[..rows],
+    )
+}
+
+// What was read of an archive whose fields are right, or stop 12. The arrays have its base rows.
+fn judge_read(
+    s: &[u8],
+    codes: &[u32],
+    sums: &[i64],
+    counts: &[u32],
+    dims: u32,
+    bases: u32,
+    cells: u32,
+) -> ArchiveRead
+    requires { ⌜ answer (walkArchive (now s)) ≡ ArchiveRead.Entries dims bases cells ⌝ }
+    requires { ⌜ (8192 ≤ length (now codes)) × (1024 ≤ length (now sums)) × (1024 ≤ length (now counts)) × Stored (walkArchive (now s)) (now codes) (now sums) (now counts) ⌝ }
+    ensures { λ r. ⌜ r ≡ answer (readArchive (now (s .entry))) ⌝ }
+{
+    let d = dims as usize;
+    let n = bases as usize;
+    let size = n * d;
+    if is_required(s, &codes[..size], &sums[..n], &counts[..n], n, d) {
+        ArchiveRead::Entries { dims, bases, cells }
+    } else {
+        ArchiveRead::Stop(12)
+    }
+}
+
+// Reads an archive with all its stops, 1 to 12; its base rows into the arrays that are lent.
+pub fn read_required(
+    s: &[u8],
+    codes: &mut [u32; 8192],
+    sums: &mut [i64; 1024],
+    counts: &mut [u32; 1024],
+) -> ArchiveRead
+    ensures { λ r. ⌜ r ≡ answer (readArchive (now (s .entry))) ⌝ }
+    ensures { λ r. ⌜ Stored (readArchive (now (s .entry))) (now (codes .exit)) (now (sums .exit)) (now (counts .exit)) ⌝ }
+{
+    match entries::read_archive(s, codes, sums, counts) {
+        ArchiveRead::Stop(n) => ArchiveRead::Stop(n),
+        ArchiveRead::Entries { dims, bases, cells } => {
+            judge_read(s, codes, sums, counts, dims, bases, cells)
+        }
+    }
+}
