@@ -1,0 +1,86 @@
+// The five calls for other languages: each answers one number, 2^63 plus a stop's number where it stops.
+use archive::Checked;
+use archive::Found;
+use archive::Written;
+ghost use mathlib.Core.Path.{_≡_};
+ghost use lib.ListN.{length};
+ghost use Rattle.archive.specs.Answers.{within, answerOf, leftOf};
+ghost use Rattle.archive.specs.Calls.{builds, checks, listsCuboid, expands, looksUp};
+ghost use Rattle.cube_archive.specs.Numbers.{writtenNumber, checkedNumber, foundNumber, sumLeft, countLeft, entryLeft};
+
+// The number of a call that writes an output.
+fn number(answer: Written) -> u64
+    ensures { λ r. ⌜ r ≡ writtenNumber answer ⌝ }
+{
+    match answer {
+        Written::Length(n) => n as u64,
+        Written::Stop(n) => 0x8000_0000_0000_0000 + n as u64,
+    }
+}
+
+// Builds the archive of a table: the length written.
+#[no_mangle]
+pub extern "C" fn cube_build(table: &[u8], out: &mut [u8]) -> u64
+    ensures { λ r. ⌜ r ≡ writtenNumber (answerOf (within (length (now (out .entry))) (builds (now (table .entry))))) ⌝ }
+    ensures { λ _. ⌜ now (out .exit) ≡ leftOf (within (length (now (out .entry))) (builds (now (table .entry)))) (now (out .entry)) ⌝ }
+{
+    number(archive::build(table, out))
+}
+
+// Checks an archive: the base count plus 2^32 times the normal count.
+#[no_mangle]
+pub extern "C" fn cube_check(archive: &[u8]) -> u64
+    ensures { λ r. ⌜ r ≡ checkedNumber (checks (now (archive .entry))) ⌝ }
+{
+    match archive::check(archive) {
+        Checked::Entries { bases, cells } => bases as u64 + 4294967296 * (cells as u64),
+        Checked::Stop(n) => 0x8000_0000_0000_0000 + n as u64,
+    }
+}
+
+// Looks up a cell: 1 with its sum, its count and its entry's number stored, or 0 for 'no record'.
+#[no_mangle]
+pub extern "C" fn cube_look_up(
+    archive: &[u8],
+    question: &[u32],
+    sum: &mut [i64; 1],
+    count: &mut [u32; 1],
+    entry: &mut [u32; 1],
+) -> u64
+    ensures { λ r. ⌜ r ≡ foundNumber (looksUp (now (archive .entry)) (now (question .entry))) ⌝ }
+    ensures { λ _. ⌜ now (sum .exit) ≡ sumLeft (looksUp (now (archive .entry)) (now (question .entry))) (now (sum .entry)) ⌝ }
+    ensures { λ _. ⌜ (now (count .exit) ≡ countLeft (looksUp (now (archive .entry)) (now (question .entry))) (now (count .entry))) × (now (entry .exit) ≡ entryLeft (looksUp (now (archive .entry)) (now (question .entry))) (now (entry .entry))) ⌝ }
+{
+    match archive::look_up(archive, question) {
+        Found::Cell {
+            sum: s,
+            count: n,
+            entry: e,
+        } => {
+            sum[0] = s;
+            count[0] = n;
+            entry[0] = e;
+            1
+        }
+        Found::NoRecord => 0,
+        Found::Stop(n) => 0x8000_0000_0000_0000 + n as u64,
+    }
+}
+
+// Lists the cuboid of a set: the length written.
+#[no_mangle]
+pub extern "C" fn cube_list_cuboid(archive: &[u8], set: u32, out: &mut [u8]) -> u64
+    ensures { λ r. ⌜ r ≡ writtenNumber (answerOf (within (length (now (out .entry))) (listsCuboid (now (archive .entry)) set))) ⌝ }
+    ensures { λ _. ⌜ now (out .exit) ≡ leftOf (within (length (now (out .entry))) (listsCuboid (now (archive .entry)) set)) (now (out .entry)) ⌝ }
+{
+    number(archive::list_cuboid(archive, set, out))
+}
+
+// Expands an archive to the complete cube: the length written.
+#[no_mangle]
+pub extern "C" fn cube_expand(archive: &[u8], out: &mut [u8]) -> u64
+    ensures { λ r. ⌜ r ≡ writtenNumber (answerOf (within (length (now (out .entry))) (expands (now (archive .entry))))) ⌝ }
+    ensures { λ _. ⌜ now (out .exit) ≡ leftOf (within (length (now (out .entry))) (expands (now (archive .entry)))) (now (out .entry)) ⌝ }
+{
+    number(archive::expand(archive, out))
+}
