@@ -1,7 +1,7 @@
 -- Laws of an opening: the test byte by byte, and part by part.
 use mathlib.Core.Path.{_≡_, refl, sym, ap, ap₂, _∙_}
 use mathlib.Core.Bool.{Bool, true, false, _&&_, false≢true, and-assoc}
-use mathlib.Core.List.{List, [], _∷_, _++_, append-nil}
+use mathlib.Core.List.{List, [], _∷_, _++_}
 use Prim.Native.Nat.{ℕ, _+_, _≤_, _<_}
 use native.Mathlib.Numerals.{add-one}
 use native.Mathlib.Omega.{arith}
@@ -31,10 +31,6 @@ starts-is (y ∷ s) (x ∷ o) e =
 -- which is no longer than the list
 pub starts-length : (s o : List ℕ) → startsWith s o ≡ true → length o ≤ length s
 starts-length s o e = omega (arith, ap length (starts-is s o e), length-append o (drop (length o) s))
-
--- and is the list where both are of one length
-pub starts-whole : (s o : List ℕ) → startsWith s o ≡ true → length s ≡ length o → s ≡ o
-starts-whole s o e h = starts-is s o e ∙ ap (_++_ o) (drop-of-length-le s {i = length o} (omega (arith, h))) ∙ append-nil o
 
 -- two parts one straight after the other
 pub startsWith-append : (s o p : List ℕ) → startsWith s (o ++ p) ≡ startsWith s o && startsWith (drop (length o) s) p

@@ -21,15 +21,6 @@ module _ {A : Type 0} where
   unfolding written
   take-written xs l n e = take-at xs (drop (length xs) l) n e
 
-  pub drop-written : (xs l : List A) (n : ℕ) → length xs ≡ n → drop n (written xs l) ≡ drop n l
-  unfolding written
-  drop-written xs l n e = drop-at xs (drop (length xs) l) n e ∙ rw e
-
-  -- the same of what was written from a place on
-  pub take-writtenAt : (at : ℕ) (xs l : List A) → at ≤ length l → take at (writtenAt at xs l) ≡ take at l
-  unfolding writtenAt
-  take-writtenAt at xs l h = take-at (take at l) (written xs (drop at l)) at (length-take-le at l h)
-
   pub drop-writtenAt : (at : ℕ) (xs l : List A) → at ≤ length l → drop at (writtenAt at xs l) ≡ written xs (drop at l)
   unfolding writtenAt
   drop-writtenAt at xs l h = drop-at (take at l) (written xs (drop at l)) at (length-take-le at l h)

@@ -2,7 +2,7 @@
 use mathlib.Core.Path.{_≡_, refl, sym, ap, _∙_}
 use mathlib.Core.Logic.{_≢_}
 use mathlib.Core.Bool.{Bool, true, false}
-use mathlib.Core.List.{List, [], _∷_, _++_, map, map-map, append-assoc, List·Memᴰ·head, List·Memᴰ·tail, List·Memᴰ·not-nil}
+use mathlib.Core.List.{List, [], _∷_, _++_, map, append-assoc, List·Memᴰ·head, List·Memᴰ·tail, List·Memᴰ·not-nil}
 use Prim.Native.Nat.{ℕ, _+_, _≤_, _<_}
 use native.Mathlib.Numerals.{add-one}
 use native.Mathlib.Omega.{arith}
@@ -16,9 +16,7 @@ use Rattle.lists.proofs.Members.{only-in}
 use Rattle.cube.specs.declared.Total.{Total}
 use Rattle.cube.specs.Measure.{Row, codesOf}
 use Rattle.cube.specs.Bounds.{countOf, Summable}
-use Rattle.cube.specs.Codes.{plain}
-use Rattle.cube.specs.Condensed.{single}
-use Rattle.singles.specs.Marks.{mark, picked, singles}
+use Rattle.singles.specs.Marks.{mark, picked}
 
 module _ {A : Type 0} where
   pub picked-in : {x : A} (marks : List ℕ) (rows : List A) → x ∈ picked marks rows → x ∈ rows
@@ -54,14 +52,6 @@ picked-map f (v ∷ marks) (r ∷ rows) = cases (truth (eqb v 1)) (λ e. rw (e, 
 module _ {A : Type 0} where
   pub picked-codes : (marks : List ℕ) (rows : List (Row A)) → codesOf (picked marks rows) ≡ picked marks (codesOf rows)
   picked-codes = picked-map (λ r. r .codes)
-
-  -- the rows that are marked as single
-  pub picked-singles : (d s : ℕ) {xs : List (List ℕ)} (rows : List (Row A)) → codesOf rows ≡ xs
-      → picked (singles d xs s) rows ≡ keep (λ r. single (plain d) xs s (r .codes)) rows
-  unfolding singles
-  picked-singles d s {xs} rows e =
-      let own : List ℕ → ℕ = λ y. mark (single (plain d) xs s y) in
-      ap (λ (m : List ℕ). picked m rows) (ap (map own) (sym e) ∙ map-map own (λ r. r .codes) rows) ∙ picked-keep (λ r. single (plain d) xs s (r .codes)) rows
 
 -- a part counts no more than all
 count-picked : (marks : List ℕ) (rows : List (Row Total)) → countOf (picked marks rows) ≤ countOf rows

@@ -12,8 +12,7 @@ returns : tie.Need-returns
 returns c =
     let a = c .before .before .before .before .before .before .args in
     let e = sym (c .before .before .before .look-up .ensures) ∙ c .before .s .given .1 in
-    let z = toZ-ofZ {w = w64} {z = c .before .s .given .0 .0} (record { sfits = c .known-told .given .0 .1 }) in
-    (
+    let z = toZ-ofZ {w = w64} {z = c .before .s .given .0 .0} (record { sfits = c .known-told .given .0 .1 }) in (
       sym (ap foundNumber e),
       (rw z (sym (ap (λ f. sumLeft f (now (a .sum))) e)), (sym (ap (λ f. countLeft f (now (a .count))) e), sym (ap (λ f. entryLeft f (now (a .entry))) e))),
     )
