@@ -1,10 +1,15 @@
-//! The library held to the model: the same stop, or the same sizes and rows.
-use crate::{model, Lent};
+//! The library and `good` held to the model: the same stop, or the same numbers and bytes; inputs and unwritten bytes keep their values.
+use crate::calls::{Calls, Stop};
+use crate::good::Good;
+use crate::lent::Lent;
+use crate::library::Library;
+use crate::model::{self, Accepted};
+use std::fmt::Debug;
+use std::hint::black_box;
 
-/// The arrays, and how often each answer was had: place 0 for files that were accepted.
-pub struct Compare {
-    pub lent: Box<Lent>,
-    pub seen: [u64; 16],
+/// What is tested, with a name for messages.
+pub fn subjects() -> Vec<(&'static str, &'static dyn Calls)> {
+    vec![("library", &Library), ("good", &Good)]
 }
 
 /// The bytes in hexadecimal, at most the first 2,000.
@@ -13,35 +18,162 @@ pub fn hex(s: &[u8]) -> String {
     format!("{} bytes: {shown}", s.len())
 }
 
+/// The places of the five calls in `Compare::seen`.
+pub const BUILD: usize = 0;
+pub const CHECK: usize = 1;
+pub const LOOK_UP: usize = 2;
+pub const LIST: usize = 3;
+pub const EXPAND: usize = 4;
+
+const NAMES: [&str; 5] = ["build", "check", "look up", "list", "expand"];
+
+/// The stops that each call can have.
+const STOPS: [&[usize]; 5] = [
+    &[1, 2, 3, 4, 5, 6, 10, 11, 15],
+    &[1, 2, 3, 4, 5, 6, 7, 8, 9, 10, 11, 12],
+    &[1, 2, 3, 4, 5, 6, 7, 8, 9, 10, 11, 12, 13],
+    &[1, 2, 3, 4, 5, 6, 7, 8, 9, 10, 11, 12, 14, 15],
+    &[1, 2, 3, 4, 5, 6, 7, 8, 9, 10, 11, 12, 15],
+];
+
+/// What was compared so far.
+#[derive(Default)]
+pub struct Compare {
+    /// How often each call had each answer: place 0 for answers without a stop.
+    pub seen: [[u64; 16]; 5],
+    /// How many results were written, or refused, in a call with an output.
+    outputs: usize,
+}
+
 impl Compare {
     pub fn new() -> Compare {
-        Compare { lent: Lent::new(), seen: [0; 16] }
+        Compare::default()
     }
 
-    pub fn archive(&mut self, s: &[u8], what: &str) {
-        let model = model::archive(s);
-        let library = self.lent.archive(s);
-        self.seen[model.sizes().err().unwrap_or(0) as usize] += 1;
-        assert!(library == model, "{what}\nlibrary {library:?}\nmodel   {model:?}\n{}", hex(s));
+    /// A table built into outputs that are too short, just long enough and longer. The model's archive.
+    pub fn table(&mut self, s: &[u8], what: &str) -> Result<Vec<u8>, Stop> {
+        let model = model::build(s);
+        self.output(BUILD, s, &model, what, |calls, out| calls.build(s, out));
+        model
     }
 
-    pub fn table(&mut self, s: &[u8], what: &str) {
-        let model = model::table(s);
-        let library = self.lent.table(s);
-        self.seen[model.sizes().err().unwrap_or(0) as usize] += 1;
-        assert!(library == model, "{what}\nlibrary {library:?}\nmodel   {model:?}\n{}", hex(s));
+    /// An archive checked, and another call on it if it is refused. What the model reads.
+    pub fn archive(&mut self, s: &[u8], what: &str) -> Result<Accepted, Stop> {
+        let model = model::open(s);
+        let want = model.as_ref().map(Accepted::counts).map_err(|&stop| stop);
+        self.answer(CHECK, s, want, what, |calls| calls.check(s));
+        if let Err(stop) = model {
+            self.refused(s, stop, what);
+        }
+        model
     }
 
-    /// How many files were compared.
-    pub fn files(&self) -> u64 {
-        self.seen.iter().sum()
+    /// One of the other calls on a refused archive, by turns, with arguments that are right or have a stop of their own.
+    fn refused(&mut self, s: &[u8], stop: Stop, what: &str) {
+        let dims = s.get(4).map_or(0, |&d| d as usize % 9);
+        match self.seen[CHECK].iter().sum::<u64>() % 5 {
+            0 => self.answer(LOOK_UP, s, Err(stop), what, |calls| calls.look_up(s, &vec![model::ALL; dims])),
+            1 => self.answer(LOOK_UP, s, Err(stop), what, |calls| calls.look_up(s, &[])),
+            2 => self.output(LIST, s, &Err(stop), what, |calls, out| calls.list_cuboid(s, 0, out)),
+            3 => self.output(LIST, s, &Err(stop), what, |calls, out| calls.list_cuboid(s, u32::MAX, out)),
+            _ => self.output(EXPAND, s, &Err(stop), what, |calls, out| calls.expand(s, out)),
+        }
     }
 
-    /// Each of these answers was had.
-    pub fn had(&self, answers: &[usize]) {
-        println!("answers 0 (accepted) to 15: {:?}", self.seen);
-        for &n in answers {
-            assert!(self.seen[n] > 0, "no file had the answer {n}: {:?}", self.seen);
+    pub fn look_up(&mut self, s: &[u8], accepted: &Accepted, question: &[u32], what: &str) {
+        let want = accepted.look_up(question);
+        self.answer(LOOK_UP, s, want, &format!("{what}, question {question:?}"), |calls| calls.look_up(s, question));
+    }
+
+    pub fn list(&mut self, s: &[u8], accepted: &Accepted, set: u32, what: &str) {
+        let want = accepted.list_cuboid(set);
+        self.output(LIST, s, &want, &format!("{what}, set {set}"), |calls, out| calls.list_cuboid(s, set, out));
+    }
+
+    pub fn expand(&mut self, s: &[u8], accepted: &Accepted, what: &str) {
+        self.output(EXPAND, s, &Ok(accepted.expand()), what, |calls, out| calls.expand(s, out));
+    }
+
+    /// A call that answers with numbers alone.
+    fn answer<T: PartialEq + Debug>(
+        &mut self,
+        call: usize,
+        s: &[u8],
+        want: Result<T, Stop>,
+        what: &str,
+        run: impl Fn(&dyn Calls) -> Result<T, Stop>,
+    ) {
+        self.seen[call][*want.as_ref().err().unwrap_or(&0) as usize] += 1;
+        for (name, calls) in subjects() {
+            let got = keeping(s, || run(calls));
+            assert!(got == want, "{}, {what}\n{name} {got:?}\nmodel {want:?}\n{}", NAMES[call], hex(s));
+        }
+    }
+
+    /// A call that writes: with each length of the output that matters for the result.
+    fn output(
+        &mut self,
+        call: usize,
+        s: &[u8],
+        model: &Result<Vec<u8>, Stop>,
+        what: &str,
+        run: impl Fn(&dyn Calls, &mut [u8]) -> Result<usize, Stop>,
+    ) {
+        self.outputs += 1;
+        for room in rooms(model, self.outputs) {
+            let want = model.as_deref().map_err(|&stop| stop).and_then(|bytes| model::fit(bytes, room));
+            self.seen[call][want.err().unwrap_or(0) as usize] += 1;
+            for (name, calls) in subjects() {
+                let mut lent = Lent::new(room, s.len() % 8 + room % 3);
+                let got = keeping(s, || run(calls, lent.out()));
+                let wrong = difference(got, &lent, want);
+                assert!(wrong.is_none(), "{}, {what}, output of {room}\n{name}: {}\n{}", NAMES[call], wrong.unwrap(), hex(s));
+            }
+        }
+    }
+
+    /// The call had each of these answers, and none that it cannot have.
+    pub fn had(&self, call: usize, answers: &[usize]) {
+        let seen = self.seen[call];
+        println!("{}, answers 0 (no stop) to 15: {seen:?}", NAMES[call]);
+        for answer in 0..16 {
+            assert!(seen[answer] > 0 || !answers.contains(&answer), "{}: no answer {answer} in {seen:?}", NAMES[call]);
+            assert!(seen[answer] == 0 || answer == 0 || STOPS[call].contains(&answer), "{}: answer {answer} in {seen:?}", NAMES[call]);
+        }
+    }
+}
+
+/// Lengths of the output, by turns: one too short and just enough, or none and more than enough; for a stop none or some.
+fn rooms(model: &Result<Vec<u8>, Stop>, turn: usize) -> Vec<usize> {
+    match (model, turn % 2) {
+        (Ok(bytes), 0) => vec![bytes.len() - 1, bytes.len()],
+        (Ok(bytes), _) => vec![0, bytes.len() + 9],
+        (Err(_), 0) => vec![0],
+        (Err(_), _) => vec![100],
+    }
+}
+
+/// Runs a call and sees that its input keeps every byte.
+fn keeping<T>(s: &[u8], run: impl FnOnce() -> T) -> T {
+    let before = s.to_vec();
+    let got = run();
+    assert!(black_box(s) == before, "a call changed its input: {}", hex(&before));
+    got
+}
+
+/// What is wrong in an answer and the output, if anything is.
+fn difference(got: Result<usize, Stop>, lent: &Lent, want: Result<&[u8], Stop>) -> Option<String> {
+    if got != want.map(<[u8]>::len) {
+        return Some(format!("{got:?}, model {:?}", want.map(<[u8]>::len)));
+    }
+    let bytes = want.unwrap_or_default();
+    match lent.written(bytes.len()) {
+        Err(kept) => Some(kept),
+        Ok(written) if written == bytes => None,
+        Ok(written) => {
+            let at = written.iter().zip(bytes).position(|(a, b)| a != b).unwrap();
+            let from = at / 4 * 4;
+            Some(format!("byte {at} of {}: {}\nmodel, from {from} on: {}", bytes.len(), hex(&written[from..]), hex(&bytes[from..])))
         }
     }
 }

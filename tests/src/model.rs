@@ -1,189 +1,95 @@
-//! A naive reader of both files, written from document 01 alone: fields from the left, at each number 2 first and then its own stops.
-use crate::{Archive, Row, Table};
-use std::collections::BTreeMap;
+//! A naive model of the five calls, written from document 01 alone: its definitions in `cube`, its stops in checking order in `fields` and here.
+pub mod cube;
+pub mod fields;
 
-/// A base entry.
-#[derive(Clone, Debug, PartialEq, Eq)]
-pub struct Base {
-    pub row: Row,
-    pub list: Vec<u32>,
+use crate::calls::{Found, Stop};
+use crate::write::{archive_bytes, cuboid_bytes};
+pub use cube::{Base, Row, ALL};
+
+/// Our archive of base rows.
+pub fn our_archive(sizes: &[u32], rows: &[Row]) -> Vec<u8> {
+    archive_bytes(sizes, &cube::bases(sizes.len(), rows), &cube::normals(sizes.len(), rows))
 }
 
-/// All that an archive's fields hold.
-#[derive(Clone, Debug, PartialEq, Eq)]
-pub struct Held {
+/// The archive of a table.
+pub fn build(table: &[u8]) -> Result<Vec<u8>, Stop> {
+    let table = fields::table(table)?;
+    Ok(our_archive(&table.sizes, &cube::folded(&table.rows)))
+}
+
+/// The result if it fits in so many bytes.
+pub fn fit(result: &[u8], room: usize) -> Result<&[u8], Stop> {
+    if result.len() > room {
+        return Err(15);
+    }
+    Ok(result)
+}
+
+/// An archive that no stop on its own bytes refuses.
+#[derive(Clone, Debug)]
+pub struct Accepted {
     pub sizes: Vec<u32>,
+    pub rows: Vec<Row>,
     pub bases: Vec<Base>,
     pub normals: Vec<Row>,
 }
 
-struct Fields<'a> {
-    all: &'a [u8],
-    at: usize,
+/// The archive, or the first of the stops 1 to 12.
+pub fn open(archive: &[u8]) -> Result<Accepted, Stop> {
+    let fields::Archive { sizes, bases, normals } = fields::archive(archive)?;
+    let rows: Vec<Row> = bases.iter().map(|b| b.row.clone()).collect();
+    let lists = (0..rows.len()).all(|i| bases[i].list == cube::list(sizes.len(), &rows, i));
+    if !lists || normals != cube::normals(sizes.len(), &rows) {
+        return Err(12);
+    }
+    Ok(Accepted { sizes, rows, bases, normals })
 }
 
-impl<'a> Fields<'a> {
-    fn open(all: &'a [u8], opening: &[u8]) -> Result<Fields<'a>, u32> {
-        match all.get(..4) {
-            Some(first) if first == opening => Ok(Fields { all, at: 4 }),
-            _ => Err(1),
+impl Accepted {
+    pub fn dims(&self) -> usize {
+        self.sizes.len()
+    }
+
+    /// What a check returns.
+    pub fn counts(&self) -> (u32, u32) {
+        (self.bases.len() as u32, self.normals.len() as u32)
+    }
+
+    /// The cell that a question names, from the rows that fall in it, with the entry that stands for it.
+    pub fn look_up(&self, question: &[u32]) -> Result<Option<Found>, Stop> {
+        if question.len() != self.dims() || question.iter().zip(&self.sizes).any(|(code, size)| code >= size && *code != ALL) {
+            return Err(13);
         }
-    }
-
-    fn take<const N: usize>(&mut self) -> Result<[u8; N], u32> {
-        let field = self.all.get(self.at..self.at + N).ok_or(2u32)?;
-        self.at += N;
-        Ok(field.try_into().unwrap())
-    }
-
-    fn word(&mut self) -> Result<u32, u32> {
-        Ok(u32::from_le_bytes(self.take()?))
-    }
-
-    fn sum(&mut self) -> Result<i64, u32> {
-        Ok(i64::from_le_bytes(self.take()?))
-    }
-
-    fn reading(&mut self) -> Result<i32, u32> {
-        Ok(i32::from_le_bytes(self.take()?))
-    }
-
-    fn sizes(&mut self) -> Result<Vec<u32>, u32> {
-        let dims = self.word()?;
-        if dims < 1 || dims > 8 {
-            return Err(3);
+        let set = (0..self.dims()).filter(|&i| question[i] != ALL).map(|i| 1 << i).sum();
+        let total = cube::Total::over(self.rows.iter().filter(|row| cube::agree(&row.codes, question, set)));
+        if total.rows == 0 {
+            return Ok(None);
         }
-        let mut sizes = Vec::new();
-        for _ in 0..dims {
-            let size = self.word()?;
-            if size < 1 || size > 65_535 {
-                return Err(4);
-            }
-            sizes.push(size);
-        }
-        Ok(sizes)
+        Ok(Some(Found { sum: total.sum, count: total.count, entry: self.entry(question, set, total) }))
     }
 
-    fn row_count(&mut self) -> Result<u32, u32> {
-        let count = self.word()?;
-        if count > 1_024 {
-            return Err(5);
-        }
-        Ok(count)
+    /// The one entry that stands for a cell.
+    fn entry(&self, codes: &[u32], set: u32, total: cube::Total) -> u32 {
+        let listed = |base: &Base| set == cube::full(self.dims()) || base.list.iter().any(|&other| cube::holds(set, other));
+        let bases = self.bases.iter().map(|b| (&b.row, cube::agree(&b.row.codes, codes, set) && listed(b)));
+        let entries = bases.chain(self.normals.iter().map(|n| (n, n.codes == codes)));
+        let standing: Vec<(usize, &Row)> = entries.enumerate().filter(|(_, (_, stands))| *stands).map(|(i, (row, _))| (i, row)).collect();
+        let [(i, row)] = standing[..] else { panic!("{} entries stand for the cell {codes:?}", standing.len()) };
+        assert_eq!((row.sum, row.count), (total.sum, total.count), "the cell {codes:?}");
+        i as u32
     }
 
-    fn codes(&mut self, sizes: &[u32]) -> Result<Vec<u32>, u32> {
-        let mut codes = Vec::new();
-        for &size in sizes {
-            let code = self.word()?;
-            if code >= size {
-                return Err(6);
-            }
-            codes.push(code);
+    /// The cells of a set, listed.
+    pub fn list_cuboid(&self, set: u32) -> Result<Vec<u8>, Stop> {
+        if set > cube::full(self.dims()) {
+            return Err(14);
         }
-        Ok(codes)
+        let cells = cube::cells(&self.rows, set).into_iter();
+        Ok(cuboid_bytes(&cells.map(|(codes, total)| Row { codes, sum: total.sum, count: total.count }).collect::<Vec<_>>()))
     }
 
-    fn close(&mut self) -> Result<(), u32> {
-        let before = &self.all[..self.at];
-        let check = self.word()?;
-        if self.at < self.all.len() {
-            return Err(10);
-        }
-        let words = before.chunks(4).map(|w| u32::from_le_bytes(w.try_into().unwrap()) as u64);
-        if words.sum::<u64>() % (1 << 32) != check as u64 {
-            return Err(11);
-        }
-        Ok(())
-    }
-}
-
-/// The sizes and the rows of a table, as its bytes have them.
-pub fn table_fields(s: &[u8]) -> Result<(Vec<u32>, Vec<(Vec<u32>, i32)>), u32> {
-    let mut f = Fields::open(s, &[0x46, 0x41, 0x43, 0x54])?;
-    let sizes = f.sizes()?;
-    let count = f.row_count()?;
-    let mut rows = Vec::new();
-    for _ in 0..count {
-        let codes = f.codes(&sizes)?;
-        rows.push((codes, f.reading()?));
-    }
-    f.close()?;
-    Ok((sizes, rows))
-}
-
-/// Base rows: rows with equal codes folded into one, rising by codes.
-pub fn folded(rows: &[(Vec<u32>, i32)]) -> Vec<Row> {
-    let mut bases: BTreeMap<Vec<u32>, (i64, u32)> = BTreeMap::new();
-    for (codes, reading) in rows {
-        let total = bases.entry(codes.clone()).or_insert((0, 0));
-        total.0 += *reading as i64;
-        total.1 += 1;
-    }
-    bases.into_iter().map(|(codes, (sum, count))| Row { codes, sum, count }).collect()
-}
-
-pub fn table(s: &[u8]) -> Table {
-    match table_fields(s) {
-        Err(stop) => Table::Stop(stop),
-        Ok((sizes, rows)) => Table::Rows { dims: sizes.len() as u32, rows: folded(&rows) },
-    }
-}
-
-/// Whether so many readings can make the sum.
-fn can_make(count: u32, sum: i64) -> bool {
-    let (count, sum) = (count as i128, sum as i128);
-    count * -2_147_483_648 <= sum && sum <= count * 2_147_483_647
-}
-
-/// What the fields of an archive hold, or the first of the stops 1 to 11.
-pub fn archive_fields(s: &[u8]) -> Result<Held, u32> {
-    let mut f = Fields::open(s, &[0x43, 0x55, 0x42, 0x45])?;
-    let sizes = f.sizes()?;
-    let count = f.row_count()?;
-    let mut bases: Vec<Base> = Vec::new();
-    let mut total: u64 = 0;
-    for _ in 0..count {
-        let codes = f.codes(&sizes)?;
-        if let Some(before) = bases.last() {
-            if before.row.codes >= codes {
-                return Err(7);
-            }
-        }
-        let sum = f.sum()?;
-        let count = f.word()?;
-        total += count as u64;
-        if count == 0 || !can_make(count, sum) || total > 1_048_576 {
-            return Err(8);
-        }
-        let listed = f.word()?;
-        if listed > 70 {
-            return Err(9);
-        }
-        let mut list = Vec::new();
-        for _ in 0..listed {
-            list.push(f.word()?);
-        }
-        bases.push(Base { row: Row { codes, sum, count }, list });
-    }
-    let count = f.word()?;
-    let mut normals = Vec::new();
-    for _ in 0..count {
-        let mut codes = Vec::new();
-        for _ in 0..sizes.len() {
-            codes.push(f.word()?);
-        }
-        let sum = f.sum()?;
-        let count = f.word()?;
-        normals.push(Row { codes, sum, count });
-    }
-    f.close()?;
-    Ok(Held { sizes, bases, normals })
-}
-
-pub fn archive(s: &[u8]) -> Archive {
-    match archive_fields(s) {
-        Err(stop) => Archive::Stop(stop),
-        Ok(held) => Archive::Entries { normals: held.normals.len() as u32, rows: held.bases.into_iter().map(|b| b.row).collect() },
+    /// All cuboids in lattice order.
+    pub fn expand(&self) -> Vec<u8> {
+        cube::lattice(self.dims()).into_iter().flat_map(|set| self.list_cuboid(set).unwrap()).collect()
     }
 }

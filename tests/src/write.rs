@@ -1,9 +1,5 @@
-//! Tables and archives as bytes, and our entries worked out naively from the definitions of document 01.
-use crate::model::Base;
-use crate::Row;
-use std::collections::BTreeMap;
-
-pub const ALL: u32 = 65_535;
+//! Tables, archives and listings as bytes.
+use crate::model::{Base, Row};
 
 /// A file that grows field by field.
 #[derive(Clone)]
@@ -89,50 +85,8 @@ pub fn archive_bytes(sizes: &[u32], bases: &[Base], normals: &[Row]) -> Vec<u8> 
     normals.iter().fold(front.word(normals.len() as u32), |f, n| f.normal(&n.codes, n.sum, n.count)).closed()
 }
 
-/// The sets of D dimensions: fewer dimensions first, then the smaller number.
-pub fn lattice(dims: usize) -> Vec<u32> {
-    let mut sets: Vec<u32> = (0..1u32 << dims).collect();
-    sets.sort_by_key(|s| (s.count_ones(), *s));
-    sets
-}
-
-fn agree(a: &[u32], b: &[u32], set: u32) -> bool {
-    (0..a.len()).all(|i| set >> i & 1 == 0 || a[i] == b[i])
-}
-
-/// Our lists and normal entries for base rows.
-pub fn ours(dims: usize, rows: &[Row]) -> (Vec<Base>, Vec<Row>) {
-    let sets = lattice(dims);
-    let full = (1u32 << dims) - 1;
-    let mut bases = Vec::new();
-    for (i, row) in rows.iter().enumerate() {
-        let alone = |set: u32| rows.iter().enumerate().all(|(j, other)| i == j || !agree(&row.codes, &other.codes, set));
-        let single: Vec<bool> = (0..=full).map(alone).collect();
-        let smallest = |set: u32| single[set as usize] && !(0..set).any(|t| t & set == t && single[t as usize]);
-        let list = sets.iter().copied().filter(|&set| set != full && smallest(set)).collect();
-        bases.push(Base { row: row.clone(), list });
-    }
-    let mut normals = Vec::new();
-    for &set in sets.iter().filter(|&&set| set != full) {
-        let mut cells: BTreeMap<Vec<u32>, (i64, u32, u32)> = BTreeMap::new();
-        for row in rows {
-            let cell = (0..dims).map(|i| if set >> i & 1 == 1 { row.codes[i] } else { ALL }).collect();
-            let total = cells.entry(cell).or_insert((0, 0, 0));
-            total.0 += row.sum;
-            total.1 += row.count;
-            total.2 += 1;
-        }
-        for (codes, (sum, count, fallen)) in cells {
-            if fallen >= 2 {
-                normals.push(Row { codes, sum, count });
-            }
-        }
-    }
-    (bases, normals)
-}
-
-/// Our archive of base rows.
-pub fn our_archive(sizes: &[u32], rows: &[Row]) -> Vec<u8> {
-    let (bases, normals) = ours(sizes.len(), rows);
-    archive_bytes(sizes, &bases, &normals)
+/// A listed cuboid: the count, then the cells.
+pub fn cuboid_bytes(cells: &[Row]) -> Vec<u8> {
+    let count = File(vec![]).word(cells.len() as u32);
+    cells.iter().fold(count, |f, c| f.normal(&c.codes, c.sum, c.count)).cut()
 }

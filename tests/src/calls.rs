@@ -1,0 +1,29 @@
+//! The five calls, as tests and times see them. Each implementation of them answers in the same way.
+
+/// A stop's number in document 01.
+pub type Stop = u32;
+
+/// What a looked-up cell returns.
+#[derive(Clone, Copy, Debug, PartialEq, Eq)]
+pub struct Found {
+    pub sum: i64,
+    pub count: u32,
+    pub entry: u32,
+}
+
+pub trait Calls: Sync {
+    /// Writes the archive of a table; its length.
+    fn build(&self, table: &[u8], out: &mut [u8]) -> Result<usize, Stop>;
+
+    /// The base count and the normal count of an archive.
+    fn check(&self, archive: &[u8]) -> Result<(u32, u32), Stop>;
+
+    /// The cell that a question names, or none for 'no record'.
+    fn look_up(&self, archive: &[u8], question: &[u32]) -> Result<Option<Found>, Stop>;
+
+    /// Writes the cells of one set; the length.
+    fn list_cuboid(&self, archive: &[u8], set: u32, out: &mut [u8]) -> Result<usize, Stop>;
+
+    /// Writes the complete cube; its length.
+    fn expand(&self, archive: &[u8], out: &mut [u8]) -> Result<usize, Stop>;
+}
