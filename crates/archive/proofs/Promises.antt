@@ -3,7 +3,7 @@ use mathlib.Core.Path.{_≡_, refl, sym, ap, ap₂, subst, _∙_}
 use mathlib.Core.Logic.{_↔_}
 use mathlib.Core.Bool.{true}
 use mathlib.Core.Option.{some as just}
-use mathlib.Core.List.{List, [], map, List·Permᴰ, Memᴰ·cast, Memᴰ·map, Memᴰ·of-map}
+use mathlib.Core.List.{List, [], map, flatMap, List·Permᴰ, Memᴰ·cast, Memᴰ·map, Memᴰ·of-map}
 use Prim.Native.Nat.{ℕ, _+_, _^_, _<_, _≤_}
 use lib.ListN.{length, length-append, length-map, getElem?}
 use borrow.Author.Tests.{lt-ltb}
@@ -15,7 +15,7 @@ use Rattle.walk.specs.Limits.{Bytes}
 use Rattle.cube.specs.declared.Total.{Total}
 use Rattle.cube.specs.Measure.{sums, Row, codesOf}
 use Rattle.cube.specs.Codes.{plain}
-use Rattle.cube.specs.Cube.{Exists, total}
+use Rattle.cube.specs.Cube.{Exists, total, grouped, complete}
 use Rattle.cube.specs.Condensed.{Entry, base, normal, Answer, no-record, found, lookup, normals, listed, reach, Base, own, stands, Condensed, ours}
 use Rattle.cube.proofs.Sums.{sums-add}
 use Rattle.cube.proofs.Folding.{grouped-folded}
@@ -65,9 +65,6 @@ module _ (s : List ℕ) (a : Held) (b : Bytes s) (e : readArchive s ≡ got a []
 
   rows-base : Base (plain d) (codesOf rows)
   rows-base = let l = archive-forth s a [] b e .0 in limits-base (a .sizes) rows l
-
-  abbrev tells : List ℕ → Answer Total → Type 0
-  tells q r = looksUp s q ≡ told r
 
   module _ (q : List ℕ) (k : asks (a .sizes) q ≡ true) where
     looked : looksUp s q ≡ told (lookup (plain d) q (ours (plain d) sums rows))
@@ -134,6 +131,11 @@ module _ (s : List ℕ) (t : Table) (b : Bytes s) (e : readTable s ≡ got t [])
       ap (outcome expanded) built-read
       ∙ expanded-required (t .sizes) (based t)
       ∙ ap bytes (flat-same (cuboidBytes D (based t)) (cuboidBytes D (t .rows)) (sets D) (λ set m. cuboid-built set))
+
+  -- The cells of that cube, set by set, are those of CUBE BY.
+  pub expanded-cells : flatMap (grouped (plain D) sums (t .rows)) (sets D) ≡ complete (plain D) sums (t .rows)
+  unfolding complete
+  expanded-cells = refl
 
   -- The entries in those bytes are our entries: the base rows with their lists, and the normal cells.
   abbrev held : Held
