@@ -50,7 +50,7 @@ impl Compare {
         Compare::default()
     }
 
-    /// A table built into outputs that are too short, just long enough and longer. The model's archive.
+    /// A table built. The model's archive.
     pub fn table(&mut self, s: &[u8], what: &str) -> Result<Vec<u8>, Stop> {
         let model = model::build(s);
         self.output(BUILD, s, &model, what, |calls, out| calls.build(s, out));
@@ -70,6 +70,7 @@ impl Compare {
 
     /// One of the other calls on a refused archive, by turns, with arguments that are right or have a stop of their own.
     fn refused(&mut self, s: &[u8], stop: Stop, what: &str) {
+        // If the file says D, the question fits it.
         let dims = s.get(4).map_or(0, |&d| d as usize % 9);
         match self.seen[CHECK].iter().sum::<u64>() % 5 {
             0 => self.answer(LOOK_UP, s, Err(stop), what, |calls| calls.look_up(s, &vec![model::ALL; dims])),
@@ -110,7 +111,7 @@ impl Compare {
         }
     }
 
-    /// A call that writes: with each length of the output that matters for the result.
+    /// A call that writes, with outputs of two lengths, or of one if it stops.
     fn output(
         &mut self,
         call: usize,

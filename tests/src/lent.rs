@@ -27,8 +27,8 @@ impl Lent {
     /// The first bytes of the output, if all others kept their values.
     pub fn written(&self, length: usize) -> Result<&[u8], String> {
         let end = self.start + length;
-        let kept = |&at: &usize| self.bytes[at] != pattern(at);
-        match (0..self.start).chain(end..self.bytes.len()).find(kept) {
+        let changed = |&at: &usize| self.bytes[at] != pattern(at);
+        match (0..self.start).chain(end..self.bytes.len()).find(changed) {
             Some(at) => Err(format!("byte {} of an output of {} was written", at as isize - self.start as isize, self.room)),
             None => Ok(&self.bytes[self.start..end]),
         }

@@ -1,32 +1,38 @@
 //! Random tables through all five calls: the archive's bytes, its counts, cells, cuboids and the complete cube are the model's.
 use calls::compare::{Compare, BUILD, CHECK, EXPAND, LIST, LOOK_UP};
-use calls::model::{cube, Accepted, ALL};
+use calls::model::{cube, our_archive, Accepted, ALL};
 use calls::random::Random;
 use calls::write::table_bytes;
 
-/// A table built, its archive checked and expanded.
-fn opened(compare: &mut Compare, table: &[u8], what: &str) -> (Vec<u8>, Accepted) {
-    let archive = compare.table(table, what).unwrap();
-    let accepted = compare.archive(&archive, what).unwrap();
-    compare.expand(&archive, &accepted, what);
-    (archive, accepted)
+/// An archive checked and expanded.
+fn opened(compare: &mut Compare, archive: &[u8], what: &str) -> Accepted {
+    let accepted = compare.archive(archive, what).unwrap();
+    compare.expand(archive, &accepted, what);
+    accepted
 }
 
 /// The same, with so many questions and cuboids.
-fn all_calls(compare: &mut Compare, table: &[u8], what: &str, questions: usize, cuboids: usize, random: &mut Random) {
-    let (archive, accepted) = opened(compare, table, what);
+fn asked(compare: &mut Compare, archive: &[u8], what: &str, questions: usize, cuboids: usize, random: &mut Random) {
+    let accepted = opened(compare, archive, what);
     for _ in 0..questions {
         let question = random.question(&accepted);
-        compare.look_up(&archive, &accepted, &question, what);
+        compare.look_up(archive, &accepted, &question, what);
     }
     for _ in 0..cuboids {
-        compare.list(&archive, &accepted, random.below(1 << accepted.dims()) as u32, what);
+        compare.list(archive, &accepted, random.below(1 << accepted.dims()) as u32, what);
     }
 }
 
-/// The same with every set.
+/// A table built, and its archive through the other calls.
+fn all_calls(compare: &mut Compare, table: &[u8], what: &str, questions: usize, cuboids: usize, random: &mut Random) {
+    let archive = compare.table(table, what).unwrap();
+    asked(compare, &archive, what, questions, cuboids, random);
+}
+
+/// A table built, its archive expanded and every cuboid listed.
 fn every_set(compare: &mut Compare, table: &[u8], what: &str) {
-    let (archive, accepted) = opened(compare, table, what);
+    let archive = compare.table(table, what).unwrap();
+    let accepted = opened(compare, &archive, what);
     for set in cube::lattice(accepted.dims()) {
         compare.list(&archive, &accepted, set, what);
     }
@@ -94,6 +100,22 @@ fn sums_that_are_equal() {
     had_all(&compare);
 }
 
+/// Archives whose counts and sums go up to their limits, as no table of 1,024 rows makes them.
+#[test]
+fn high_counts_and_sums() {
+    let mut random = Random::seeded(407);
+    let mut compare = Compare::new();
+    for i in 0..240 {
+        let sizes = random.sizes(1 + i % 8);
+        let count = random.row_count().min(30);
+        let rows = random.base_rows(&sizes, count);
+        asked(&mut compare, &our_archive(&sizes, &rows), &format!("archive {i}"), 4, 1, &mut random.part());
+    }
+    compare.had(LOOK_UP, &[0]);
+    compare.had(LIST, &[0, 15]);
+    compare.had(EXPAND, &[0, 15]);
+}
+
 /// All questions: each code of each dimension, and ALL.
 #[test]
 fn every_question() {
@@ -104,7 +126,8 @@ fn every_question() {
         let count = random.place(9);
         let rows = random.table_rows(&sizes, count);
         let what = format!("table {i}");
-        let (archive, accepted) = opened(&mut compare, &table_bytes(&sizes, &rows), &what);
+        let archive = compare.table(&table_bytes(&sizes, &rows), &what).unwrap();
+        let accepted = opened(&mut compare, &archive, &what);
         let mut question = vec![0; sizes.len()];
         while let Some(dim) = (0..sizes.len()).find(|&dim| question[dim] != ALL) {
             compare.look_up(&archive, &accepted, &question, &what);
@@ -154,7 +177,9 @@ fn every_small_table() {
     let mut at = 0;
     while at < tables.len() {
         let rows: Vec<(Vec<u32>, i32)> = tables[at].clone();
-        opened(&mut compare, &table_bytes(&[2, 2], &rows), &format!("rows {rows:?}"));
+        let what = format!("rows {rows:?}");
+        let archive = compare.table(&table_bytes(&[2, 2], &rows), &what).unwrap();
+        opened(&mut compare, &archive, &what);
         if rows.len() < 3 {
             tables.extend(any.iter().map(|row| [&rows[..], std::slice::from_ref(row)].concat()));
         }
