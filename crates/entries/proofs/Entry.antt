@@ -26,6 +26,7 @@ use Rattle.cube.specs.Measure.{Row}
 use Rattle.cube.specs.Bounds.{most, canMake}
 use Rattle.entries.specs.Layout.{Based}
 use Rattle.entries.specs.Reading.{rising, fair, amount, list, entry}
+use Rattle.entries.specs.Places.{rowThere, widthThere}
 use Rattle.walk.proofs.Any.{any-word, any-sum, any-many, any-walked}
 use Rattle.walk.proofs.Places.{Took, took-then, any-took, word-read, field-read, Words, codes-read}
 
@@ -177,13 +178,6 @@ list-read s at {ss} {rest} h e =
     let n = t .0 in
     let m = any-took (any-many n any-word) s (at + 4) (f .0 .whole) (ap (many n word) (sym (f .1)) ∙ t .3) in
     took-then s at 4 (n * 4) m (omega (arith, f .0 .value))
-
--- the row whose codes, sum and count stand at a place, and the bytes of an entry there
-abbrev pub rowThere : List ℕ → ℕ → ℕ → Row Total
-rowThere s d at = record { codes = wordsAt s d at; total = record { sum = sumAt s (at + 4 * d); count = wordAt s (at + 4 * d + 8) } }
-
-abbrev pub widthThere : List ℕ → ℕ → ℕ → ℕ
-widthThere s d at = 4 * d + 16 + 4 * wordAt s (at + 4 * d + 12)
 
 pub record Entry (s : List ℕ) (d total at : ℕ) (r : Row Total) (rest : List ℕ) : Type 0 where
   pub took : Took s at (widthThere s d at) rest

@@ -14,3 +14,4 @@ pub mod Fields
 pub mod Storing
 pub mod Examples
 pub mod Lengths
+pub mod There

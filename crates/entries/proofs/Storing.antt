@@ -15,7 +15,8 @@ use Rattle.walk.specs.Parsed.{got}
 use Rattle.entries.specs.Layout.{Based}
 use Rattle.entries.specs.Reading.{entry, entries, walkArchive, rowsIn, Stored}
 use Rattle.walk.proofs.Steps.{cons-forth}
-use Rattle.entries.proofs.Entry.{rowThere, widthThere, Entry, entry-read}
+use Rattle.entries.specs.Places.{rowThere, widthThere}
+use Rattle.entries.proofs.Entry.{Entry, entry-read}
 use Rattle.entries.proofs.Fields.{Accepted, accepted-stored}
 
 -- one row goes from those left to those stored

@@ -12,6 +12,7 @@ ghost use Rattle.fields.specs.Twos.{sumAt};
 ghost use Rattle.walk.specs.Walked.{Walked};
 ghost use Rattle.cube.specs.Bounds.{most, canMake};
 ghost use Rattle.rows.specs.Rows.{rowsOf};
+ghost use Rattle.entries.specs.Places.{rowThere};
 ghost use Rattle.entries.specs.Reading.{rising, amount, list, entry, entries, bases, cells, walkArchive, answer, Stored};
 
 // What the walk over an archive answers: a stop's number, or D, the base count and the normal count.
@@ -216,7 +217,7 @@ fn store_row(
     requires { ⌜ (suc i * dims ≤ length (now codes)) × (i < length (now sums)) × (i < length (now counts)) ⌝ }
     ensures { λ r. ⌜ rowsOf dims (suc i) (now (codes .exit)) (now (sums .exit)) (now (counts .exit))
         ≡ rowsOf dims i (now (codes .entry)) (now (sums .entry)) (now (counts .entry))
-        ++ record { codes = wordsAt (now (s .entry)) dims at; total = record { sum = sumAt (now (s .entry)) (at + 4 * dims); count = wordAt (now (s .entry)) (at + 4 * dims + 8) } } ∷ [] ⌝ }
+        ++ rowThere (now (s .entry)) dims at ∷ [] ⌝ }
 {
     let sum = fields::sum_at(s, at + 4 * dims);
     let count = fields::word_at(s, at + 4 * dims + 8);

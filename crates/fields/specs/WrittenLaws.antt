@@ -72,3 +72,8 @@ module _ {A : Type 0} where
   -- what was written stands at the front
   pub wrote-front : {xs l m : List A} {n : ℕ} → Wrote xs l m n → take n m ≡ xs
   wrote-front {xs} {l} {m} {n} w = ap (take n) (w .list) ∙ take-written xs l n (sym (w .count))
+
+  -- no more was written than there is room for
+  pub wrote-within : {xs l m : List A} {n : ℕ} → Wrote xs l m n → n ≤ length m
+  unfolding written
+  wrote-within {xs} {l} w = omega (arith, w .count, ap length (w .list), length-append xs (drop (length xs) l))

@@ -154,18 +154,26 @@ pub fn opening_is(s: &[u8], opening: &[u8; 4]) -> bool
     begins(s, bytes)
 }
 
+// Writes given bytes over the front of out.
+pub fn put_bytes(out: &mut [u8], xs: &[u8]) -> usize
+    requires { ⌜ length (now xs) ≤ length (now out) ⌝ }
+    ensures { λ r. ⌜ Wrote (now (xs .entry)) (now (out .entry)) (now (out .exit)) r ⌝ }
+{
+    let mut i = 0;
+    while i < xs.len() {
+        out[i] = xs[i];
+        i += 1;
+    }
+    i
+}
+
 // Writes the opening bytes over the front of out.
 pub fn put_opening(out: &mut [u8], opening: &[u8; 4]) -> usize
     requires { ⌜ 4 ≤ length (now out) ⌝ }
     ensures { λ r. ⌜ Wrote (now (opening .entry)) (now (out .entry)) (now (out .exit)) r ⌝ }
 {
     let bytes: &[u8] = opening;
-    let mut i = 0;
-    while i < bytes.len() {
-        out[i] = bytes[i];
-        i += 1;
-    }
-    i
+    put_bytes(out, bytes)
 }
 
 // The check word of the bytes s: the sum of their words, modulo 2^32.

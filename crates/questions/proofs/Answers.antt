@@ -27,7 +27,7 @@ use Rattle.cube.proofs.Promises.{normal-cells, ours-condensed, row-answers, nor
 use Rattle.cube.proofs.Questions.{lookup-none}
 use Rattle.rows.specs.Rows.{rowAt}
 use Rattle.rows.proofs.Flat.{blank}
-use Rattle.entries.proofs.Entry.{rowThere}
+use Rattle.entries.specs.Places.{rowThere}
 use Rattle.questions.specs.Questions.{First, Finds, Held}
 use Rattle.questions.proofs.Search.{liesAt}
 use Rattle.questions.proofs.Stored.{held-count, held-there}

@@ -1,7 +1,7 @@
 -- The normal entries of an archive: each stands at its place, and is read there.
-use mathlib.Core.Path.{_≡_, refl, sym, ap, ap₂, subst, _∙_}
+use mathlib.Core.Path.{_≡_, refl, sym, ap, ap₂, _∙_}
 use mathlib.Core.List.{List, [], _∷_, _++_, map, flatMap, append-assoc, List·Memᴰ·head, List·Memᴰ·tail, Memᴰ·map}
-use Prim.Native.Nat.{ℕ, zero, suc, _+_, _*_, _^_, _≤_, _<_}
+use Prim.Native.Nat.{ℕ, zero, suc, _+_, _*_, _≤_, _<_}
 use native.Mathlib.Nat.{zero-mul, suc-mul}
 use native.Mathlib.Omega.{arith}
 use lib.ListN.{length, getD, drop, length-map, length-drop}
@@ -9,13 +9,8 @@ use lib.Seq.{drop-drop, drop-at}
 use Rattle.lists.specs.Lists.{_∈_}
 use Rattle.lists.proofs.Members.{at-in}
 use Rattle.lists.proofs.Places.{map-at}
-use Rattle.fields.specs.Words.{wordBytes, wordsBytes, wordsAt}
-use Rattle.fields.specs.Twos.{sumBytes}
 use Rattle.fields.specs.OpeningLaws.{starts-is, starts-length}
-use Rattle.walk.specs.Fields.{word, sum}
-use Rattle.walk.proofs.Codecs.{word-codec, sum-codec}
 use Rattle.walk.proofs.Lengths.{length-flat}
-use Rattle.walk.proofs.Places.{took-then, word-read, Words}
 use Rattle.cube.specs.declared.Total.{Total}
 use Rattle.cube.specs.Measure.{Row, sums as measure, codesOf}
 use Rattle.cube.specs.Codes.{plain}
@@ -25,8 +20,8 @@ use Rattle.cube.specs.Bounds.{Summable}
 use Rattle.rows.proofs.Rows.{row-within}
 use Rattle.rows.proofs.Flat.{blank}
 use Rattle.entries.specs.Layout.{cellBytes}
-use Rattle.entries.proofs.Written.{Words as Worded, Wide}
-use Rattle.entries.proofs.Entry.{sum-read, rowThere}
+use Rattle.entries.specs.Places.{rowThere}
+use Rattle.entries.proofs.There.{cell-there}
 use Rattle.entries.proofs.Lengths.{cell-length}
 use Rattle.entries.proofs.Limits.{normals-wide}
 use Rattle.condense.specs.Shared.{normalRows}
@@ -49,32 +44,6 @@ module _ {A : Type 0} (bytes : A → List ℕ) (width : ℕ) (a : A) where
             ∙ ap (drop (k * width)) (drop-at (bytes x) (flatMap bytes xs ++ end) width (h x (List·Memᴰ·head refl)))
             ∙ r .1,
       )
-
--- ---- fields that stand at a place
-
-module _ (s : List ℕ) where
-  words-there : (ws : List ℕ) (at : ℕ) (rest : List ℕ) → at ≤ length s → ((w : ℕ) → w ∈ ws → w < 2 ^ 32) → drop at s ≡ wordsBytes ws ++ rest → Words s (length ws) at ws rest
-  unfolding wordsBytes wordsAt
-  words-there [] at rest h b e =
-      let z : at + 0 ≡ at = omega arith in
-      record { took = record { whole = omega arith; behind = sym e ∙ ap (λ (k : ℕ). drop k s) (sym z) }; are = refl }
-  words-there (w ∷ ws) at rest h b e =
-      let p = word-read s at h (ap word (e ∙ append-assoc (wordBytes w) (wordsBytes ws) rest) ∙ word-codec .back w (wordsBytes ws ++ rest) (b w (List·Memᴰ·head refl))) in
-      let r = words-there ws (at + 4) rest (p .0 .whole) (λ v m. b v (List·Memᴰ·tail m)) (sym (p .0 .behind)) in
-      record { took = took-then s at 4 (4 * length ws) (r .took) (omega arith); are = ap₂ _∷_ (p .1) (r .are) }
-
-  -- a cell with its sum and count
-  cell-there : (d : ℕ) (r : Row Total) → Worded d (r .codes) × Wide (r .total) → (at : ℕ) (rest : List ℕ) → at ≤ length s → drop at s ≡ cellBytes r ++ rest → rowThere s d at ≡ r
-  unfolding cellBytes
-  cell-there d r w at rest h e =
-      let z = r .total .sum in
-      let n = r .total .count in
-      let l = sumBytes z ++ (wordBytes n ++ rest) in
-      let f : drop at s ≡ wordsBytes (r .codes) ++ l = e ∙ simp append-assoc in
-      let x = subst (λ (k : ℕ). Words s k at (r .codes) l) (w .0 .0) (words-there (r .codes) at l h (w .0 .1) f) in
-      let y = sum-read s (at + 4 * d) (x .took .whole) (ap sum (sym (x .took .behind)) ∙ sum-codec .back z (wordBytes n ++ rest) (w .1 .0)) in
-      let c = word-read s (at + 4 * d + 8) (y .0 .whole) (ap word (sym (y .0 .behind)) ∙ word-codec .back n rest (w .1 .1)) in
-      sym (λ i. record { codes = x .are i; total = record { sum = y .1 i; count = c .1 i } })
 
 -- ---- the normal entries
 

@@ -3,17 +3,16 @@ use mathlib.Core.Path.{_≡_, refl, sym, ap, ap₂, subst, _∙_}
 use mathlib.Core.Logic.{_≢_}
 use mathlib.Core.Bool.{Bool, true, false, false≢true}
 use mathlib.Core.List.{List, [], _++_, append-assoc, Memᴰ·map}
-use Prim.Native.Nat.{ℕ, _+_, _-_, _*_, _≤_, _<_}
+use Prim.Native.Nat.{ℕ, _+_, _-_, _*_, _≤_}
 use native.Mathlib.Omega.{arith}
 use borrow.Author.Tests.{eqb-true, eqb-false}
 use lib.Dec.{eqb}
 use lib.IntN.{ℤ}
-use lib.ListN.{length, getD, take, drop, length-append}
+use lib.ListN.{length, take, drop, length-append}
 use lib.Seq.{take-at, drop-at}
 use Rattle.lists.specs.Lists.{_∈_, Distinct}
 use Rattle.lists.specs.Order.{same}
 use Rattle.lists.proofs.Tests.{cases, truth}
-use Rattle.lists.proofs.Members.{in-at}
 use Rattle.lists.proofs.Order.{same-eq, same-refl}
 use Rattle.fields.specs.Words.{wordBytes, wordsAt}
 use Rattle.fields.specs.Opening.{startsWith}
@@ -110,10 +109,6 @@ module _ (s : List ℕ) (a : Held) (b : Bytes s) (w : walkArchive s ≡ got a []
 
   pub read-limits : Limits zs (rowsIn a)
   read-limits = walkable-limits a (walk-forth s a [] b w .0)
-
--- what a slice of bytes has are bytes
-pub bytes-of : (s : List ℕ) → ((i : ℕ) → getD s i 0 < 256) → Bytes s
-bytes-of s h b m = let r = in-at 0 m in subst (λ (x : ℕ). x < 256) (r .2) (h (r .0))
 
 -- rows within the limits, in flat lists, are ready to be grouped
 pub limits-ready : {zs : List ℕ} {rows : List (Row Total)} {d n : ℕ} {codes : List ℕ} {sums : List ℤ} {counts : List ℕ} → Limits zs rows → rowsOf d n codes sums counts ≡ rows

@@ -8,7 +8,7 @@ use Rattle.fields.specs.Words.{wordsAt}
 use Rattle.walk.specs.Limits.{Bytes}
 use Rattle.rows.specs.Rows.{rowsOf}
 use Rattle.entries.specs.Layout.{archiveBytes, Limits}
-use Rattle.required.proofs.Judged.{bytes-of}
+use Rattle.walk.proofs.Limits.{bytes-of}
 use Rattle.singles.specs.Ready.{Ready}
 use Rattle.archive.specs.Answers.{bytes, Answered}
 use Rattle.archive.proofs.Answers.{answered-as}

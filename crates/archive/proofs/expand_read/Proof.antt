@@ -5,7 +5,7 @@ use native.Mathlib.Nat.{mul-le-mul}
 use native.Mathlib.Omega.{arith}
 use denote.Ref.{now}
 use lib.ListN.{take}
-use Rattle.required.proofs.Judged.{bytes-of}
+use Rattle.walk.proofs.Limits.{bytes-of}
 use Rattle.archive.proofs.Answers.{answered-as}
 use Rattle.archive.proofs.Opened.{Opened, opened, expand-bytes}
 use borrow.Author.Needs.{needs}

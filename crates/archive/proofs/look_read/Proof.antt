@@ -11,7 +11,7 @@ use lib.ListN.{take}
 use borrow.Author.Tests.{not-true, not-false}
 use Rattle.fields.specs.Words.{wordsAt}
 use Rattle.walk.specs.Limits.{Bytes}
-use Rattle.required.proofs.Judged.{bytes-of}
+use Rattle.walk.proofs.Limits.{bytes-of}
 use Rattle.questions.specs.Questions.{asks}
 use Rattle.archive.proofs.Opened.{Opened, opened, opened-long, look-stopped, look-long, look-told, normals-room, normals-held}
 use borrow.Author.Needs.{needs}

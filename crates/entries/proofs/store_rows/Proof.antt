@@ -6,7 +6,7 @@ use native.Mathlib.Nat.{mul-le-mul}
 use borrow.Author.Needs.{needs}
 use lib.ListN.{length}
 use denote.Ref.{now}
-use Rattle.entries.proofs.Entry.{widthThere}
+use Rattle.entries.specs.Places.{widthThere}
 use Rattle.entries.proofs.Fields.{accepted}
 use Rattle.entries.proofs.Storing.{Turn, turn-start, turn-whole, turn-on, turn-done}
 use Rattle.entries.proofs.store_rows.Statement.{statement}

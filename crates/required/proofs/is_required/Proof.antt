@@ -4,7 +4,8 @@ use Prim.Native.Nat.{_≤_}
 use native.Mathlib.Omega.{arith}
 use denote.Ref.{now}
 use lib.Seq.{length-take-le}
-use Rattle.required.proofs.Judged.{bytes-of, read-ready}
+use Rattle.walk.proofs.Limits.{bytes-of}
+use Rattle.required.proofs.Judged.{read-ready}
 use borrow.Author.Needs.{needs}
 use Rattle.required.proofs.is_required.Statement.{statement}
 use Rattle.required.proofs.is_required.Tie as tie

@@ -4,7 +4,8 @@ use denote.Ref.{now}
 use Rattle.singles.specs.Ready.{Ready}
 use Rattle.writing.specs.MatchedLaws.{matched-told}
 use Rattle.walk.specs.Limits.{Bytes}
-use Rattle.required.proofs.Judged.{bytes-of, read-ready, read-start, other-of, judged-of}
+use Rattle.walk.proofs.Limits.{bytes-of}
+use Rattle.required.proofs.Judged.{read-ready, read-start, other-of, judged-of}
 use borrow.Author.Needs.{needs}
 use Rattle.required.proofs.judge.Statement.{statement}
 use Rattle.required.proofs.judge.Tie as tie

@@ -6,7 +6,7 @@ use denote.Ref.{now}
 use lib.ListN.{length, take}
 use Rattle.walk.specs.Limits.{Bytes}
 use Rattle.required.specs.Read.{Read}
-use Rattle.required.proofs.Judged.{bytes-of}
+use Rattle.walk.proofs.Limits.{bytes-of}
 use Rattle.required.proofs.Reading.{read-small, read-of, passed-required, stopped-required}
 use Rattle.required.proofs.judge_read.Statement.{statement}
 use Rattle.required.proofs.judge_read.Tie as tie

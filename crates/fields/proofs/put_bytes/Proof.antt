@@ -1,4 +1,4 @@
--- `fields::put_opening` meets its contract. The invariant: the bytes passed so far are written.
+-- `fields::put_bytes` meets its contract. The invariant: the bytes passed so far are written.
 use mathlib.Core.Path.{_≡_}
 use Prim.Native.Nat.{_≤_, _-_}
 use native.Mathlib.Numerals.{add-one}
@@ -7,14 +7,14 @@ use lib.ListN.{length, take, getD}
 use lib.Seq.{take-all, take-suc}
 use Rattle.fields.specs.Written.{Wrote}
 use Rattle.fields.specs.WrittenLaws.{wrote-none, wrote-one}
-use Rattle.fields.proofs.put_opening.Statement.{statement}
-use Rattle.fields.proofs.put_opening.Tie as tie
+use Rattle.fields.proofs.put_bytes.Statement.{statement}
+use Rattle.fields.proofs.put_bytes.Tie as tie
 
 abbrev Inv-loop : tie.InvT-loop
-Inv-loop out₀ opening bytes i₀ out i = (i ≤ length opening) × Wrote (take i opening) out₀ out i
+Inv-loop out₀ xs i₀ out i = (i ≤ length xs) × Wrote (take i xs) out₀ out i
 
 abbrev μ-loop : tie.MeasureT-loop
-μ-loop out₀ opening bytes i₀ out i = length opening - i
+μ-loop out₀ xs i₀ out i = length xs - i
 
 loop-holds : tie.Need-loop-holds Inv-loop μ-loop
 loop-holds c = (search needs, wrote-none _)
@@ -22,17 +22,17 @@ loop-holds c = (search needs, wrote-none _)
 loop-again : tie.Need-loop-again Inv-loop μ-loop
 loop-again c =
     let l = c .before .before .loop in
-    let opening = c .before .before .before .before .args .opening .now in
-    (search needs, rw (add-one, take-suc opening (l .i) 0 (search needs)) (rw add-one at (wrote-one (getD opening (l .i) 0) (search needs) (l .inv .1))))
+    let xs = c .before .before .before .args .xs .now in
+    (search needs, rw (add-one, take-suc xs (l .i) 0 (search needs)) (rw add-one at (wrote-one (getD xs (l .i) 0) (search needs) (l .inv .1))))
 
 returns : tie.Need-returns Inv-loop μ-loop
 returns c =
     let l = c .before .loop in
-    let opening = c .before .before .before .args .opening .now in
-    let all : take (l .i) opening ≡ opening = take-all (l .i) opening (search needs) in
+    let xs = c .before .before .args .xs .now in
+    let all : take (l .i) xs ≡ xs = take-all (l .i) xs (search needs) in
     rw all at (l .inv .1)
 
-pub put-opening-spec : {M : Type 1} → statement M
-put-opening-spec =
+pub put-bytes-spec : {M : Type 1} → statement M
+put-bytes-spec =
     tie.close
     (tie.spec Inv-loop μ-loop loop-holds (λ c. search needs) (λ c. search needs) (λ c. search needs) (λ c. search needs) loop-again (λ c. search needs) returns)

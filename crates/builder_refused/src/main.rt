@@ -1,0 +1,4 @@
+// The builder on an input that it refuses.
+fn main() {
+    pipes::run_builder();
+}

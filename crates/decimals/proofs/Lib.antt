@@ -1,0 +1,3 @@
+-- Laws of numbers as text.
+pub mod Digits
+pub mod Examples

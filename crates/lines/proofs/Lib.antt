@@ -1,0 +1,3 @@
+-- Laws of lines.
+pub mod Texts
+pub mod Words

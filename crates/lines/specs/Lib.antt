@@ -1,0 +1,2 @@
+-- The lister's lines.
+pub mod Lines

@@ -1,0 +1,7 @@
+-- Laws of listings.
+pub mod Turns
+pub mod Fits
+pub mod Read
+pub mod Bound
+pub mod Places
+pub mod Examples

@@ -1,0 +1,2 @@
+-- An archive listed.
+pub mod Listing

@@ -1,0 +1,2 @@
+-- Laws of the programs.
+pub mod Printed

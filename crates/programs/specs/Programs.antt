@@ -1,0 +1,43 @@
+-- What the two programs print for the bytes of their standard input (document 01: "The programs read at most 65,536 bytes and print `too long` above that, or `refused` and the number.
+-- The builder lends 65,536 bytes of output and writes just the archive's bytes").
+--
+--   most           how many bytes the programs read, and the builder lends
+--   refused n      the line for stop n
+--   limited s t    the text t for an input s that is not too long
+--   builder s      what the builder prints for the input s
+--   lister s       what the lister prints for the input s
+use mathlib.Core.Bool.{cond}
+use mathlib.Core.List.{List, _++_}
+use Prim.Native.Nat.{ℕ}
+use lib.Dec.{leb}
+use lib.ListN.{length}
+use Rattle.decimals.specs.Decimals.{ascii, decimal}
+use Rattle.walk.specs.Parsed.{Parsed, stop, got}
+use Rattle.entries.specs.Layout.{Held}
+use Rattle.entries.specs.Reading.{readArchive}
+use Rattle.archive.specs.Answers.{Outcome, stop as stopped, bytes, within}
+use Rattle.archive.specs.Calls.{builds}
+use Rattle.listing.specs.Listing.{listing}
+
+abbrev pub most : ℕ
+most = 65536
+
+unfoldable pub refused : ℕ → List ℕ
+refused n = ascii "refused " ++ (decimal n ++ ascii "\n")
+
+abbrev pub limited : List ℕ → List ℕ → List ℕ
+limited s text = cond (leb (length s) most) text (ascii "too long\n")
+
+abbrev pub built : Outcome → List ℕ
+built (stopped n) = refused n
+built (bytes xs) = xs
+
+unfoldable pub builder : List ℕ → List ℕ
+builder s = limited s (built (within most (builds s)))
+
+abbrev pub listed : Parsed Held → List ℕ
+listed (stop n) = refused n
+listed (got a rest) = listing a
+
+unfoldable pub lister : List ℕ → List ℕ
+lister s = limited s (listed (readArchive s))
