@@ -31,9 +31,9 @@
  * alignment will do. What is written (the output; sum, count and entry) must
  * overlap neither the inputs nor one another. Bytes need no alignment.
  *
- * THREADS AND MEMORY. No function has state, allocates, or calls the system, so
- * threads may call any of them at once. All work is done on the stack:
- * CUBE_STACK bytes are enough for a call.
+ * THREADS AND MEMORY. The functions have no state, and threads may call them at
+ * once. They allocate nothing and call nothing but memcpy and memset. All work is
+ * done on the stack, for which CUBE_STACK bytes are enough.
  */
 #ifndef CUBE_ARCHIVE_H
 #define CUBE_ARCHIVE_H
@@ -48,7 +48,7 @@ extern "C" {
 /* The value that stands for ALL in cells and questions. It is never a code. */
 #define CUBE_ALL UINT32_C(65535)
 
-/* Stack that a call needs at most, in bytes. */
+/* Stack that is enough for a call, in bytes: measured in the compiled library, not proved. */
 #define CUBE_STACK 560000
 
 /* Stops: whether an answer is one, and which one it is if so. */
