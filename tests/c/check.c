@@ -189,23 +189,28 @@ static void expanding(void)
 /* D 1, size 1, no rows. */
 static void empty_table(void)
 {
-    const uint32_t fields[] = {1, 1, 0};
-    const uint32_t all = CUBE_ALL;
-    struct file table = {{0}, 0}, archive = {{0}, 0}, no_cells = {{0}, 4}, expansion = {{0}, 8};
+    const uint32_t fields[] = {1, 1, 0, 0}, all = CUBE_ALL;
+    struct file table = file_of(TABLE, fields, 3), archive = file_of(ARCHIVE, fields, 4);
+    struct file no_cells = {{0}, 4}, expansion = {{0}, 8};
     struct numbers n;
-    put_word(&table, 0x54434146);
-    put_words(&table, fields, 3);
-    put_check_word(&table);
-    put_word(&archive, 0x45425543);
-    put_words(&archive, fields, 3);
-    put_word(&archive, 0);
-    put_word(&archive, 0x45425545);
-    CHECK(archive.length == 24);
+    CHECK(archive.length == 24 && word_at(&archive, 20) == 0x45425545);
     check_written(build, &table, 0, CUBE_ARCHIVE_ROOM(1, 0), &archive);
     CHECK(cube_check(archive.bytes, archive.length) == 0);
     CHECK(look_up(&archive, &all, 1, &n) == 0 && nothing_stored(&n));
     check_written(list_cuboid, &archive, 0, CUBE_CUBOID_ROOM(1, 0), &no_cells);
     check_written(expand, &archive, 0, CUBE_EXPANSION_ROOM(1, 0), &expansion);
+}
+
+/* D 1, size 1, rows (0) 5 and (0) -5: one base entry with sum 0, count 2 and the list of the empty set; no normal entry. */
+static void rows_that_cancel(void)
+{
+    const uint32_t rows[] = {1, 1, 2, 0, 5, 0, (uint32_t)-5}, entries[] = {1, 1, 1, 0, 0, 0, 2, 1, 0, 0}, all = CUBE_ALL;
+    struct file table = file_of(TABLE, rows, 7), archive = file_of(ARCHIVE, entries, 10);
+    struct numbers n;
+    check_written(build, &table, 0, CUBE_ARCHIVE_ROOM(1, 2), &archive);
+    uint64_t counts = cube_check(archive.bytes, archive.length);
+    CHECK(CUBE_BASE_COUNT(counts) == 1 && CUBE_NORMAL_COUNT(counts) == 0);
+    CHECK(look_up(&archive, &all, 1, &n) == 1 && guards_kept(&n) && n.sum == 0 && n.count == 2 && n.entry == 0);
 }
 
 /* Every call on the archive stops so, whatever question, set or output it is given, and changes nothing that it is lent. */
@@ -323,6 +328,7 @@ int main(void)
     listing();
     expanding();
     empty_table();
+    rows_that_cancel();
     stops_of_both_files();
     stops_of_entries();
     stops_of_questions();

@@ -6,6 +6,10 @@
 #include <stdint.h>
 #include <string.h>
 
+/* 46 41 43 54 and 43 55 42 45 as little-endian words. */
+#define TABLE 0x54434146
+#define ARCHIVE 0x45425543
+
 struct file {
     uint8_t bytes[1024];
     size_t length;
@@ -53,6 +57,16 @@ static uint32_t check_word(const struct file *f, size_t end)
 static void put_check_word(struct file *f)
 {
     put_word(f, check_word(f, f->length));
+}
+
+/* A whole file: its opening, fields and check word. */
+static struct file file_of(uint32_t opening, const uint32_t *fields, size_t count)
+{
+    struct file f = {{0}, 0};
+    put_word(&f, opening);
+    put_words(&f, fields, count);
+    put_check_word(&f);
+    return f;
 }
 
 static int same(const struct file *f, const uint8_t *bytes, size_t length)

@@ -54,7 +54,7 @@ static void put_head(struct file *f, uint32_t opening, uint32_t count)
 static struct file five_table(void)
 {
     struct file f;
-    put_head(&f, 0x54434146, ROWS);
+    put_head(&f, TABLE, ROWS);
     for (int i = 0; i < ROWS; i++) {
         put_words(&f, FIVE[i].codes, D);
         put_word(&f, (uint32_t)FIVE[i].reading);
@@ -73,7 +73,7 @@ static void put_cell(struct file *f, const uint32_t *codes, int64_t sum, uint32_
 static struct file five_archive(void)
 {
     struct file f;
-    put_head(&f, 0x45425543, BASES);
+    put_head(&f, ARCHIVE, BASES);
     for (int i = 0; i < BASES + NORMALS; i++) {
         const struct entry *e = &ENTRIES[i];
         if (i == BASES)
