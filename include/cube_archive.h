@@ -20,16 +20,18 @@
  * 1, adds 2^(i-1).
  *
  * ANSWERS. Every function returns one number. 2^63 or more is a stop
- * (CUBE_IS_STOP): the first sentence of enum cube_stop that is true of the
- * arguments, in the order in which the input is read. A stop changes no byte
- * that was lent. Otherwise the number is what the function says, and bytes of
- * the output beyond the result keep their values. No function relies on an
- * earlier check: each reads and checks its whole input.
+ * (CUBE_IS_STOP), the one of enum cube_stop that is reached first: the file is
+ * read from the left, field by field; then comes the question or the set number,
+ * and the output last. A stop changes no byte that was lent. Otherwise the number
+ * is what the function says, and bytes of the output beyond the result keep their
+ * values. No function relies on an earlier check: each reads and checks its whole
+ * input.
  *
- * POINTERS. A length counts elements: bytes, or codes of a question. No pointer
- * may be null, also where the length is 0; then any pointer of the right
- * alignment will do. What is written (the output; sum, count and entry) must
- * overlap neither the inputs nor one another. Bytes need no alignment.
+ * POINTERS. A length counts elements: bytes, or the codes of a question. No
+ * pointer may be null; where the length is 0, any other pointer will do. Bytes
+ * need no alignment, a question and the three numbers of a look-up that of their
+ * types. What is written (the output; the three numbers) must overlap neither the
+ * inputs nor one another.
  *
  * THREADS AND MEMORY. The functions have no state, and threads may call them at
  * once. They allocate nothing and call nothing but memcpy and memset. All work is
