@@ -1,0 +1,117 @@
+//! An archive, and the calls on it with decoded results.
+use crate::cell::Cuboid;
+use crate::code::{to_word, Code};
+use crate::fields::Fields;
+use crate::head::Head;
+use crate::raw::{self, Counts, Found};
+use crate::room;
+use crate::stop::Stop;
+
+/// The bytes of an archive that was accepted once.
+///
+/// Each call still reads and checks all of them, since the library trusts no earlier check. The bytes cannot change, so the
+/// stops 1 to 12 do not occur again.
+#[derive(Clone, Debug, PartialEq, Eq)]
+pub struct Archive {
+    bytes: Vec<u8>,
+    head: Head,
+}
+
+impl Archive {
+    /// Builds the archive of a table. Stops: 1 to 6, 10 and 11.
+    pub fn build(table: &[u8]) -> Result<Archive, Stop> {
+        let room = Head::read(table).map_or(0, |head| room::archive(head.dims, head.rows));
+        Ok(Archive::accepted(written(room, |out| raw::build(table, out))?))
+    }
+
+    /// Accepts the bytes of an archive. Stops: 1 to 12.
+    pub fn open(bytes: Vec<u8>) -> Result<Archive, Stop> {
+        raw::check(&bytes)?;
+        Ok(Archive::accepted(bytes))
+    }
+
+    fn accepted(bytes: Vec<u8>) -> Archive {
+        let head = Head::read(&bytes).expect("an accepted archive has a head");
+        Archive { bytes, head }
+    }
+
+    /// The archive as a file holds it.
+    pub fn as_bytes(&self) -> &[u8] {
+        &self.bytes
+    }
+
+    /// The archive as a file holds it.
+    pub fn into_bytes(self) -> Vec<u8> {
+        self.bytes
+    }
+
+    /// The size of each dimension: how many codes it has.
+    pub fn sizes(&self) -> Vec<u16> {
+        let sizes = self.bytes[8..8 + 4 * self.head.dims].chunks_exact(4);
+        sizes.map(|size| u16::from_le_bytes([size[0], size[1]])).collect()
+    }
+
+    /// Checks the archive once more; its base count and normal count.
+    pub fn check(&self) -> Result<Counts, Stop> {
+        raw::check(&self.bytes)
+    }
+
+    /// The sum and count of a cell, or `None` for 'no record'. The question has a code, or `None` for ALL, for each dimension.
+    ///
+    /// Stop 13 if it has other than D codes, or a code that is not below its size; `Some(65_535)` is such a code.
+    pub fn look_up(&self, question: &[Code]) -> Result<Option<Found>, Stop> {
+        let question: Vec<u32> = question.iter().copied().map(to_word).collect();
+        raw::look_up(&self.bytes, &question)
+    }
+
+    /// The cells of a set. Dimension i, counted from 1, adds 2 to the power i-1 to the set's number.
+    ///
+    /// Stop 14 if the number is 2 to the power D or more.
+    ///
+    /// ```
+    /// use cube_archive::{Archive, Cell, Table};
+    ///
+    /// let mut table = Table::new(&[2, 9])?;
+    /// table.push(&[0, 4], 5)?;
+    /// table.push(&[1, 4], -7)?;
+    /// let archive = Archive::build(&table.to_bytes())?;
+    /// let second = archive.list_cuboid(0b10)?;
+    /// assert_eq!(second.cells, [Cell { codes: vec![None, Some(4)], sum: -2, count: 2 }]);
+    /// # Ok::<(), Box<dyn std::error::Error>>(())
+    /// ```
+    pub fn list_cuboid(&self, set: u32) -> Result<Cuboid, Stop> {
+        let room = room::cuboid(self.head.dims, self.head.rows);
+        let bytes = written(room, |out| raw::list_cuboid(&self.bytes, set, out))?;
+        Ok(self.decoded(&bytes, &[set]).remove(0))
+    }
+
+    /// The complete cube: all cuboids in lattice order.
+    pub fn expand(&self) -> Result<Vec<Cuboid>, Stop> {
+        let room = room::expansion(self.head.dims, self.head.rows);
+        let bytes = written(room, |out| raw::expand(&self.bytes, out))?;
+        Ok(self.decoded(&bytes, &lattice(self.head.dims)))
+    }
+
+    /// The cuboids of these sets, which the bytes list one behind the other.
+    fn decoded(&self, bytes: &[u8], sets: &[u32]) -> Vec<Cuboid> {
+        let mut fields = Fields(bytes);
+        let cuboids = sets.iter().map(|&set| Cuboid::read(&mut fields, self.head.dims, set));
+        cuboids.collect::<Option<_>>().expect("the library lists whole cuboids")
+    }
+}
+
+/// The sets of so many dimensions in lattice order: fewer dimensions first, then the smaller number.
+fn lattice(dims: usize) -> Vec<u32> {
+    let mut sets: Vec<u32> = (0..1 << dims).collect();
+    sets.sort_by_key(|set| (set.count_ones(), *set));
+    sets
+}
+
+/// What a call writes into so much room.
+fn written(room: usize, call: impl FnOnce(&mut [u8]) -> Result<usize, Stop>) -> Result<Vec<u8>, Stop> {
+    let mut out = vec![0; room];
+    let length = call(&mut out)?;
+    out.truncate(length);
+    out.shrink_to_fit();
+    Ok(out)
+}

@@ -1,0 +1,102 @@
+//! Stops: why a call refuses what it is given.
+use std::fmt;
+
+/// A stop of document 01. Its number is `stop as u32`, or [`Stop::number`].
+///
+/// ```
+/// use cube_archive::{raw, Stop};
+///
+/// let stop = raw::check(b"FACT").unwrap_err();
+/// assert_eq!((stop, stop.number()), (Stop::Opening, 1));
+/// assert_eq!(Stop::CheckWord.to_string(), "stop 11: the check word is wrong");
+/// ```
+#[derive(Clone, Copy, Debug, PartialEq, Eq, Hash)]
+#[non_exhaustive]
+pub enum Stop {
+    /// The first four bytes are missing or are not the opening that the call expects.
+    Opening = 1,
+    /// The input ends before the last byte of a field that its earlier fields demand.
+    Cut = 2,
+    /// D is not 1 to 8.
+    Dimensions = 3,
+    /// A size is not 1 to 65,535.
+    Size = 4,
+    /// The row count or base count is above 1,024.
+    Rows = 5,
+    /// A code in a table row or base entry is not below its size.
+    Code = 6,
+    /// A base entry does not come strictly after the one before.
+    Order = 7,
+    /// A base entry has count 0, or a sum that this many readings cannot make, or brings the total count above 1,048,576.
+    Amount = 8,
+    /// A list count is above 70.
+    List = 9,
+    /// Bytes follow the check word.
+    Trailing = 10,
+    /// The check word is wrong.
+    CheckWord = 11,
+    /// A list, the normal count or a normal entry is not what the base entries require.
+    Entries = 12,
+    /// A question has other than D codes, or a code that is neither below its size nor ALL.
+    Question = 13,
+    /// The set number that a call is given is 2 to the power D or more.
+    Set = 14,
+    /// The result is longer than the lent output.
+    Output = 15,
+}
+
+impl Stop {
+    /// All stops, in checking order.
+    pub const IN_ORDER: [Stop; 15] = [
+        Stop::Opening,
+        Stop::Cut,
+        Stop::Dimensions,
+        Stop::Size,
+        Stop::Rows,
+        Stop::Code,
+        Stop::Order,
+        Stop::Amount,
+        Stop::List,
+        Stop::Trailing,
+        Stop::CheckWord,
+        Stop::Entries,
+        Stop::Question,
+        Stop::Set,
+        Stop::Output,
+    ];
+
+    /// The number in document 01's list.
+    pub fn number(self) -> u32 {
+        self as u32
+    }
+
+    fn words(self) -> &'static str {
+        match self {
+            Stop::Opening => "the first four bytes are missing or are not the opening of such a file",
+            Stop::Cut => "the file ends before the last byte of a field that its earlier fields demand",
+            Stop::Dimensions => "the number of dimensions is not 1 to 8",
+            Stop::Size => "a dimension's size is not 1 to 65,535",
+            Stop::Rows => "there are more than 1,024 rows or base entries",
+            Stop::Code => "a code in a row or base entry is not below its dimension's size",
+            Stop::Order => "a base entry does not come strictly after the one before",
+            Stop::Amount => {
+                "a base entry has count 0, or a sum that this many readings cannot make, or brings the total count above 1,048,576"
+            }
+            Stop::List => "a base entry lists more than 70 sets",
+            Stop::Trailing => "bytes follow the check word",
+            Stop::CheckWord => "the check word is wrong",
+            Stop::Entries => "a list, the normal count or a normal entry is not what the base entries require",
+            Stop::Question => "the question has not one code for each dimension, or a code that is not below its dimension's size",
+            Stop::Set => "the set has a dimension that the archive has not",
+            Stop::Output => "the result is longer than the output",
+        }
+    }
+}
+
+impl fmt::Display for Stop {
+    fn fmt(&self, f: &mut fmt::Formatter) -> fmt::Result {
+        write!(f, "stop {}: {}", self.number(), self.words())
+    }
+}
+
+impl std::error::Error for Stop {}

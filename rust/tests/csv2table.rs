@@ -1,0 +1,40 @@
+//! The example program: what it writes, and how it ends.
+mod cube;
+
+use cube::Records;
+use std::io::Write;
+use std::path::PathBuf;
+use std::process::{Command, Output, Stdio};
+
+/// The program, which cargo builds into the folder beside that of the tests.
+fn program() -> PathBuf {
+    let test = std::env::current_exe().unwrap();
+    test.parent().unwrap().with_file_name("examples").join("csv2table")
+}
+
+fn run(input: &[u8]) -> Output {
+    let program = program();
+    let started = Command::new(&program).stdin(Stdio::piped()).stdout(Stdio::piped()).stderr(Stdio::piped()).spawn();
+    let mut child = started.unwrap_or_else(|e| panic!("{}: {e}; run 'cargo build --release --examples'", program.display()));
+    child.stdin.take().unwrap().write_all(input).unwrap();
+    child.wait_with_output().unwrap()
+}
+
+#[test]
+fn a_table_is_written() {
+    let Output { status, stdout, stderr } = run(include_bytes!("../../examples/five-rows.csv"));
+    assert_eq!((status.code(), stdout, stderr), (Some(0), Records::five().table(), vec![]));
+}
+
+#[test]
+fn a_fault_is_named_and_nothing_is_written() {
+    let Output { status, stdout, stderr } = run(b"chip,port,reading\n0,1,50\n0,one,50\n");
+    let words = "csv2table: line 3: \"one\" is no code: a code is a number from 0 to 65534\n";
+    assert_eq!((status.code(), stdout, String::from_utf8(stderr).unwrap()), (Some(1), vec![], words.to_string()));
+}
+
+#[test]
+fn bytes_that_are_no_text() {
+    let Output { status, stdout, stderr } = run(b"chip,port,reading\n\xFF,1,50\n");
+    assert!(status.code() == Some(1) && stdout.is_empty() && stderr.starts_with(b"csv2table: "));
+}
