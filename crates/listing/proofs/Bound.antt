@@ -9,7 +9,7 @@ use lib.ListN.{length, length-append}
 use Rattle.lists.specs.Lists.{_∈_}
 use Rattle.fields.specs.Words.{wordBytes}
 use Rattle.fields.specs.Check.{checkOf}
-use Rattle.decimals.specs.Decimals.{ascii, decimal, integer}
+use Rattle.decimals.specs.Decimals.{ascii, decimal}
 use Rattle.decimals.proofs.Digits.{word-digits, integer-digits}
 use Rattle.walk.specs.Fields.{headerBytes}
 use Rattle.walk.proofs.Lengths.{length-header}
@@ -20,6 +20,7 @@ use Rattle.entries.specs.Layout.{CUBE, Based, Held, cellBytes, baseBytes, secti
 use Rattle.entries.proofs.Walkable.{Walkable}
 use Rattle.entries.proofs.Lengths.{cell-length, base-length}
 use Rattle.lines.specs.Lines.{codeText, rowText, setText, baseText, cellText, headText}
+use Rattle.lines.proofs.Texts.{length-rowText, length-baseText, length-cellText, length-headText}
 use Rattle.listing.specs.Listing.{listing}
 use Rattle.listing.proofs.Fits.{RowFits, BaseFits, entered-fits}
 
@@ -55,43 +56,31 @@ unfolding setText
 set-few s h = omega (arith, word-digits s h)
 
 row-few : (d : ℕ) (r : Row Total) → RowFits d r → length (rowText r) ≤ 11 * d + 31
-unfolding rowText
-row-few d r f =
-    let sum = integer (r .total .sum) in
-    let count = decimal (r .total .count) in
-    omega (
-      arith,
-      length-append (flatMap codeText (r .codes)) (sum ++ (ascii " " ++ count)),
-      length-append sum (ascii " " ++ count),
-      flat-few codeText (r .codes) (λ c m. code-few c (f .0 .1 c m)),
-      f .0 .0,
-      integer-digits (r .total .sum) (f .1 .0),
-      word-digits (r .total .count) (f .1 .1),
-    )
+row-few d r f = omega (
+  arith,
+  length-rowText r,
+  flat-few codeText (r .codes) (λ c m. code-few c (f .0 .1 c m)),
+  f .0 .0,
+  integer-digits (r .total .sum) (f .1 .0),
+  word-digits (r .total .count) (f .1 .1),
+)
 
 base-within : (d : ℕ) (b : Based) → BaseFits d b → 4 * length (baseText b) ≤ 11 * length (baseBytes b)
-unfolding baseText
-base-within d b f =
-    let sets = flatMap setText (b .list) in
-    omega (
-      arith,
-      length-append (rowText (b .row)) (ascii " :" ++ (sets ++ ascii "\n")),
-      length-append sets (ascii "\n"),
-      row-few d (b .row) (f .row),
-      flat-few setText (b .list) (λ s m. set-few s (f .sets s m)),
-      base-length d b (f .row .0 .0),
-    )
+base-within d b f = omega (
+  arith,
+  length-baseText b,
+  row-few d (b .row) (f .row),
+  flat-few setText (b .list) (λ s m. set-few s (f .sets s m)),
+  base-length d b (f .row .0 .0),
+)
 
 cell-within : (d : ℕ) (r : Row Total) → RowFits d r → 4 * length (cellText r) ≤ 11 * length (cellBytes r)
-unfolding cellText
-cell-within d r f = omega (arith, length-append (rowText r) (ascii "\n"), row-few d r f, cell-length d r (f .0 .0))
+cell-within d r f = omega (arith, length-cellText r, row-few d r f, cell-length d r (f .0 .0))
 
 head-few : (d n m : ℕ) → d < 2 ^ 32 → n < 2 ^ 32 → m < 2 ^ 32 → length (headText d n m) ≤ 33
-unfolding headText
 head-few d n m p q r = omega (
   arith,
-  length-append (decimal d ++ ascii " ") ((decimal n ++ ascii " ") ++ (decimal m ++ ascii "\n")),
-  length-append (decimal n ++ ascii " ") (decimal m ++ ascii "\n"),
+  length-headText d n m,
   length-append (decimal d) (ascii " "),
   length-append (decimal n) (ascii " "),
   length-append (decimal m) (ascii "\n"),

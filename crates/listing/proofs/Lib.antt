@@ -4,4 +4,3 @@ pub mod Fits
 pub mod Read
 pub mod Bound
 pub mod Places
-pub mod Examples

@@ -32,7 +32,7 @@ refused-is n = sym (append-assoc (ascii "refused ") (decimal n) (ascii "\n"))
 long-text : (s text : List ℕ) → most < length s → limited s text ≡ ascii "too long\n"
 long-text s text h = cases (truth (leb (length s) most)) (λ e. let z = leb-true (length s) most e in absurd (omega (arith, z))) (λ e. rw e)
 
-short-text : (s text : List ℕ) → length s ≤ most → limited s text ≡ text
+pub short-text : (s text : List ℕ) → length s ≤ most → limited s text ≡ text
 short-text s text h = rw (le-leb (length s) most h)
 
 pub builder-long : (s : List ℕ) → most < length s → builder s ≡ ascii "too long\n"
@@ -76,7 +76,7 @@ module _ (s : List ℕ) {l m : List ℕ} (h : length s ≤ most) (k : length l �
           wrote-as t (record { count = cc f; same = ap length g ∙ length-written xs l (within-fits (length l) (builds s) q); list = g })
 
 -- ---- the lister
-lister-short : (s : List ℕ) → length s ≤ most → lister s ≡ listed (readArchive s)
+pub lister-short : (s : List ℕ) → length s ≤ most → lister s ≡ listed (readArchive s)
 unfolding lister
 lister-short s h = short-text s (listed (readArchive s)) h
 

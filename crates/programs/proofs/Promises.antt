@@ -1,0 +1,49 @@
+-- The front page of the programs: for an accepted table the builder prints the archive, and the lister, given that, the text of its entries. That the code prints what is defined are the contracts
+-- of `build_text` and `list_text` (src/lib.rt).
+use mathlib.Core.Path.{_≡_, ap, _∙_}
+use mathlib.Core.List.{List, []}
+use Prim.Native.Nat.{ℕ, _+_, _*_, _≤_, _<_}
+use native.Mathlib.Nat.{mul-le-mul}
+use native.Mathlib.Omega.{arith}
+use lib.ListN.{length}
+use borrow.Author.Tests.{le-leb, lt-leb}
+use Rattle.walk.specs.Parsed.{got}
+use Rattle.walk.specs.Limits.{Bytes}
+use Rattle.table.specs.Layout.{Held}
+use Rattle.table.specs.Reading.{readTable, based}
+use Rattle.table.proofs.Accepted.{table-forth}
+use Rattle.table.proofs.Lengths.{table-length}
+use Rattle.entries.specs.Layout.{required, archiveBytes}
+use Rattle.archive.specs.Answers.{Outcome, within}
+use Rattle.archive.specs.Calls.{builds}
+use Rattle.archive.proofs.Promises as Archive
+use Rattle.listing.specs.Listing.{listing}
+use Rattle.programs.specs.Programs.{most, refused, built, builder, listed, lister}
+use Rattle.programs.proofs.Printed.{short-text, lister-short}
+
+module _ (s : List ℕ) (t : Held) (b : Bytes s) (e : readTable s ≡ got t []) where
+  abbrev ourArchive : List ℕ
+  ourArchive = archiveBytes (t .sizes) (based t)
+
+  -- no accepted table is too long
+  pub table-short : length s ≤ most
+  table-short =
+      let f = table-forth s t [] b e in
+      let rows = mul-le-mul (f .0 .few) (let z = f .0 .sized .few in let y : 4 * length (t .sizes) + 4 ≤ 36 = omega arith in y) in
+      omega (arith, ap length (f .1), table-length t (f .0), rows, f .0 .sized .few)
+
+  settled : builder s ≡ built (within most (builds s))
+  unfolding builder
+  settled = short-text s (built (within most (builds s))) table-short
+
+  -- the archive, where 65,536 bytes are enough,
+  pub prints-archive : length ourArchive ≤ most → builder s ≡ ourArchive
+  prints-archive h = settled ∙ ap (λ (o : Outcome). built (within most o)) (Archive.built s t b e) ∙ rw (le-leb (length ourArchive) most h)
+
+  -- stop 15 where they are not,
+  pub prints-fifteen : most < length ourArchive → builder s ≡ refused 15
+  prints-fifteen h = settled ∙ ap (λ (o : Outcome). built (within most o)) (Archive.built s t b e) ∙ rw (lt-leb (length ourArchive) most h)
+
+  -- and of the archive its entries as text: the base rows with their lists, and the normal cells.
+  pub prints-text : length ourArchive ≤ most → lister (builder s) ≡ listing (required (t .sizes) (based t))
+  prints-text h = ap lister (prints-archive h) ∙ lister-short ourArchive h ∙ ap listed (Archive.built-read s t b e)
