@@ -94,6 +94,17 @@ fn an_archive_without_rows() {
     answers("expand", &archive, "");
 }
 
+/// Every row of five dimensions with four codes each, so that no cell outside the full set is single.
+#[test]
+fn an_archive_longer_than_65536_bytes() {
+    let rows = (0..1_024).map(|i| ((0..5).map(|d| i >> (2 * d) & 3).collect(), i.into()));
+    let records = Records { sizes: vec![4; 5], rows: rows.collect() };
+    let archive = records.archive().into_bytes();
+    assert!(archive.len() > 65_536);
+    answers("check", &archive, "1024 base entries, 2101 normal entries\n");
+    answers("expand", &archive, &lines(&records.cube()));
+}
+
 /// The largest code is answered; the values above it are refused and neither become ALL nor a small code.
 #[test]
 fn the_largest_code() {
