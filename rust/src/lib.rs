@@ -47,7 +47,7 @@ mod table;
 
 pub use archive::Archive;
 pub use cell::{Cell, Cuboid};
-pub use code::{Code, ALL};
+pub use code::{Code, Codes, ALL};
 pub use raw::{Counts, Found};
 pub use stop::Stop;
 pub use table::{Table, TableError};

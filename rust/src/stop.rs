@@ -70,7 +70,8 @@ impl Stop {
         self as u32
     }
 
-    fn words(self) -> &'static str {
+    /// What is wrong.
+    pub fn words(self) -> &'static str {
         match self {
             Stop::Opening => "the first four bytes are missing or are not the opening of such a file",
             Stop::Cut => "the file ends before the last byte of a field that its earlier fields demand",

@@ -1,23 +1,12 @@
-//! The example program: what it writes, and how it ends.
+//! The program csv2table: what it writes, and how it ends.
 mod cube;
+mod example;
 
 use cube::Records;
-use std::io::Write;
-use std::path::PathBuf;
-use std::process::{Command, Output, Stdio};
-
-/// The program, which cargo builds into the folder beside that of the tests.
-fn program() -> PathBuf {
-    let test = std::env::current_exe().unwrap();
-    test.parent().unwrap().with_file_name("examples").join("csv2table")
-}
+use std::process::Output;
 
 fn run(input: &[u8]) -> Output {
-    let program = program();
-    let started = Command::new(&program).stdin(Stdio::piped()).stdout(Stdio::piped()).stderr(Stdio::piped()).spawn();
-    let mut child = started.unwrap_or_else(|e| panic!("{}: {e}; run 'cargo build --release --examples'", program.display()));
-    child.stdin.take().unwrap().write_all(input).unwrap();
-    child.wait_with_output().unwrap()
+    example::run::<&str>("csv2table", &[], input)
 }
 
 #[test]

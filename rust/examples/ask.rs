@@ -1,0 +1,97 @@
+//! Asks an archive, which it reads from standard input:
+//!
+//!     ask check < ARCHIVE              5 base entries, 5 normal entries
+//!     ask cell '*' 5 1 < ARCHIVE       * 5 1 70 1 : entry 3
+//!     ask cell 0 3 '*' < ARCHIVE       0 3 * : no record
+//!     ask cuboid 2 < ARCHIVE           * 1 * 150 2
+//!                                      * 3 * 60 1
+//!                                      * 5 * 150 2
+//!     ask expand < ARCHIVE             the cells of all cuboids, in lattice order
+//!
+//! `cargo build --release --examples` makes the program, `target/release/examples/ask`.
+//!
+//! A cell's line has its codes (`*` is ALL), sum and count, as the lister prints a normal entry. `cell` adds the number of the
+//! entry that carries them, from 0 through base, then normal entries. All of the archive is checked before it is asked.
+//!
+//! A stop is written to standard error as `refused`, its number in document 01 and what is wrong, and the exit status is 1; a
+//! question of another length, or with a code that is not below its size, is stop 13. Wrong usage has exit status 2.
+use cube_archive::{Archive, Code, Codes, Cuboid, Stop};
+use std::error::Error;
+use std::io::{self, Read, Write};
+use std::process::ExitCode;
+
+const USAGE: &str = "\
+usage: ask check < ARCHIVE
+       ask cell CODE .. < ARCHIVE    a code, or '*' for ALL, for each dimension
+       ask cuboid SET < ARCHIVE      the sum of 2 to the power i-1 over the set's dimensions i, counted from 1
+       ask expand < ARCHIVE";
+
+enum Question {
+    Check,
+    Cell(Vec<Code>),
+    Cuboid(u32),
+    Expand,
+}
+
+fn main() -> ExitCode {
+    let words: Vec<String> = std::env::args_os().skip(1).map(|word| word.to_string_lossy().into()).collect();
+    let Some(question) = question(&words.iter().map(String::as_str).collect::<Vec<_>>()) else {
+        eprintln!("{USAGE}");
+        return ExitCode::from(2);
+    };
+    match ask(question) {
+        Ok(()) => ExitCode::SUCCESS,
+        Err(error) => {
+            eprintln!("{error}");
+            ExitCode::FAILURE
+        }
+    }
+}
+
+fn ask(question: Question) -> Result<(), Box<dyn Error>> {
+    let mut archive = vec![];
+    io::stdin().read_to_end(&mut archive)?;
+    let answer = answer(archive, question).map_err(|stop| format!("refused {}: {}", stop.number(), stop.words()))?;
+    let mut out = io::stdout();
+    out.write_all(answer.as_bytes())?;
+    Ok(out.flush()?)
+}
+
+/// The question that the words are, if they are one.
+fn question(words: &[&str]) -> Option<Question> {
+    match words {
+        ["check"] => Some(Question::Check),
+        ["cell", codes @ ..] => codes.iter().map(|word| code(word)).collect::<Option<_>>().map(Question::Cell),
+        ["cuboid", set] => number(set).map(Question::Cuboid),
+        ["expand"] => Some(Question::Expand),
+        _ => None,
+    }
+}
+
+/// A code or ALL. A number beyond 16 bits becomes 65,535, which is no code either.
+fn code(word: &str) -> Option<Code> {
+    match word {
+        "*" => Some(None),
+        _ => number(word).map(|code| Some(code.try_into().unwrap_or(u16::MAX))),
+    }
+}
+
+/// An unsigned decimal number. One beyond 32 bits becomes the largest, which is no code and no set either.
+fn number(word: &str) -> Option<u32> {
+    let digits = !word.is_empty() && word.bytes().all(|byte| byte.is_ascii_digit());
+    digits.then(|| word.parse().unwrap_or(u32::MAX))
+}
+
+/// The lines that answer a question.
+fn answer(archive: Vec<u8>, question: Question) -> Result<String, Stop> {
+    let archive = Archive::open(archive)?;
+    Ok(match question {
+        Question::Check => archive.check().map(|counts| format!("{} base entries, {} normal entries\n", counts.bases, counts.normals))?,
+        Question::Cell(codes) => match archive.look_up(&codes)? {
+            Some(found) => format!("{} {} {} : entry {}\n", Codes(&codes), found.sum, found.count, found.entry),
+            None => format!("{} : no record\n", Codes(&codes)),
+        },
+        Question::Cuboid(set) => archive.list_cuboid(set)?.to_string(),
+        Question::Expand => archive.expand()?.iter().map(Cuboid::to_string).collect(),
+    })
+}

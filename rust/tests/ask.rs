@@ -1,0 +1,167 @@
+//! The program ask: its answers, its stops, and how it ends.
+mod cube;
+mod example;
+
+use cube::Records;
+use cube_archive::{Cell, Code, Cuboid, ALL};
+use std::ffi::OsStr;
+use std::os::unix::ffi::OsStrExt;
+use std::process::Output;
+
+const USAGE: &str = "\
+usage: ask check < ARCHIVE
+       ask cell CODE .. < ARCHIVE    a code, or '*' for ALL, for each dimension
+       ask cuboid SET < ARCHIVE      the sum of 2 to the power i-1 over the set's dimensions i, counted from 1
+       ask expand < ARCHIVE
+";
+const QUESTION: &str = "13: the question has not one code for each dimension, or a code that is not below its dimension's size";
+
+/// Exit status, standard output and standard error of the program with these words, parted by spaces.
+fn ask(words: &str, input: &[u8]) -> (Option<i32>, String, String) {
+    let words: Vec<&str> = words.split_whitespace().collect();
+    let Output { status, stdout, stderr } = example::run("ask", &words, input);
+    (status.code(), String::from_utf8(stdout).unwrap(), String::from_utf8(stderr).unwrap())
+}
+
+fn five() -> Vec<u8> {
+    Records::five().archive().into_bytes()
+}
+
+fn answers(words: &str, archive: &[u8], lines: &str) {
+    assert_eq!(ask(words, archive), (Some(0), lines.into(), "".into()), "{words}");
+}
+
+fn stops(words: &str, archive: &[u8], message: &str) {
+    assert_eq!(ask(words, archive), (Some(1), "".into(), format!("refused {message}\n")), "{words}");
+}
+
+/// Every pair of codes 0 and 1, with readings below zero at first code 0.
+fn four() -> Records {
+    let rows = [(0, 0, -5), (0, 1, -6), (1, 0, 7), (1, 1, 8)].map(|(a, b, reading)| (vec![a, b], reading));
+    Records { sizes: vec![2, 2], rows: rows.to_vec() }
+}
+
+/// A line for each cell of the cuboids, from the rows.
+fn lines(cuboids: &[Cuboid]) -> String {
+    let code = |code: &Code| code.map_or("*".into(), |code| format!("{code}"));
+    let line = |cell: &Cell| format!("{} {} {}\n", cell.codes.iter().map(code).collect::<Vec<_>>().join(" "), cell.sum, cell.count);
+    cuboids.iter().flat_map(|cuboid| &cuboid.cells).map(line).collect()
+}
+
+#[test]
+fn the_entries_are_counted() {
+    answers("check", &five(), "5 base entries, 5 normal entries\n");
+    answers("check", four().archive().as_bytes(), "4 base entries, 5 normal entries\n");
+}
+
+#[test]
+fn a_cell_is_looked_up() {
+    answers("cell * 5 1", &five(), "* 5 1 70 1 : entry 3\n");
+    answers("cell * 1 *", &five(), "* 1 * 150 2 : entry 6\n");
+    answers("cell * * *", &five(), "* * * 360 5 : entry 5\n");
+    answers("cell 6 5 2", &five(), "6 5 2 80 1 : entry 4\n");
+    answers("cell 0 *", four().archive().as_bytes(), "0 * -11 2 : entry 5\n");
+}
+
+#[test]
+fn no_record_is_an_answer() {
+    answers("cell 0 3 *", &five(), "0 3 * : no record\n");
+    answers("cell 6 5 1", &five(), "6 5 1 : no record\n");
+}
+
+#[test]
+fn a_cuboid_has_a_line_for_each_cell() {
+    answers("cuboid 2", &five(), "* 1 * 150 2\n* 3 * 60 1\n* 5 * 150 2\n");
+    for set in 0..8 {
+        answers(&format!("cuboid {set}"), &five(), &lines(&[Records::five().cuboid(set)]));
+    }
+    answers("cuboid 1", four().archive().as_bytes(), "0 * -11 2\n1 * 15 2\n");
+}
+
+#[test]
+fn the_expansion_has_a_line_for_each_of_30_cells() {
+    let all = lines(&Records::five().cube());
+    assert_eq!(all.lines().count(), 30);
+    answers("expand", &five(), &all);
+}
+
+#[test]
+fn an_archive_without_rows() {
+    let archive = Records { sizes: vec![1, 1], rows: vec![] }.archive().into_bytes();
+    answers("check", &archive, "0 base entries, 0 normal entries\n");
+    answers("cell * *", &archive, "* * : no record\n");
+    answers("cuboid 0", &archive, "");
+    answers("expand", &archive, "");
+}
+
+/// Every row of five dimensions with four codes each, so that no cell outside the full set is single.
+#[test]
+fn an_archive_longer_than_65536_bytes() {
+    let rows = (0..1_024).map(|i| ((0..5).map(|d| i >> (2 * d) & 3).collect(), i.into()));
+    let records = Records { sizes: vec![4; 5], rows: rows.collect() };
+    let archive = records.archive().into_bytes();
+    assert!(archive.len() > 65_536);
+    answers("check", &archive, "1024 base entries, 2101 normal entries\n");
+    answers("expand", &archive, &lines(&records.cube()));
+}
+
+/// The largest code is answered; the values above it are refused and neither become ALL nor a small code.
+#[test]
+fn the_largest_code() {
+    let archive = Records { sizes: vec![65_535], rows: vec![(vec![65_534], -7), (vec![0], 9)] }.archive().into_bytes();
+    answers("cell 65534", &archive, "65534 -7 1 : entry 1\n");
+    answers("cell *", &archive, "* 2 2 : entry 2\n");
+    for code in ["65535", "65536", "4294967295", "4294967296", "99999999999999999999"] {
+        stops(&format!("cell {code}"), &archive, QUESTION);
+    }
+}
+
+/// Damage goes before what is wrong with a question or a set.
+#[test]
+fn a_wrong_archive_is_refused() {
+    let mut damaged = five();
+    damaged[36] ^= 1;
+    for words in ["check", "cell * 5 1", "cell *", "cuboid 2", "cuboid 8", "expand"] {
+        let opening = "1: the first four bytes are missing or are not the opening of such a file";
+        stops(words, &[], opening);
+        stops(words, &Records::five().table(), opening);
+        stops(words, &five()[..320], "2: the file ends before the last byte of a field that its earlier fields demand");
+        stops(words, &[&five()[..], &[0]].concat(), "10: bytes follow the check word");
+        stops(words, &damaged, "11: the check word is wrong");
+    }
+}
+
+/// (*,3,*) stored between (*,1,*) and (*,5,*), with a right check word, although the row (2,3,1) stands for it.
+#[test]
+fn a_cell_that_a_row_stands_for_is_refused() {
+    let mut words: Vec<u32> = five().chunks(4).map(|word| u32::from_le_bytes(word.try_into().unwrap())).collect();
+    words.splice(62..62, [ALL, 3, ALL, 60, 0, 1]);
+    words[49] = 6;
+    words.pop();
+    words.push(words.iter().fold(0, |sum, word| sum.wrapping_add(*word)));
+    let archive: Vec<u8> = words.into_iter().flat_map(u32::to_le_bytes).collect();
+    stops("check", &archive, "12: a list, the normal count or a normal entry is not what the base entries require");
+}
+
+#[test]
+fn a_wrong_question_is_refused() {
+    for words in ["cell", "cell * 5", "cell * 5 1 *", "cell 7 5 1", "cell * 6 1", "cell * 5 3"] {
+        stops(words, &five(), QUESTION);
+    }
+    for words in ["cuboid 8", "cuboid 256", "cuboid 4294967295", "cuboid 4294967296"] {
+        stops(words, &five(), "14: the set has a dimension that the archive has not");
+    }
+}
+
+/// The program ends before it reads, so the input is empty.
+#[test]
+fn wrong_usage() {
+    let wrong = ["", "chek", "Check", "check 1", "cell 1 x 2", "cell -1 * *", "cell +1 * *", "cell 1* * *", "cell 0x1 * *", "cell ** 5 1"];
+    for words in wrong.into_iter().chain(["cuboid", "cuboid *", "cuboid two", "cuboid -1", "cuboid 1 2", "expand 1", "five-rows.cube"]) {
+        assert_eq!(ask(words, &[]), (Some(2), "".into(), USAGE.into()), "{words}");
+    }
+    for word in [b"".as_slice(), b"\xFF", b"1\xFF"] {
+        let Output { status, stdout, stderr } = example::run("ask", &[OsStr::new("cell"), OsStr::from_bytes(word)], &[]);
+        assert_eq!((status.code(), stdout, stderr), (Some(2), vec![], USAGE.into()));
+    }
+}
