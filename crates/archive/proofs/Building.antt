@@ -18,7 +18,7 @@ use Rattle.cube.specs.declared.Total.{Total}
 use Rattle.cube.specs.Measure.{Row}
 use Rattle.rows.specs.Rows.{rowsOf}
 use Rattle.table.specs.Layout.{FACT, Held}
-use Rattle.table.specs.Reading.{row, body, readTable, based, answer, Stored}
+use Rattle.table.specs.Reading.{row, body, readTable, baseRows, answer, Stored}
 use Rattle.table.specs.declared.TableRead.the-variants as Read
 use Rattle.table.proofs.Accepted.{rowed, counted, table-forth}
 use Rattle.table.proofs.Rows.{placed}
@@ -56,7 +56,7 @@ build-refused s {k} e = rw (go (readTable s) e)
     go (stop n) f = let z : n ≡ k = cc in ap stop z
     go (got t rest) f = let z : false ≡ true = cc in absurd (false≢true z)
 
-told : (p : Parsed Held) {d n : ℕ} → answer p ≡ Read.Rows d n → (t : Held) × (rest : List ℕ) × (p ≡ got t rest) × (length (t .sizes) ≡ d) × (length (based t) ≡ n)
+told : (p : Parsed Held) {d n : ℕ} → answer p ≡ Read.Rows d n → (t : Held) × (rest : List ℕ) × (p ≡ got t rest) × (length (t .sizes) ≡ d) × (length (baseRows t) ≡ n)
 told (stop k) e = let z : false ≡ true = cc in absurd (false≢true z)
 told (got t rest) e = (t, rest, refl, cc e, cc e)
 
@@ -92,8 +92,8 @@ tabled {s} {d} {n} b e codes sums counts room h =
     let dims : d ≤ 8 = omega (arith, l .sized .few, x .3) in
     let k = mul-le-mul few dims in
     let small : n * d ≤ 8192 = omega (arith, k) in
-    let stored : rowsOf (length (t .sizes)) (length (based t)) codes sums counts ≡ based t = subst (λ (p : Parsed Held). Stored p codes sums counts) (x .2) h in
-    let rows : rowsOf d n (take (n * d) codes) (take n sums) (take n counts) ≡ based t
+    let stored : rowsOf (length (t .sizes)) (length (baseRows t)) codes sums counts ≡ baseRows t = subst (λ (p : Parsed Held). Stored p codes sums counts) (x .2) h in
+    let rows : rowsOf d n (take (n * d) codes) (take n sums) (take n counts) ≡ baseRows t
     = rows-front d n codes sums counts ∙ ap₂ (λ (i j : ℕ). rowsOf i j codes sums counts) (sym (x .3)) (sym (x .4)) ∙ stored in
     let sizes : t .sizes ≡ wordsAt s d 8 = sizes-at s (x .2) ∙ ap (λ (k : ℕ). wordsAt s k 8) (x .3) in
     record {

@@ -21,7 +21,7 @@ use Rattle.cube.specs.Table.{Table, folded}
 use Rattle.cube.proofs.Promises.{base-order, base-codes, base-totals, base-rows, base-total}
 use Rattle.walk.proofs.Limits.{below-coded}
 use Rattle.table.specs.Layout.{Held, Reads, Limits}
-use Rattle.table.specs.Reading.{based}
+use Rattle.table.specs.Reading.{baseRows}
 use Rattle.entries.specs.Layout.{Fair, Limits as Within}
 use Rattle.archive.proofs.Made.{readings-make}
 
@@ -63,7 +63,7 @@ module _ (t : Held) (l : Limits t) where
   table-rows r m = below-coded (t .sizes) (r .codes) (λ z i. l .sized .each z i .1) (l .each r m .below)
 
   -- no more base rows than rows
-  folded-few : length (based t) ≤ 1024
+  folded-few : length (baseRows t) ≤ 1024
   unfolding folded grouped cuboid
   folded-few =
       let xs = map (cell (full d)) (codesOf (t .rows)) in
@@ -76,10 +76,10 @@ module _ (t : Held) (l : Limits t) where
         length-map (cuboid (plain d) (codesOf (t .rows)) (full d)) (filled (plain d) sums (t .rows)),
       )
 
-  folded-counts : countOf (based t) ≤ most
+  folded-counts : countOf (baseRows t) ≤ most
   folded-counts =
-      let b : total (plain d) sums (based t) (alls d) .count ≡ countOf (based t) =
-      count-total d (based t) (λ r m. base-rows d (t .rows) table-rows .valid (r .codes) (Memᴰ·map (λ q. q .codes) m)) in
+      let b : total (plain d) sums (baseRows t) (alls d) .count ≡ countOf (baseRows t) =
+      count-total d (baseRows t) (λ r m. base-rows d (t .rows) table-rows .valid (r .codes) (Memᴰ·map (λ q. q .codes) m)) in
       omega (
         arith,
         b,
@@ -89,7 +89,7 @@ module _ (t : Held) (l : Limits t) where
         l .few,
       )
 
-  module _ (r : Row Total) (m : r ∈ based t) where
+  module _ (r : Row Total) (m : r ∈ baseRows t) where
     -- the table's rows with the codes of a base row: at least one
     abbrev same-rows : List (Row Total)
     same-rows = keep (λ q. same (r .codes) (q .codes)) (t .rows)
@@ -114,7 +114,7 @@ module _ (t : Held) (l : Limits t) where
           made = rw e (readings-make same-rows (λ q j. (reads q j .reading, reads q j .once)));
         }
 
-  pub folded-within : Within (t .sizes) (based t)
+  pub folded-within : Within (t .sizes) (baseRows t)
   folded-within = record {
     sized = l .sized;
     few = folded-few;

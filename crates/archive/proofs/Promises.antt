@@ -21,9 +21,9 @@ use Rattle.cube.proofs.Sums.{sums-add}
 use Rattle.cube.proofs.Folding.{grouped-folded}
 use Rattle.cube.proofs.Promises.{base-rows, no-record-iff, answer, one-entry, fewest-entries, as-few, shortest-list}
 use Rattle.table.specs.Layout.{Held as Table, Limits}
-use Rattle.table.specs.Reading.{readTable, based}
+use Rattle.table.specs.Reading.{readTable, baseRows}
 use Rattle.table.proofs.Accepted.{table-forth}
-use Rattle.entries.specs.Layout.{Based, based as basedOf, Held, section, cellBytes, required, archiveBytes}
+use Rattle.entries.specs.Layout.{Based, based, Held, section, cellBytes, required, archiveBytes}
 use Rattle.entries.specs.Reading.{readArchive, rowsIn}
 use Rattle.entries.proofs.Accepted.{required-rows, required-sizes, archive-back, archive-forth}
 use Rattle.entries.proofs.Limits.{limits-base}
@@ -32,7 +32,7 @@ use Rattle.cuboids.specs.Cuboids.{cuboidBytes, expansionBytes}
 use Rattle.archive.specs.declared.Checked.the-variants as Check
 use Rattle.archive.specs.declared.Found.the-variants as Find
 use Rattle.archive.specs.Answers.{bytes}
-use Rattle.archive.specs.Calls.{outcome, builds, counted, checks, listed as listedOf, listsCuboid, expanded, expands, entriesIn, told, looksUp}
+use Rattle.archive.specs.Calls.{outcome, builds, counted, checks, cuboidOf, listsCuboid, expanded, expands, entriesIn, told, looksUp}
 use Rattle.archive.proofs.Entries.{entries-required}
 use Rattle.archive.proofs.Folded.{table-rows, folded-within}
 
@@ -41,7 +41,7 @@ told-none no-record h = refl
 told-none (found n u) h = cc h
 
 listed-required : (set : ℕ) (zs : List ℕ) (rows : List (Row Total)) → set < 2 ^ length zs
-    → listedOf set (required zs rows) ≡ bytes (cuboidBytes (length zs) rows set)
+    → cuboidOf set (required zs rows) ≡ bytes (cuboidBytes (length zs) rows set)
 listed-required set zs rows h = rw (required-sizes zs rows, required-rows zs rows, lt-ltb set (2 ^ length zs) h)
 
 expanded-required : (zs : List ℕ) (rows : List (Row Total)) → expanded (required zs rows) ≡ bytes (expansionBytes (length zs) rows)
@@ -95,7 +95,7 @@ module _ (s : List ℕ) (t : Table) (b : Bytes s) (e : readTable s ≡ got t [])
   D = length (t .sizes)
 
   abbrev ourArchive : List ℕ
-  ourArchive = archiveBytes (t .sizes) (based t)
+  ourArchive = archiveBytes (t .sizes) (baseRows t)
 
   limits : Limits t
   limits = table-forth s t [] b e .0
@@ -106,31 +106,31 @@ module _ (s : List ℕ) (t : Table) (b : Bytes s) (e : readTable s ≡ got t [])
   built = rw e
 
   -- which every call accepts:
-  pub built-read : readArchive ourArchive ≡ got (required (t .sizes) (based t)) []
-  built-read = archive-back (t .sizes) (based t) (folded-within t limits)
+  pub built-read : readArchive ourArchive ≡ got (required (t .sizes) (baseRows t)) []
+  built-read = archive-back (t .sizes) (baseRows t) (folded-within t limits)
 
-  pub built-check : checks ourArchive ≡ Check.Entries (length (based t)) (length (normals (plain D) (codesOf (based t))))
+  pub built-check : checks ourArchive ≡ Check.Entries (length (baseRows t)) (length (normals (plain D) (codesOf (baseRows t))))
   unfolding checks required
-  built-check = ap counted built-read ∙ ap₂ Check.Entries (length-map (based t) _) (length-map (normals (plain D) (codesOf (based t))) _)
+  built-check = ap counted built-read ∙ ap₂ Check.Entries (length-map (baseRows t) _) (length-map (normals (plain D) (codesOf (baseRows t))) _)
 
   -- its cuboids are those of the table's own rows, each cell with the exact sum and count of its rows,
-  cuboid-built : (set : ℕ) → cuboidBytes D (based t) set ≡ cuboidBytes D (t .rows) set
+  cuboid-built : (set : ℕ) → cuboidBytes D (baseRows t) set ≡ cuboidBytes D (t .rows) set
   unfolding cuboidBytes
   cuboid-built set = ap (section cellBytes) (grouped-folded sums D (t .rows) (table-rows t limits) (plain D) sums-add set)
 
   pub built-lists : (set : ℕ) → set < 2 ^ D → listsCuboid ourArchive set ≡ bytes (cuboidBytes D (t .rows) set)
   unfolding listsCuboid
   built-lists set h =
-      ap (outcome (listedOf set)) built-read
-      ∙ listed-required set (t .sizes) (based t) h ∙ ap bytes (cuboid-built set)
+      ap (outcome (cuboidOf set)) built-read
+      ∙ listed-required set (t .sizes) (baseRows t) h ∙ ap bytes (cuboid-built set)
 
   -- and expanded it is the complete cube of the table.
   pub built-expands : expands ourArchive ≡ bytes (expansionBytes D (t .rows))
   unfolding expands expansionBytes
   built-expands =
       ap (outcome expanded) built-read
-      ∙ expanded-required (t .sizes) (based t)
-      ∙ ap bytes (flat-same (cuboidBytes D (based t)) (cuboidBytes D (t .rows)) (sets D) (λ set m. cuboid-built set))
+      ∙ expanded-required (t .sizes) (baseRows t)
+      ∙ ap bytes (flat-same (cuboidBytes D (baseRows t)) (cuboidBytes D (t .rows)) (sets D) (λ set m. cuboid-built set))
 
   -- The cells of that cube, set by set, are those of CUBE BY.
   pub expanded-cells : flatMap (grouped (plain D) sums (t .rows)) (sets D) ≡ complete (plain D) sums (t .rows)
@@ -139,29 +139,29 @@ module _ (s : List ℕ) (t : Table) (b : Bytes s) (e : readTable s ≡ got t [])
 
   -- The entries in those bytes are our entries: the base rows with their lists, and the normal cells.
   abbrev held : Held
-  held = required (t .sizes) (based t)
+  held = required (t .sizes) (baseRows t)
 
-  rows-of : Base (plain D) (codesOf (based t))
+  rows-of : Base (plain D) (codesOf (baseRows t))
   rows-of = base-rows D (t .rows) (table-rows t limits)
 
-  pub built-entries : entriesIn held ≡ ours (plain D) sums (based t)
-  built-entries = entries-required (t .sizes) (based t)
+  pub built-entries : entriesIn held ≡ ours (plain D) sums (baseRows t)
+  built-entries = entries-required (t .sizes) (baseRows t)
 
   -- Every condensed cube of the table, by any writer, has at least as many entries, and as many exactly when its entries lie at the cells of ours, one at each.
-  module _ {es : List (Entry Total)} (c : Condensed (plain D) sums (based t) es) where
+  module _ {es : List (Entry Total)} (c : Condensed (plain D) sums (baseRows t) es) where
     pub built-fewest : length (held .bases) + length (held .cells) ≤ length es
-    built-fewest = rw (← entries-length held, built-entries) (fewest-entries D (based t) rows-of c)
+    built-fewest = rw (← entries-length held, built-entries) (fewest-entries D (baseRows t) rows-of c)
 
     pub built-as-few : (length es ≡ length (held .bases) + length (held .cells)) ↔ List·Permᴰ (map (own (plain D)) es) (map (own (plain D)) (entriesIn held))
-    built-as-few = rw (← entries-length held, built-entries) (as-few D (based t) rows-of c)
+    built-as-few = rw (← entries-length held, built-entries) (as-few D (baseRows t) rows-of c)
 
   -- No list of sets that stands for the same cells as a row's list in those bytes is shorter.
   pub built-shortest : (r : Row Total) (list : List ℕ) → record { row = r; list = list } ∈ held .bases → (l : List ℕ) → ((u : ℕ) → u ∈ l → u ∈ sets D)
       → ((c : List ℕ) → (c ∈ reach (plain D) (r .codes) list) ↔ (c ∈ reach (plain D) (r .codes) l)) → length list ≤ length l
   unfolding required
   built-shortest r list m l h k =
-      let q = Memᴰ·of-map (basedOf D (based t)) (based t) m in
+      let q = Memᴰ·of-map (based D (baseRows t)) (baseRows t) m in
       let p : q .0 ≡ r = ap (λ (x : Based). x .row) (q .2) in
-      let f : listed (plain D) (codesOf (based t)) (r .codes) ≡ list = ap (λ (x : Row Total). listed (plain D) (codesOf (based t)) (x .codes)) (sym p) ∙ ap (λ (x : Based). x .list) (q .2) in
+      let f : listed (plain D) (codesOf (baseRows t)) (r .codes) ≡ list = ap (λ (x : Row Total). listed (plain D) (codesOf (baseRows t)) (x .codes)) (sym p) ∙ ap (λ (x : Based). x .list) (q .2) in
       subst (λ (n : List ℕ). length n ≤ length l) f
-      (shortest-list D (codesOf (based t)) (r .codes) (rows-of .valid (r .codes) (Memᴰ·map (λ p. p .codes) (Memᴰ·cast (sym p) (q .1)))) l h (subst (λ (n : List ℕ). (c : List ℕ) → (c ∈ reach (plain D) (r .codes) n) ↔ (c ∈ reach (plain D) (r .codes) l)) (sym f) k))
+      (shortest-list D (codesOf (baseRows t)) (r .codes) (rows-of .valid (r .codes) (Memᴰ·map (λ p. p .codes) (Memᴰ·cast (sym p) (q .1)))) l h (subst (λ (n : List ℕ). (c : List ℕ) → (c ∈ reach (plain D) (r .codes) n) ↔ (c ∈ reach (plain D) (r .codes) l)) (sym f) k))

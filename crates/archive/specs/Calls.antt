@@ -21,7 +21,7 @@ use Rattle.cube.specs.declared.Total.{Total}
 use Rattle.cube.specs.Codes.{plain}
 use Rattle.cube.specs.Condensed.{Entry, base, normal, Answer, no-record, found, lookup}
 use Rattle.table.specs.Layout.{Held as Table}
-use Rattle.table.specs.Reading.{readTable, based}
+use Rattle.table.specs.Reading.{readTable, baseRows}
 use Rattle.entries.specs.Layout.{Held, archiveBytes}
 use Rattle.entries.specs.Reading.{readArchive, rowsIn, answer, Stored}
 use Rattle.entries.specs.declared.ArchiveRead.the-variants as Read
@@ -44,7 +44,7 @@ dims a = length (a .sizes)
 -- ---- build
 
 abbrev pub archived : Table → Outcome
-archived t = bytes (archiveBytes (t .sizes) (based t))
+archived t = bytes (archiveBytes (t .sizes) (baseRows t))
 
 unfoldable pub builds : List ℕ → Outcome
 builds s = outcome archived (readTable s)
@@ -60,11 +60,11 @@ checks s = counted (readArchive s)
 
 -- ---- list a cuboid, expand
 
-abbrev pub listed : ℕ → Held → Outcome
-listed set a = stopUnless (ltb set (2 ^ dims a)) 14 (bytes (cuboidBytes (dims a) (rowsIn a) set))
+abbrev pub cuboidOf : ℕ → Held → Outcome
+cuboidOf set a = stopUnless (ltb set (2 ^ dims a)) 14 (bytes (cuboidBytes (dims a) (rowsIn a) set))
 
 unfoldable pub listsCuboid : List ℕ → ℕ → Outcome
-listsCuboid s set = outcome (listed set) (readArchive s)
+listsCuboid s set = outcome (cuboidOf set) (readArchive s)
 
 abbrev pub expanded : Held → Outcome
 expanded a = bytes (expansionBytes (dims a) (rowsIn a))

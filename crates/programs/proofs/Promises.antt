@@ -10,7 +10,7 @@ use borrow.Author.Tests.{le-leb, lt-leb}
 use Rattle.walk.specs.Parsed.{got}
 use Rattle.walk.specs.Limits.{Bytes}
 use Rattle.table.specs.Layout.{Held}
-use Rattle.table.specs.Reading.{readTable, based}
+use Rattle.table.specs.Reading.{readTable, baseRows}
 use Rattle.table.proofs.Accepted.{table-forth}
 use Rattle.table.proofs.Lengths.{table-length}
 use Rattle.entries.specs.Layout.{required, archiveBytes}
@@ -23,7 +23,7 @@ use Rattle.programs.proofs.Printed.{short-text, lister-short}
 
 module _ (s : List ℕ) (t : Held) (b : Bytes s) (e : readTable s ≡ got t []) where
   abbrev ourArchive : List ℕ
-  ourArchive = archiveBytes (t .sizes) (based t)
+  ourArchive = archiveBytes (t .sizes) (baseRows t)
 
   -- no accepted table is too long
   pub table-short : length s ≤ most
@@ -45,5 +45,5 @@ module _ (s : List ℕ) (t : Held) (b : Bytes s) (e : readTable s ≡ got t []) 
   prints-fifteen h = settled ∙ ap (λ (o : Outcome). built (within most o)) (Archive.built s t b e) ∙ rw (lt-leb (length ourArchive) most h)
 
   -- and of the archive its entries as text: the base rows with their lists, and the normal cells.
-  pub prints-text : length ourArchive ≤ most → lister (builder s) ≡ listing (required (t .sizes) (based t))
+  pub prints-text : length ourArchive ≤ most → lister (builder s) ≡ listing (required (t .sizes) (baseRows t))
   prints-text h = ap lister (prints-archive h) ∙ lister-short ourArchive h ∙ ap listed (Archive.built-read s t b e)

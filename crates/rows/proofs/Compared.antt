@@ -9,9 +9,8 @@ use native.Mathlib.Omega.{arith}
 use lib.ListN.{length, getD, drop, drop-of-length-le}
 use lib.Seq.{drop-cons}
 use Rattle.lists.specs.Order.{earlier}
-use Rattle.lists.proofs.Order.{earlier-lt, earlier-gt, earlier-skip, by-codes, strict-self, strict-turned}
-use Rattle.cube.specs.Codes.{shown, cell, agree}
-use Rattle.cube.proofs.Codes.{agree-cell, cell-agree}
+use Rattle.lists.proofs.Order.{earlier-lt, earlier-gt, earlier-skip}
+use Rattle.cube.specs.Codes.{shown, cell}
 use Rattle.rows.specs.declared.Order.the-variants.{Before, Equal, After}
 use Rattle.rows.specs.Compare.{ordered, compared}
 
@@ -40,38 +39,14 @@ module _ (set : ℕ) (xs ys : List ℕ) (i : ℕ) (h : i < length xs) (k : i < l
   unfolding compared
   compared-more l = rw (drop-cons xs i 0, drop-cons ys i 0, earlier-gt _ _ _ _ l, earlier-lt _ _ _ _ l)
 
--- ---- what each answer says
-
-is-equal : (p q : Bool) → ordered p q ≡ Equal → (p ≡ false) × (q ≡ false)
-is-equal true q e = (cc, cc)
-is-equal false true e = (cc, cc)
-is-equal false false e = (refl, refl)
+-- ---- what the answer 'before' says
 
 is-before : (p q : Bool) → ordered p q ≡ Before → p ≡ true
 is-before true q e = refl
 is-before false true e = cc
 is-before false false e = cc
 
-is-after : (p q : Bool) → ordered p q ≡ After → q ≡ true
-is-after true q e = cc
-is-after false true e = refl
-is-after false false e = cc
-
 module _ (s : ℕ) (x y : List ℕ) where
-  pub compared-equal : (compared s x y ≡ Equal) ↔ (agree s x y ≡ true)
-  unfolding compared
-  compared-equal = (
-    λ e. let r = is-equal (earlier (cell s x) (cell s y)) (earlier (cell s y) (cell s x)) e in cell-agree s x y (by-codes .total (cell s x) (cell s y) (r .0) (r .1)),
-    λ a. rw (agree-cell s x y a, strict-self by-codes (cell s y)),
-  )
-
   pub compared-before : (compared s x y ≡ Before) ↔ (earlier (cell s x) (cell s y) ≡ true)
   unfolding compared
   compared-before = (is-before (earlier (cell s x) (cell s y)) (earlier (cell s y) (cell s x)), λ e. rw e)
-
-  pub compared-after : (compared s x y ≡ After) ↔ (earlier (cell s y) (cell s x) ≡ true)
-  unfolding compared
-  compared-after = (
-    is-after (earlier (cell s x) (cell s y)) (earlier (cell s y) (cell s x)),
-    λ e. rw (strict-turned by-codes (cell s y) (cell s x) e, e),
-  )

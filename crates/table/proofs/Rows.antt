@@ -27,7 +27,7 @@ use Rattle.rows.specs.Rows.{rowsOf}
 use Rattle.rows.proofs.Flat.{rows-length}
 use Rattle.cube.specs.Table.{folded}
 use Rattle.table.specs.declared.TableRead.the-variants as Answer
-use Rattle.table.specs.Reading.{row, body, readTable, rowThere, rowsAt, Rowed, based, answer, Stored}
+use Rattle.table.specs.Reading.{row, body, readTable, rowThere, rowsAt, Rowed, baseRows, answer, Stored}
 use Rattle.table.proofs.Accepted.{read, rowed, counted, table-forth}
 
 any-reading : Any reading 4
@@ -130,9 +130,9 @@ pub read-answer : (s : List ℕ) (t : Held) {rest : List ℕ} → readTable s �
     → (Answer.Rows d r ≡ answer (readTable s)) × Stored (readTable s) c z k
 read-answer s t {rest} e d n r p q c z k f =
     let w = placed s t e .rows in
-    let base : rowsOf d r c z k ≡ based t
+    let base : rowsOf d r c z k ≡ baseRows t
     = f ∙ ap₂ (λ (i j : ℕ). folded sums i (rowsAt s i j (12 + 4 * i))) p q ∙ ap (folded sums (length (t .sizes))) (sym w) in
-    let size : r ≡ length (based t) = sym (rows-length d r c z k) ∙ ap length base in
+    let size : r ≡ length (baseRows t) = sym (rows-length d r c z k) ∙ ap length base in
     rw e (ap₂ Answer.Rows p size, sym (ap₂ (λ (i j : ℕ). rowsOf i j c z k) p size) ∙ base)
 
 pub stop-answer : (s : List ℕ) {n : ℕ} → readTable s ≡ stop n → (c : List ℕ) (z : List ℤ) (k : List ℕ) → (Answer.Stop n ≡ answer (readTable s)) × Stored (readTable s) c z k

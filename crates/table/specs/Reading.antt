@@ -55,13 +55,13 @@ pub record Rowed (s : List ℕ) (d n : ℕ) : Type 0 where
   pub summable : Summable (rowsAt s d n (12 + 4 * d))
 
 -- the base rows of a table
-abbrev pub based : Held → List (Row Total)
-based t = folded sums (length (t .sizes)) (t .rows)
+abbrev pub baseRows : Held → List (Row Total)
+baseRows t = folded sums (length (t .sizes)) (t .rows)
 
 abbrev pub answer : Parsed Held → TableRead
 answer (stop n) = Answer.Stop n
-answer (got t rest) = Answer.Rows (length (t .sizes)) (length (based t))
+answer (got t rest) = Answer.Rows (length (t .sizes)) (length (baseRows t))
 
 abbrev pub Stored : Parsed Held → List ℕ → List ℤ → List ℕ → Type 0
 Stored (stop n) codes amounts counts = Unit {0}
-Stored (got t rest) codes amounts counts = rowsOf (length (t .sizes)) (length (based t)) codes amounts counts ≡ based t
+Stored (got t rest) codes amounts counts = rowsOf (length (t .sizes)) (length (baseRows t)) codes amounts counts ≡ baseRows t

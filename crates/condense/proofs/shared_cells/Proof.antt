@@ -76,7 +76,7 @@ group-rows-requires c κs =
     let p = c .before .before .before .before .before .before .before .before .before .before .before .before .before .before .before .before .before .before .before .before .before .before .pre .1 .1 in
     let r = ready (c .before .before .before .before .before .before .before) in
     let n = c .before .before .before .before .before .before .before .before .before .before .before .pick-open .ensures .1 .1 in (
-      (r .size, r .amounts, r .tallies, sym (slice-aggregate-group-rows-4 (c .before .before .before)), r .few, r .dims),
+      (r .size, r .amounts, r .tallies, sym (slice-aggregate-group-rows-4 (c .before .before .before)), r .few),
       ((le-trans (mul-le-mul-right (c .before .before .before .before .before .before .before .before .before .before .before .before .before .before .before .before .before .before .before .before .before .before .args .dims) n) (p .0), omega (arith, n, p .1), omega (arith, n, p .2)), (r .table, r .summable)),
     )
 

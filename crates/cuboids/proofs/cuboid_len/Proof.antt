@@ -23,7 +23,7 @@ group-rows-requires : tie.Need-group-rows-requires
 group-rows-requires c κs =
     let p = c .before .before .before .before .before .before .pre in
     let m = mul-le-mul (p .few) (p .dims) in
-    ((p .size, p .amounts, p .tallies, sym (slice-aggregate-group-rows (c .before .before .before)), p .few, p .dims), ((omega (arith, m), p .few, p .few), (p .table, p .summable)))
+    ((p .size, p .amounts, p .tallies, sym (slice-aggregate-group-rows (c .before .before .before)), p .few), ((omega (arith, m), p .few, p .few), (p .table, p .summable)))
 
 -- as many cells as rows at most
 size : (c : tie.After-tallies2) → c .before .before .before .before .group-rows .result * (4 * c .before .before .before .before .before .before .before .before .before .before .before .args .dims + 12) ≤ 45056

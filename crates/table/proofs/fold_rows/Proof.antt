@@ -22,7 +22,7 @@ group-rows-requires c κs =
     let p = c .before .before .before .before .before .before .before .before .before .before .before .before .before .before .before .before .before .before .before .before .before .before .before .pre in
     let k = c .before .before .before .before .before .before .before .before .before .before .before .before .before .store-rows .kept .1 .1 .1 .1 in
     let m = mul-le-mul (p .0 .4) (p .0 .5) in (
-      (omega (arith, p .0 .0, k .0), omega (arith, p .0 .1, k .1 .0), omega (arith, p .0 .2, k .1 .1 .0), p .0 .3, p .0 .4, p .0 .5),
+      (omega (arith, p .0 .0, k .0), omega (arith, p .0 .1, k .1 .0), omega (arith, p .0 .2, k .1 .1 .0), p .0 .3, p .0 .4),
       (
         (omega (arith, m, p .1 .0 .1), omega (arith, p .0 .4, p .1 .0 .2), omega (arith, p .0 .4, p .1 .0 .3)),
         rw (c .before .before .before .before .before .before .before .before .before .before .before .before .before .store-rows .ensures) (p .1 .1),
