@@ -21,7 +21,7 @@ use Rattle.archive.specs.declared.Checked.the-variants as Check
 use Rattle.archive.specs.Answers.{Outcome, stop as stopped, bytes, within, answerOf, leftOf, Answered}
 use Rattle.archive.specs.Calls.{builds, counted, checks}
 use Rattle.listing.specs.Listing.{listing, heldBy, Accepted}
-use Rattle.programs.specs.Programs.{most, refused, limited, built, builder, listed, lister}
+use Rattle.programs.specs.Programs.{most, refused, limited, builtText, builder, listedText, lister}
 
 -- ---- the line of a stop, by the parts that are written
 pub refused-is : (n : ℕ) → refused n ≡ (ascii "refused " ++ decimal n) ++ ascii "\n"
@@ -37,11 +37,11 @@ short-text s text h = rw (le-leb (length s) most h)
 
 pub builder-long : (s : List ℕ) → most < length s → builder s ≡ ascii "too long\n"
 unfolding builder
-builder-long s h = long-text s (built (within most (builds s))) h
+builder-long s h = long-text s (builtText (within most (builds s))) h
 
 pub lister-long : (s : List ℕ) → most < length s → lister s ≡ ascii "too long\n"
 unfolding lister
-lister-long s h = long-text s (listed (readArchive s)) h
+lister-long s h = long-text s (listedText (readArchive s)) h
 
 -- ---- the builder
 
@@ -53,15 +53,15 @@ within-fits room (bytes ys) {xs} e = cases (truth (leb (length ys) room))
     (λ f. let g : stopped 15 ≡ bytes xs = rw f at e in let z : false ≡ true = cc g in absurd (false≢true z))
 
 module _ (s : List ℕ) {l m : List ℕ} (h : length s ≤ most) (k : length l ≡ most) {r : Written} (w : Answered (builds s) l m r) where
-  short-builder : builder s ≡ built (within (length l) (builds s))
+  short-builder : builder s ≡ builtText (within (length l) (builds s))
   unfolding builder
-  short-builder = short-text s (built (within most (builds s))) h ∙ ap (λ (n : ℕ). built (within n (builds s))) (sym k)
+  short-builder = short-text s (builtText (within most (builds s))) h ∙ ap (λ (n : ℕ). builtText (within n (builds s))) (sym k)
 
   pub builder-refused : {n : ℕ} → r ≡ Write.Stop n → (builder s ≡ refused n) × (m ≡ l)
   builder-refused {n} e = go (within (length l) (builds s)) refl
     where
       go : (o : Outcome) → within (length l) (builds s) ≡ o → (builder s ≡ refused n) × (m ≡ l)
-      go (stopped j) q = let f : Write.Stop j ≡ Write.Stop n = sym (ap answerOf q) ∙ sym (w .answer) ∙ e in (short-builder ∙ ap built q ∙ ap refused (cc f), w .output ∙ ap (λ (p : Outcome). leftOf p l) q)
+      go (stopped j) q = let f : Write.Stop j ≡ Write.Stop n = sym (ap answerOf q) ∙ sym (w .answer) ∙ e in (short-builder ∙ ap builtText q ∙ ap refused (cc f), w .output ∙ ap (λ (p : Outcome). leftOf p l) q)
       go (bytes xs) q = let f : Write.Length (length xs) ≡ Write.Stop n = sym (ap answerOf q) ∙ sym (w .answer) ∙ e in let z : false ≡ true = cc f in absurd (false≢true z)
 
   pub builder-wrote : {n : ℕ} → r ≡ Write.Length n → Wrote (builder s) l m n
@@ -72,19 +72,19 @@ module _ (s : List ℕ) {l m : List ℕ} (h : length s ≤ most) (k : length l �
       go (bytes xs) q =
           let f : Write.Length (length xs) ≡ Write.Length n = sym (ap answerOf q) ∙ sym (w .answer) ∙ e in
           let g : m ≡ written xs l = w .output ∙ ap (λ (p : Outcome). leftOf p l) q in
-          let t : xs ≡ builder s = sym (short-builder ∙ ap built q) in
+          let t : xs ≡ builder s = sym (short-builder ∙ ap builtText q) in
           wrote-as t (record { count = cc f; same = ap length g ∙ length-written xs l (within-fits (length l) (builds s) q); list = g })
 
 -- ---- the lister
-pub lister-short : (s : List ℕ) → length s ≤ most → lister s ≡ listed (readArchive s)
+pub lister-short : (s : List ℕ) → length s ≤ most → lister s ≡ listedText (readArchive s)
 unfolding lister
-lister-short s h = short-text s (listed (readArchive s)) h
+lister-short s h = short-text s (listedText (readArchive s)) h
 
 pub lister-refused : (s : List ℕ) {n : ℕ} → length s ≤ most → checks s ≡ Check.Stop n → lister s ≡ refused n
 unfolding checks
 lister-refused s {n} h e = lister-short s h ∙ go (readArchive s) e
   where
-    go : (p : Parsed Held) → counted p ≡ Check.Stop n → listed p ≡ refused n
+    go : (p : Parsed Held) → counted p ≡ Check.Stop n → listedText p ≡ refused n
     go (stop k) q = ap refused (cc q)
     go (got a rest) q = let z : false ≡ true = cc q in absurd (false≢true z)
 

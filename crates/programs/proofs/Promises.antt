@@ -18,7 +18,7 @@ use Rattle.archive.specs.Answers.{Outcome, within}
 use Rattle.archive.specs.Calls.{builds}
 use Rattle.archive.proofs.Promises as Archive
 use Rattle.listing.specs.Listing.{listing}
-use Rattle.programs.specs.Programs.{most, refused, built, builder, listed, lister}
+use Rattle.programs.specs.Programs.{most, refused, builtText, builder, listedText, lister}
 use Rattle.programs.proofs.Printed.{short-text, lister-short}
 
 module _ (s : List ℕ) (t : Held) (b : Bytes s) (e : readTable s ≡ got t []) where
@@ -32,18 +32,18 @@ module _ (s : List ℕ) (t : Held) (b : Bytes s) (e : readTable s ≡ got t []) 
       let rows = mul-le-mul (f .0 .few) (let z = f .0 .sized .few in let y : 4 * length (t .sizes) + 4 ≤ 36 = omega arith in y) in
       omega (arith, ap length (f .1), table-length t (f .0), rows, f .0 .sized .few)
 
-  settled : builder s ≡ built (within most (builds s))
+  settled : builder s ≡ builtText (within most (builds s))
   unfolding builder
-  settled = short-text s (built (within most (builds s))) table-short
+  settled = short-text s (builtText (within most (builds s))) table-short
 
   -- the archive, where 65,536 bytes are enough,
   pub prints-archive : length ourArchive ≤ most → builder s ≡ ourArchive
-  prints-archive h = settled ∙ ap (λ (o : Outcome). built (within most o)) (Archive.built s t b e) ∙ rw (le-leb (length ourArchive) most h)
+  prints-archive h = settled ∙ ap (λ (o : Outcome). builtText (within most o)) (Archive.built s t b e) ∙ rw (le-leb (length ourArchive) most h)
 
   -- stop 15 where they are not,
   pub prints-fifteen : most < length ourArchive → builder s ≡ refused 15
-  prints-fifteen h = settled ∙ ap (λ (o : Outcome). built (within most o)) (Archive.built s t b e) ∙ rw (lt-leb (length ourArchive) most h)
+  prints-fifteen h = settled ∙ ap (λ (o : Outcome). builtText (within most o)) (Archive.built s t b e) ∙ rw (lt-leb (length ourArchive) most h)
 
   -- and of the archive its entries as text: the base rows with their lists, and the normal cells.
   pub prints-text : length ourArchive ≤ most → lister (builder s) ≡ listing (required (t .sizes) (baseRows t))
-  prints-text h = ap lister (prints-archive h) ∙ lister-short ourArchive h ∙ ap listed (Archive.built-read s t b e)
+  prints-text h = ap lister (prints-archive h) ∙ lister-short ourArchive h ∙ ap listedText (Archive.built-read s t b e)

@@ -4,6 +4,8 @@
 --   most           how many bytes the programs read, and the builder lends
 --   refused n      the line for stop n
 --   limited s t    the text t for an input s that is not too long
+--   builtText o    what is printed for the outcome of a build
+--   listedText p   what is printed for what was read of an archive
 --   builder s      what the builder prints for the input s
 --   lister s       what the lister prints for the input s
 use mathlib.Core.Bool.{cond}
@@ -28,16 +30,16 @@ refused n = ascii "refused " ++ (decimal n ++ ascii "\n")
 abbrev pub limited : List ℕ → List ℕ → List ℕ
 limited s text = cond (leb (length s) most) text (ascii "too long\n")
 
-abbrev pub built : Outcome → List ℕ
-built (stopped n) = refused n
-built (bytes xs) = xs
+abbrev pub builtText : Outcome → List ℕ
+builtText (stopped n) = refused n
+builtText (bytes xs) = xs
 
 unfoldable pub builder : List ℕ → List ℕ
-builder s = limited s (built (within most (builds s)))
+builder s = limited s (builtText (within most (builds s)))
 
-abbrev pub listed : Parsed Held → List ℕ
-listed (stop n) = refused n
-listed (got a rest) = listing a
+abbrev pub listedText : Parsed Held → List ℕ
+listedText (stop n) = refused n
+listedText (got a rest) = listing a
 
 unfoldable pub lister : List ℕ → List ℕ
-lister s = limited s (listed (readArchive s))
+lister s = limited s (listedText (readArchive s))

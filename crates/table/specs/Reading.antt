@@ -6,6 +6,7 @@
 --   rowThere s d at the row that stands at a place: d codes and a reading
 --   rowsAt s d n at the n rows from a place on
 --   Rowed s d n     n rows of d codes stand behind a header, are rows of a table, and can be totalled
+--   baseRows t      the base rows of the table t
 --   TableRead       the code's answer: the enum of src/lib.rt
 --   answer p        the answer's number and values for what was read: the stop's number, or D and the number of base rows
 --   Stored p ..     the arrays have the base rows of the table that was read
