@@ -1,4 +1,4 @@
-// An archive read from its bytes: the fields from the left, and at each its stops in document 01's order (1 to 11), then its base rows.
+// An archive's sections read from their bytes: the fields from the left, and at each its stops in document 01's order (1 to 11), then the base rows.
 use rows::Order;
 use walk::Walk;
 ghost use mathlib.Core.Logic.{_⊎_};
@@ -7,8 +7,7 @@ ghost use mathlib.Core.List.{[], _∷_, _++_};
 ghost use Prim.Native.Nat.{ℕ, suc, _+_, _*_, _≤_, _<_};
 ghost use lib.ListN.{length, drop};
 ghost use Rattle.lists.specs.Order.{earlier};
-ghost use Rattle.fields.specs.Words.{wordAt, wordsAt};
-ghost use Rattle.fields.specs.Twos.{sumAt};
+ghost use Rattle.fields.specs.Words.{wordsAt};
 ghost use Rattle.walk.specs.Walked.{Walked};
 ghost use Rattle.cube.specs.Bounds.{most, canMake};
 ghost use Rattle.rows.specs.Rows.{rowsOf};
@@ -149,7 +148,7 @@ fn check_entries(s: &[u8], sizes: &[u32], count: u32, start: usize) -> Walk
 }
 
 // The base count and the base entries.
-fn check_bases(s: &[u8], sizes: &[u32], at: usize) -> Walk
+pub fn check_bases(s: &[u8], sizes: &[u32], at: usize) -> Walk
     requires { ⌜ (1 ≤ length (now sizes)) × (length (now sizes) ≤ 8) × (at ≤ length (now s)) ⌝ }
     ensures { λ r. ⌜ Walked (now (s .entry)) (bases (now (sizes .entry)) (drop at (now (s .entry)))) r ⌝ }
 {
@@ -160,7 +159,7 @@ fn check_bases(s: &[u8], sizes: &[u32], at: usize) -> Walk
 }
 
 // The normal count and the normal entries: fields of any value, so that only their length is asked for.
-fn check_cells(s: &[u8], dims: usize, at: usize) -> Walk
+pub fn check_cells(s: &[u8], dims: usize, at: usize) -> Walk
     requires { ⌜ (dims ≤ 8) × (at ≤ length (now s)) ⌝ }
     ensures { λ r. ⌜ Walked (now (s .entry)) (cells dims (drop at (now (s .entry)))) r ⌝ }
 {
@@ -170,36 +169,6 @@ fn check_cells(s: &[u8], dims: usize, at: usize) -> Walk
             let count = fields::word_at(s, at) as usize;
             walk::check_room(s, count * (4 * dims + 12), next)
         }
-    }
-}
-
-// All fields of an archive.
-fn check_archive(s: &[u8]) -> ArchiveRead
-    ensures { λ r. ⌜ r ≡ answer (walkArchive (now (s .entry))) ⌝ }
-{
-    let at = match walk::check_header(s, b"CUBE") {
-        Walk::Stop(n) => return ArchiveRead::Stop(n),
-        Walk::At(at) => at,
-    };
-    let dims = fields::word_at(s, 4);
-    let d = dims as usize;
-    let mut sizes = [0u32; 8];
-    fields::read_words(s, 8, &mut sizes[..d]);
-    let next = match check_bases(s, &sizes[..d], at) {
-        Walk::Stop(n) => return ArchiveRead::Stop(n),
-        Walk::At(next) => next,
-    };
-    let end = match check_cells(s, d, next) {
-        Walk::Stop(n) => return ArchiveRead::Stop(n),
-        Walk::At(end) => end,
-    };
-    match walk::check_close(s, end) {
-        Walk::Stop(n) => ArchiveRead::Stop(n),
-        Walk::At(_) => ArchiveRead::Entries {
-            dims,
-            bases: fields::word_at(s, at),
-            cells: fields::word_at(s, next),
-        },
     }
 }
 
@@ -225,7 +194,7 @@ fn store_row(
 }
 
 // The base rows of an archive whose fields are right.
-fn store_rows(
+pub fn store_rows(
     s: &[u8],
     dims: u32,
     bases: u32,
@@ -246,24 +215,5 @@ fn store_rows(
         let list = fields::word_at(s, at + 4 * d + 12) as usize;
         at += 4 * d + 16 + 4 * list;
         i += 1;
-    }
-}
-
-// The walk over an archive: stops 1 to 11, and the base rows into the arrays that are lent.
-pub fn read_archive(
-    s: &[u8],
-    codes: &mut [u32; 8192],
-    sums: &mut [i64; 1024],
-    counts: &mut [u32; 1024],
-) -> ArchiveRead
-    ensures { λ r. ⌜ r ≡ answer (walkArchive (now (s .entry))) ⌝ }
-    ensures { λ r. ⌜ Stored (walkArchive (now (s .entry))) (now (codes .exit)) (now (sums .exit)) (now (counts .exit)) ⌝ }
-{
-    match check_archive(s) {
-        ArchiveRead::Stop(n) => ArchiveRead::Stop(n),
-        ArchiveRead::Entries { dims, bases, cells } => {
-            store_rows(s, dims, bases, codes, sums, counts);
-            ArchiveRead::Entries { dims, bases, cells }
-        }
     }
 }

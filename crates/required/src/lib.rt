@@ -139,7 +139,7 @@ pub fn read_required(
     ensures { λ r. ⌜ r ≡ answer (readArchive (now (s .entry))) ⌝ }
     ensures { λ r. ⌜ Stored (readArchive (now (s .entry))) (now (codes .exit)) (now (sums .exit)) (now (counts .exit)) ⌝ }
 {
-    match entries::read_archive(s, codes, sums, counts) {
+    match reader::read_archive(s, codes, sums, counts) {
         ArchiveRead::Stop(n) => ArchiveRead::Stop(n),
         ArchiveRead::Entries { dims, bases, cells } => {
             judge_read(s, codes, sums, counts, dims, bases, cells)

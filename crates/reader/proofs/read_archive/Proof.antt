@@ -1,11 +1,11 @@
--- `entries::read_archive` meets its contract: the walk answers, and the rows of an archive whose fields are right are stored.
+-- `reader::read_archive` meets its contract: the walk answers, and the rows of an archive whose fields are right are stored.
 use mathlib.Core.Path.{sym, _∙_}
 use borrow.Author.Needs.{needs}
 use denote.Ref.{now}
 use Rattle.entries.specs.Reading.{walkArchive}
 use Rattle.entries.proofs.Fields.{stopped-stored}
-use Rattle.entries.proofs.read_archive.Statement.{statement}
-use Rattle.entries.proofs.read_archive.Tie as tie
+use Rattle.reader.proofs.read_archive.Statement.{statement}
+use Rattle.reader.proofs.read_archive.Tie as tie
 
 store-rows-requires : tie.Need-store-rows-requires
 store-rows-requires c κs = ((_, sym (c .before .before .before .before .before .before .check-archive .ensures) ∙ c .before .before .before .before .dims .given .1), (search needs, search needs, search needs))

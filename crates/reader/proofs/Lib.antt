@@ -1,0 +1,7 @@
+-- Laws of a reader, and the steps of its walks by hand.
+pub mod Names
+pub mod Calls
+pub mod Thin
+pub mod Reading
+pub mod Ends
+pub mod Outline

@@ -1,0 +1,2 @@
+-- An archive's sections, as a reader finds them.
+pub mod Sections
