@@ -7,7 +7,7 @@
 //! * `model`: the calls and the programs done naively, written from document 01
 //! * `write`: tables, archives and listings as bytes
 //! * `lent`: an output between guards
-//! * `compare`: the library and `good` held to the model
+//! * `compare`: the library and `good` held to the model; `printed`: the programs held to it
 //! * `cases`: inputs for each stop, and inputs that just miss it
 //! * `random`: a repeatable generator; random tables and archives
 //! * `kinds`: large tables of several kinds
@@ -22,6 +22,7 @@ pub mod kinds;
 pub mod lent;
 pub mod library;
 pub mod model;
+pub mod printed;
 pub mod program;
 pub mod random;
 pub mod write;

@@ -1,4 +1,5 @@
-//! The two programs, run through pipes. They come from the folder that CUBE_BIN names, or from ../target/bin.
+//! The two programs, run between pipes. They come from the folder that CUBE_BIN names, or from ../target/bin.
+use std::fs::File;
 use std::io::{ErrorKind, Read, Write};
 use std::path::PathBuf;
 use std::process::{Child, ChildStdin, ChildStdout, Command, ExitStatus, Stdio};
@@ -22,19 +23,25 @@ impl Program {
 
     /// What it prints for an input that comes in pieces, with a pause behind each.
     pub fn prints_for_pieces<'a>(self, pieces: impl IntoIterator<Item = &'a [u8]> + Send, pause: Duration) -> Vec<u8> {
-        run(Command::new(self.path()), |pipe| feed(pipe, pieces, pause), read_all)
+        run(Command::new(self.path()).stdin(Stdio::piped()), |pipe| feed(pipe, pieces, pause), read_all)
     }
 
-    /// What it prints for an input to a reader that takes so many bytes at a time, with a pause before each.
+    /// What it prints for a file, from the file's place on. The place moves by what it reads.
+    pub fn prints_for_file(self, file: &File) -> Vec<u8> {
+        run(Command::new(self.path()).stdin(file.try_clone().unwrap()), |_| (), read_all)
+    }
+
+    /// What it prints to a reader that takes so many bytes at a time, with a pause before each.
     pub fn prints_to_slow_reader(self, input: &[u8], size: usize, pause: Duration) -> Vec<u8> {
-        run(Command::new(self.path()), |pipe| feed(pipe, [input], Duration::ZERO), |pipe| read_slowly(pipe, size, pause))
+        let mut command = Command::new(self.path());
+        run(command.stdin(Stdio::piped()), |pipe| feed(pipe, [input], Duration::ZERO), |pipe| read_slowly(pipe, size, pause))
     }
 
     /// What it prints for an input with a stack of so many KiB.
     pub fn prints_with_stack(self, kib: u32, input: &[u8]) -> Vec<u8> {
         let mut shell = Command::new("sh");
         shell.arg("-c").arg(format!("ulimit -s {kib} && exec \"$0\"")).arg(self.path());
-        run(shell, |pipe| feed(pipe, [input], Duration::ZERO), read_all)
+        run(shell.stdin(Stdio::piped()), |pipe| feed(pipe, [input], Duration::ZERO), read_all)
     }
 
     fn path(self) -> PathBuf {
@@ -43,15 +50,15 @@ impl Program {
             Program::Builder => "builder",
             Program::Lister => "lister",
         });
-        assert!(path.is_file(), "no file {}: run 'rt check', or set CUBE_BIN", path.display());
+        assert!(path.is_file(), "no file {}: run 'rt check builder lister', or set CUBE_BIN", path.display());
         path
     }
 }
 
 /// What a command prints. It must end in time, with status 0 and nothing on standard error.
-fn run(mut command: Command, feed: impl FnOnce(ChildStdin) + Send, read: impl FnOnce(ChildStdout) -> Vec<u8> + Send) -> Vec<u8> {
-    let mut child = command.stdin(Stdio::piped()).stdout(Stdio::piped()).stderr(Stdio::piped()).spawn().unwrap();
-    let (input, output, errors) = (child.stdin.take().unwrap(), child.stdout.take().unwrap(), child.stderr.take().unwrap());
+fn run(command: &mut Command, feed: impl FnOnce(Option<ChildStdin>) + Send, read: impl FnOnce(ChildStdout) -> Vec<u8> + Send) -> Vec<u8> {
+    let mut child = command.stdout(Stdio::piped()).stderr(Stdio::piped()).spawn().unwrap();
+    let (input, output, errors) = (child.stdin.take(), child.stdout.take().unwrap(), child.stderr.take().unwrap());
     thread::scope(|threads| {
         threads.spawn(|| feed(input));
         let printed = threads.spawn(|| read(output));
@@ -78,7 +85,8 @@ fn end(child: &mut Child) -> ExitStatus {
 }
 
 /// Writes the pieces. A program need not take all of its input: a broken pipe ends the writing.
-fn feed<'a>(mut pipe: ChildStdin, pieces: impl IntoIterator<Item = &'a [u8]>, pause: Duration) {
+fn feed<'a>(pipe: Option<ChildStdin>, pieces: impl IntoIterator<Item = &'a [u8]>, pause: Duration) {
+    let mut pipe = pipe.unwrap();
     for piece in pieces {
         match pipe.write_all(piece) {
             Err(error) if error.kind() == ErrorKind::BrokenPipe => return,

@@ -1,49 +1,14 @@
-//! The builder and the lister, run through pipes: what they print is the model's, byte for byte.
+//! What the builder and the lister print: the model's, byte for byte.
 use calls::calls::Stop;
-use calls::cases::{archives, five_archive, five_table, tables, Case};
-use calls::compare::hex;
-use calls::model::programs::{builder, lister, MOST};
-use calls::model::{build, our_archive, Row, ALL};
+use calls::cases::{archives, five_archive, tables, Case};
+use calls::model::programs::refused;
+use calls::model::ALL;
+use calls::printed::{check, same};
 use calls::program::Program::{self, Builder, Lister};
 use calls::random::Random;
 use calls::write::{table_bytes, File};
 use calls::ROWS;
 use std::collections::BTreeSet;
-use std::iter::repeat;
-use std::sync::LazyLock;
-use std::time::Duration;
-
-const TOO_LONG: &[u8] = b"too long\n";
-
-fn refused(stop: Stop) -> Vec<u8> {
-    format!("refused {stop}\n").into_bytes()
-}
-
-fn ms(n: u64) -> Duration {
-    Duration::from_millis(n)
-}
-
-/// What the model prints.
-fn model(program: Program, input: &[u8]) -> Vec<u8> {
-    match program {
-        Builder => builder(input),
-        Lister => lister(input),
-    }
-}
-
-/// What a program printed is what it should print.
-fn same(program: Program, printed: &[u8], want: &[u8], what: &str) {
-    let from = printed.iter().zip(want).take_while(|(a, b)| a == b).count();
-    let shown = |s: &[u8]| format!("{} bytes, from {from} on: {}", s.len(), s[from..s.len().min(from + 400)].escape_ascii());
-    assert!(printed == want, "{program:?}, {what}\nprinted {}\nwanted {}", shown(printed), shown(want));
-}
-
-/// A program prints what the model prints; that.
-fn check(program: Program, input: &[u8], what: &str) -> Vec<u8> {
-    let printed = program.prints(input);
-    same(program, &printed, &model(program, input), &format!("{what}\n{}", hex(input)));
-    printed
-}
 
 /// The builder makes the model's archive of a table, and the lister prints this text of it. The archive.
 fn listed(sizes: &[u32], rows: &[(&[u32], i32)], text: &str) -> Vec<u8> {
@@ -132,41 +97,39 @@ fn numbers_of_every_length() {
     }
 }
 
-/// A random table through both programs, and the archive that it should have through the lister. Whether that was printed.
-fn random_table(table: &[u8], what: &str) -> bool {
-    let archive = build(table).unwrap();
-    let fits = archive.len() <= MOST;
-    same(Builder, &Builder.prints(table), &if fits { archive.clone() } else { refused(15) }, &format!("{what}\n{}", hex(table)));
+/// A table through the builder, and what that prints through the lister. Whether it is an archive.
+fn both(table: &[u8], what: &str) -> bool {
+    let archive = check(Builder, table, what);
     check(Lister, &archive, what);
-    fits
+    archive != refused(15)
 }
 
 #[test]
 fn random_tables() {
     let mut random = Random::seeded(601);
-    for i in 0..400 {
+    for i in 0..300 {
         let count = random.row_count();
         let table = random.table(1 + i % 8, count);
-        random_table(&table, &format!("table {i}"));
+        both(&table, &format!("table {i}"));
     }
 }
 
 #[test]
 fn random_tables_of_up_to_1024_rows() {
     let mut random = Random::seeded(602);
-    let mut fit = [0; 2];
-    for i in 0..40 {
+    let mut built = [0; 2];
+    for i in 0..24 {
         let count = random.pick(&[ROWS, ROWS - 1, 700, 300]);
         let table = random.table(1 + i % 8, count);
-        fit[random_table(&table, &format!("table {i}")) as usize] += 1;
+        built[both(&table, &format!("table {i}")) as usize] += 1;
     }
-    assert!(fit[0] > 0 && fit[1] > 0, "{} archives are above 65,536 bytes, {} are not", fit[0], fit[1]);
+    assert!(built[0] > 0 && built[1] > 0, "{} tables are refused, {} are not", built[0], built[1]);
 }
 
 #[test]
 fn random_archives() {
     let mut random = Random::seeded(603);
-    for i in 0..400 {
+    for i in 0..200 {
         let count = random.row_count().min(60);
         let archive = random.our_archive(1 + i % 8, count);
         check(Lister, &archive, &format!("archive {i}"));
@@ -188,128 +151,4 @@ fn the_stops_of_the_builder() {
 #[test]
 fn the_stops_of_the_lister() {
     stops(Lister, archives(), &[1, 2, 3, 4, 5, 6, 7, 8, 9, 10, 11, 12]);
-}
-
-/// A table at D 7 with 909 rows. No two rows share a code, but that the first rows, if any, share their first one: each of those lists a set
-/// less (4 bytes), and the archive has a normal entry more (40 bytes).
-fn table_of_909(sharing: u32) -> Vec<u8> {
-    let first = |i: u32| if i < sharing { 0 } else { i };
-    let rows: Vec<_> = (0..909).map(|i| ([&[first(i)], &[i; 6][..]].concat(), -1_000_000 * i as i32)).collect();
-    table_bytes(&[65_535; 7], &rows)
-}
-
-#[test]
-fn archives_of_about_65536_bytes() {
-    for (sharing, length) in [(11, 65_532), (10, 65_536), (9, 65_540), (2, 65_568)] {
-        let table = table_of_909(sharing);
-        let archive = build(&table).unwrap();
-        assert_eq!(archive.len(), length);
-        let what = format!("an archive of {length} bytes");
-        let fits = length <= 65_536;
-        same(Builder, &Builder.prints(&table), &if fits { archive.clone() } else { refused(15) }, &what);
-        assert_eq!(check(Lister, &archive, &what) != TOO_LONG, fits, "{what}");
-    }
-}
-
-/// A table, its archive of 65,536 bytes, and the text of that.
-struct Files {
-    table: Vec<u8>,
-    archive: Vec<u8>,
-    text: Vec<u8>,
-}
-
-static LONG: LazyLock<Files> = LazyLock::new(|| {
-    let table = table_of_909(0);
-    let archive = build(&table).unwrap();
-    assert_eq!(archive.len(), 65_536);
-    let text = lister(&archive);
-    Files { table, archive, text }
-});
-
-/// An archive whose text is longer than the 65,536 bytes that a pipe holds, and the text: 1,024 rows that differ in their first codes alone,
-/// with sums as long as they can be.
-fn long_text() -> (Vec<u8>, Vec<u8>) {
-    let row = |first: u32| Row { codes: [&[first], &[65_534; 7][..]].concat(), sum: 1_024 * i32::MIN as i64, count: 1_024 };
-    let archive = our_archive(&[65_535; 8], &(64_511..65_535).map(row).collect::<Vec<_>>());
-    let text = lister(&archive);
-    assert!(text.len() > 80_000, "{} bytes", text.len());
-    (archive, text)
-}
-
-#[test]
-fn inputs_of_about_65536_bytes() {
-    for (program, file) in [(Builder, five_table()), (Lister, five_archive())] {
-        for (front, stop) in [(&[][..], 1), (&file, 10)] {
-            let input = [front, &[0; 65_540]].concat();
-            for length in 65_533..65_540 {
-                let want = if length <= 65_536 { refused(stop) } else { TOO_LONG.to_vec() };
-                same(program, &program.prints(&input[..length]), &want, &format!("{length} bytes"));
-            }
-        }
-    }
-    same(Lister, &Lister.prints(&LONG.archive), &LONG.text, "an archive of 65,536 bytes");
-    same(Lister, &Lister.prints(&[&LONG.archive[..], &[0]].concat()), TOO_LONG, "the same and a byte");
-}
-
-/// The programs end without the rest of an input, though its writer is not done.
-#[test]
-fn inputs_far_above_65536_bytes() {
-    for program in [Builder, Lister] {
-        for piece in [vec![0; 1_000], vec![0; 4_096], vec![0; 100_000]] {
-            let pieces = repeat(&piece[..]);
-            let what = format!("pieces of {} bytes", piece.len());
-            same(program, &program.prints_for_pieces(pieces.clone().take(10_000_000 / piece.len()), ms(0)), TOO_LONG, &what);
-            same(program, &program.prints_for_pieces(pieces, ms(1)), TOO_LONG, &format!("{what} without end"));
-        }
-    }
-}
-
-/// A program prints this for an input in pieces of each of these sizes.
-fn in_pieces(program: Program, input: &[u8], want: &[u8], sizes: &[usize], pause: Duration) {
-    for &size in sizes {
-        let printed = program.prints_for_pieces(input.chunks(size), pause);
-        same(program, &printed, want, &format!("{} bytes in pieces of {size}", input.len()));
-    }
-}
-
-#[test]
-fn short_inputs_in_pieces() {
-    let (table, archive) = (five_table(), five_archive());
-    in_pieces(Builder, &table, &archive, &[1, 5, 100], ms(2));
-    in_pieces(Lister, &archive, &lister(&archive), &[1, 5, 100], ms(2));
-}
-
-#[test]
-fn long_inputs_in_pieces() {
-    let Files { table, archive, text } = &*LONG;
-    let above = [&archive[..], &[0]].concat();
-    in_pieces(Builder, table, archive, &[1_000, 4_095, 4_096, 4_097], ms(2));
-    in_pieces(Lister, archive, text, &[1_000, 4_095, 4_096, 4_097], ms(2));
-    in_pieces(Lister, archive, text, &[32_768, 65_535], ms(50));
-    in_pieces(Lister, &above, TOO_LONG, &[1_000, 4_096], ms(2));
-    in_pieces(Lister, &above, TOO_LONG, &[65_535, 65_536], ms(50));
-}
-
-#[test]
-fn output_to_a_slow_reader() {
-    let (archive, text) = long_text();
-    for (program, input, want) in [(Builder, &LONG.table, &LONG.archive), (Lister, &archive, &text)] {
-        for (size, pause) in [(1, ms(0)), (1_000, ms(1)), (4_096, ms(5)), (100_000, ms(200))] {
-            let printed = program.prints_to_slow_reader(input, size, pause);
-            same(program, &printed, want, &format!("a reader of {size} bytes at a time"));
-        }
-    }
-}
-
-#[test]
-fn a_stack_of_2_mib() {
-    let see = |program: Program, input: &[u8], want: &[u8]| same(program, &program.prints_with_stack(2_048, input), want, "2 MiB");
-    see(Builder, &LONG.table, &LONG.archive);
-    see(Builder, &[0; 65_537], TOO_LONG);
-    see(Lister, &LONG.archive, &LONG.text);
-    see(Lister, &[0; 65_537], TOO_LONG);
-    let (archive, text) = long_text();
-    see(Lister, &archive, &text);
-    let rows: Vec<_> = (0..1_024).map(|i| (vec![i; 8], 1)).collect();
-    see(Builder, &table_bytes(&[65_535; 8], &rows), &refused(15));
 }

@@ -6,6 +6,12 @@ use crate::calls::Stop;
 /// The most bytes that the programs read, and that the builder lends.
 pub const MOST: usize = 65_536;
 
+pub const TOO_LONG: &[u8] = b"too long\n";
+
+pub fn refused(stop: Stop) -> Vec<u8> {
+    format!("refused {stop}\n").into_bytes()
+}
+
 pub fn builder(input: &[u8]) -> Vec<u8> {
     limited(input, |table| Ok(fit(&build(table)?, MOST)?.to_vec()))
 }
@@ -16,7 +22,7 @@ pub fn lister(input: &[u8]) -> Vec<u8> {
 
 fn limited(input: &[u8], make: impl Fn(&[u8]) -> Result<Vec<u8>, Stop>) -> Vec<u8> {
     if input.len() > MOST {
-        return b"too long\n".to_vec();
+        return TOO_LONG.to_vec();
     }
-    make(input).unwrap_or_else(|stop| format!("refused {stop}\n").into_bytes())
+    make(input).unwrap_or_else(refused)
 }
