@@ -1,12 +1,13 @@
-//! The five calls of the library, called from Rust, and what its tests hold them to.
+//! The five calls of the library, called from Rust, the two programs, run through pipes, and what the tests hold both to.
 //!
 //! * `calls`: the five calls as a trait
 //! * `library`: the calls through the C interface of libcube_archive.a
 //! * `good`: the calls as fast plain Rust, for times
-//! * `model`: the calls done naively, written from document 01
+//! * `program`: the builder and the lister
+//! * `model`: the calls and the programs done naively, written from document 01
 //! * `write`: tables, archives and listings as bytes
 //! * `lent`: an output between guards
-//! * `compare`: the library and `good` held to the model
+//! * `compare`: the library and `good` held to the model; `printed`: the programs held to it
 //! * `cases`: inputs for each stop, and inputs that just miss it
 //! * `random`: a repeatable generator; random tables and archives
 //! * `kinds`: large tables of several kinds
@@ -21,6 +22,8 @@ pub mod kinds;
 pub mod lent;
 pub mod library;
 pub mod model;
+pub mod printed;
+pub mod program;
 pub mod random;
 pub mod write;
 

@@ -1,10 +1,14 @@
-//! A naive model of the five calls, written from document 01 alone: its definitions in `cube`, its stops in checking order in `fields` and here.
+//! A naive model of the five calls and the two programs, written from document 01 alone: its definitions in `cube`, its stops in checking
+//! order in `fields` and here, what the programs print in `listing` and `programs`.
 pub mod cube;
 pub mod fields;
+mod listing;
+pub mod programs;
 
 use crate::calls::{Found, Stop};
 use crate::write::{archive_bytes, cuboid_bytes};
 pub use cube::{Base, Row, ALL};
+pub use listing::listing;
 
 /// Our archive of base rows.
 pub fn our_archive(sizes: &[u32], rows: &[Row]) -> Vec<u8> {
