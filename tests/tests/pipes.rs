@@ -51,14 +51,14 @@ static LONG: LazyLock<Files> = LazyLock::new(|| {
     Files { table, archive, text }
 });
 
-/// An archive whose text is longer than the 65,536 bytes that a pipe holds, and the text: 512 rows and 512 rows that differ in their first
-/// codes alone, with sums as long as they can be.
+/// An archive whose text is longer than the 65,536 bytes that a pipe holds, and the text: 99 times the eight rows
+/// that two codes on each dimension make, with sums as long as they can be.
 static LONG_TEXT: LazyLock<(Vec<u8>, Vec<u8>)> = LazyLock::new(|| {
-    let codes = |first: u32| [&[first], &[65_533 + first % 2; 7][..]].concat();
-    let rows: Vec<_> = (64_511..65_535).map(|first| Row { codes: codes(first), sum: 1_024 * i32::MIN as i64, count: 1_024 }).collect();
-    let archive = our_archive(&[65_535; 8], &rows);
+    let codes = |i: u32| [4, 2, 1].map(|bit| 65_336 + i / 8 * 2 + (i & bit != 0) as u32).to_vec();
+    let rows: Vec<_> = (0..99 * 8).map(|i| Row { codes: codes(i), sum: 1_323 * i32::MIN as i64, count: 1_323 }).collect();
+    let archive = our_archive(&[65_535; 3], &rows);
     let text = lister(&archive);
-    assert!(text.len() > 85_000, "{} bytes", text.len());
+    assert!(text.len() > 90_000, "{} bytes", text.len());
     (archive, text)
 });
 
