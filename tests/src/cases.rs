@@ -7,7 +7,7 @@ mod tables;
 
 use crate::calls::Stop;
 use crate::model::ALL;
-use crate::write::File;
+use crate::write::{table_bytes, File};
 
 pub struct Case {
     /// The stop that the case is about.
@@ -56,14 +56,31 @@ pub fn archives() -> Vec<Case> {
     cases.all
 }
 
-/// The table of the five-row example.
-pub fn five_table() -> Vec<u8> {
-    let f = File::table().head(&[7, 6, 3], 5);
-    let f = f.words(&[0, 1, 1]).reading(50).words(&[1, 1, 1]).reading(100).words(&[2, 3, 1]).reading(60);
-    f.words(&[4, 5, 1]).reading(70).words(&[6, 5, 2]).reading(80).closed()
+/// The rows of the five-row example.
+pub fn five_rows() -> Vec<(Vec<u32>, i32)> {
+    vec![(vec![0, 1, 1], 50), (vec![1, 1, 1], 100), (vec![2, 3, 1], 60), (vec![4, 5, 1], 70), (vec![6, 5, 2], 80)]
 }
 
-/// The archive of the five-row example, from what the lister prints of it.
+/// Their table.
+pub fn five_table() -> Vec<u8> {
+    table_bytes(&[7, 6, 3], &five_rows())
+}
+
+/// What the lister prints of their archive.
+pub const FIVE_TEXT: &str = "3 5 5
+0 1 1 50 1 : 1
+1 1 1 100 1 : 1
+2 3 1 60 1 : 1 2
+4 5 1 70 1 : 1 6
+6 5 2 80 1 : 1 4
+* * * 360 5
+* 1 * 150 2
+* 5 * 150 2
+* * 1 280 4
+* 1 1 150 2
+";
+
+/// Their archive, from that text.
 pub fn five_archive() -> Vec<u8> {
     let f = File::archive().head(&[7, 6, 3], 5);
     let f = f.base(&[0, 1, 1], 50, 1, &[1]).base(&[1, 1, 1], 100, 1, &[1]).base(&[2, 3, 1], 60, 1, &[1, 2]);

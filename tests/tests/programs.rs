@@ -1,6 +1,6 @@
 //! What the builder and the lister print: the model's, byte for byte.
 use calls::calls::Stop;
-use calls::cases::{archives, five_archive, tables, Case};
+use calls::cases::{archives, five_archive, five_table, tables, Case, FIVE_TEXT};
 use calls::model::programs::refused;
 use calls::model::ALL;
 use calls::printed::{check, same};
@@ -20,20 +20,8 @@ fn listed(sizes: &[u32], rows: &[(&[u32], i32)], text: &str) -> Vec<u8> {
 
 #[test]
 fn the_five_rows() {
-    let rows: [(&[u32], i32); 5] = [(&[0, 1, 1], 50), (&[1, 1, 1], 100), (&[2, 3, 1], 60), (&[4, 5, 1], 70), (&[6, 5, 2], 80)];
-    let text = "3 5 5
-0 1 1 50 1 : 1
-1 1 1 100 1 : 1
-2 3 1 60 1 : 1 2
-4 5 1 70 1 : 1 6
-6 5 2 80 1 : 1 4
-* * * 360 5
-* 1 * 150 2
-* 5 * 150 2
-* * 1 280 4
-* 1 1 150 2
-";
-    let archive = listed(&[7, 6, 3], &rows, text);
+    let archive = check(Builder, &five_table(), "the five rows");
+    same(Lister, &Lister.prints(&archive), FIVE_TEXT.as_bytes(), "the five rows");
     assert_eq!((archive.len(), &archive), (324, &five_archive()));
 }
 
