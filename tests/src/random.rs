@@ -54,4 +54,18 @@ impl Random {
             _ => self.draw() as u32,
         }
     }
+
+    /// An opening and fewer than `limit` words, most of them small.
+    pub fn words(&mut self, opening: &[u8; 4], limit: u64) -> Vec<u8> {
+        let mut bytes = opening.to_vec();
+        for _ in 0..self.below(limit) {
+            let word = match self.below(4) {
+                0 => self.any_word(),
+                1 => 0,
+                _ => self.below(4) as u32,
+            };
+            bytes.extend(word.to_le_bytes());
+        }
+        bytes
+    }
 }

@@ -113,15 +113,7 @@ fn bytes_of_no_archive() {
     let mut random = Random::seeded(108);
     let mut compare = Compare::new();
     for i in 0..30_000 {
-        let mut s = b"CUBE".to_vec();
-        for _ in 0..random.below(24) {
-            let word = match random.below(4) {
-                0 => random.any_word(),
-                1 => 0,
-                _ => random.below(4) as u32,
-            };
-            s.extend(word.to_le_bytes());
-        }
+        let mut s = random.words(b"CUBE", 24);
         drop(compare.archive(&s, &format!("words {i}")));
         mend(&mut s);
         drop(compare.archive(&s, &format!("words {i}, check word mended")));

@@ -125,15 +125,7 @@ fn bytes_of_no_table() {
     let mut random = Random::seeded(209);
     let mut compare = Compare::new();
     for i in 0..30_000 {
-        let mut s = b"FACT".to_vec();
-        for _ in 0..random.below(20) {
-            let word = match random.below(5) {
-                0 => random.any_word(),
-                1 => 0,
-                _ => random.below(4) as u32,
-            };
-            s.extend(word.to_le_bytes());
-        }
+        let mut s = random.words(b"FACT", 20);
         drop(compare.table(&s, &format!("words {i}")));
         mend(&mut s);
         drop(compare.table(&s, &format!("words {i}, check word mended")));
