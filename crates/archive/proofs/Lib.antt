@@ -1,9 +1,5 @@
 -- Why the calls keep what they promise.
-pub mod Answers
-pub mod Entries
 pub mod Opened
-pub mod Made
-pub mod Folded
-pub mod Building
-pub mod Promises
-pub mod Examples
+pub mod Outcomes
+pub mod Asked
+pub mod Normals

@@ -1,3 +1,2 @@
--- What the five calls answer, and what they leave in the output that they are lent.
-pub mod Answers
-pub mod Calls
+-- What the code knows of an accepted archive.
+pub mod Accepts

@@ -1,11 +1,11 @@
 // The five calls for other languages: each answers one number, 2^63 plus a stop's number where it stops.
-use archive::Checked;
-use archive::Found;
-use archive::Written;
+use calls::Checked;
+use calls::Found;
+use calls::Written;
 ghost use mathlib.Core.Path.{_≡_};
 ghost use lib.ListN.{length};
-ghost use Rattle.archive.specs.Answers.{within, answerOf, leftOf};
-ghost use Rattle.archive.specs.Calls.{builds, checks, listsCuboid, expands, looksUp};
+ghost use Rattle.calls.specs.Answers.{within, answerOf, leftOf};
+ghost use Rattle.calls.specs.Calls.{builds, checks, listsCuboid, expands, looksUp};
 ghost use Rattle.cube_archive.specs.Numbers.{writtenNumber, checkedNumber, foundNumber, sumLeft, countLeft, entryLeft};
 
 // The number of a call that writes an output.
@@ -24,7 +24,7 @@ pub extern "C" fn cube_build(table: &[u8], out: &mut [u8]) -> u64
     ensures { λ r. ⌜ r ≡ writtenNumber (answerOf (within (length (now (out .entry))) (builds (now (table .entry))))) ⌝ }
     ensures { λ _. ⌜ now (out .exit) ≡ leftOf (within (length (now (out .entry))) (builds (now (table .entry)))) (now (out .entry)) ⌝ }
 {
-    number(archive::build(table, out))
+    number(build::build(table, out))
 }
 
 // Checks an archive: the base count plus 2^32 times the normal count.

@@ -20,7 +20,7 @@ use Rattle.table.specs.Layout.{tableBytes}
 use Rattle.table.specs.Reading.{row, body, readTable}
 use Rattle.entries.specs.Layout.{cellBytes, baseBytes, layout, required, archiveBytes}
 use Rattle.entries.specs.Reading.{rising, fair, amount, list, entry, entries, bases, cell, cells, walkArchive, readArchive}
-use Rattle.archive.specs.Calls.{builds}
+use Rattle.calls.specs.Calls.{builds}
 use Rattle.decimals.specs.Decimals.{ascii, digitsIn, decimal, integer}
 use Rattle.lines.specs.Lines.{codeText, rowText, setText, baseText, cellText, headText}
 use Rattle.listing.specs.Listing.{listing}

@@ -15,11 +15,11 @@ use Rattle.decimals.specs.Decimals.{ascii, decimal}
 use Rattle.walk.specs.Parsed.{Parsed, stop, got}
 use Rattle.entries.specs.Layout.{Held}
 use Rattle.entries.specs.Reading.{readArchive}
-use Rattle.archive.specs.declared.Written.{Written}
-use Rattle.archive.specs.declared.Written.the-variants as Write
-use Rattle.archive.specs.declared.Checked.the-variants as Check
-use Rattle.archive.specs.Answers.{Outcome, stop as stopped, bytes, within, answerOf, leftOf, Answered}
-use Rattle.archive.specs.Calls.{builds, counted, checks}
+use Rattle.calls.specs.declared.Written.{Written}
+use Rattle.calls.specs.declared.Written.the-variants as Write
+use Rattle.calls.specs.declared.Checked.the-variants as Check
+use Rattle.calls.specs.Answers.{Outcome, stop as stopped, bytes, within, answerOf, leftOf, Answered}
+use Rattle.calls.specs.Calls.{builds, counted, checks}
 use Rattle.listing.specs.Listing.{listing, heldBy, Accepted}
 use Rattle.programs.specs.Programs.{most, refused, limited, builtText, builder, listedText, lister}
 

@@ -14,9 +14,9 @@ use Rattle.table.specs.Reading.{readTable, baseRows}
 use Rattle.table.proofs.Accepted.{table-forth}
 use Rattle.table.proofs.Lengths.{table-length}
 use Rattle.entries.specs.Layout.{required, archiveBytes}
-use Rattle.archive.specs.Answers.{Outcome, within}
-use Rattle.archive.specs.Calls.{builds}
-use Rattle.archive.proofs.Promises as Archive
+use Rattle.calls.specs.Answers.{Outcome, within}
+use Rattle.calls.specs.Calls.{builds}
+use Rattle.promises.proofs.Promises as Archive
 use Rattle.listing.specs.Listing.{listing}
 use Rattle.programs.specs.Programs.{most, refused, builtText, builder, listedText, lister}
 use Rattle.programs.proofs.Printed.{short-text, lister-short}

@@ -17,8 +17,8 @@ use Rattle.decimals.specs.Decimals.{ascii, decimal}
 use Rattle.walk.specs.Parsed.{Parsed, stop, got}
 use Rattle.entries.specs.Layout.{Held}
 use Rattle.entries.specs.Reading.{readArchive}
-use Rattle.archive.specs.Answers.{Outcome, stop as stopped, bytes, within}
-use Rattle.archive.specs.Calls.{builds}
+use Rattle.calls.specs.Answers.{Outcome, stop as stopped, bytes, within}
+use Rattle.calls.specs.Calls.{builds}
 use Rattle.listing.specs.Listing.{listing}
 
 abbrev pub most : ℕ

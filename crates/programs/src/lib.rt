@@ -1,12 +1,15 @@
 // What the two programs print for their input, written over the front of the bytes that are lent.
-use archive::Checked;
-use archive::Written;
+use calls::Checked;
+use calls::Written;
 ghost use mathlib.Core.Path.{_≡_};
 ghost use Prim.Native.Nat.{_≤_};
 ghost use lib.ListN.{length};
 ghost use Rattle.decimals.specs.Decimals.{ascii};
 ghost use Rattle.fields.specs.Written.{Wrote};
 ghost use Rattle.programs.specs.Programs.{refused, builder, lister};
+
+// The most bytes that a program reads.
+const MOST: usize = 65536;
 
 // Writes the line of a stop.
 fn put_refused(out: &mut [u8], stop: u32) -> usize
@@ -31,10 +34,10 @@ pub fn build_text(input: &[u8], out: &mut [u8]) -> usize
     requires { ⌜ length (now out) ≡ 65536 ⌝ }
     ensures { λ r. ⌜ Wrote (builder (now (input .entry))) (now (out .entry)) (now (out .exit)) r ⌝ }
 {
-    if input.len() > 65536 {
+    if input.len() > MOST {
         return put_too_long(out);
     }
-    match archive::build(input, out) {
+    match build::build(input, out) {
         Written::Length(n) => n,
         Written::Stop(n) => put_refused(out, n),
     }
@@ -45,7 +48,7 @@ pub fn list_text(input: &[u8], out: &mut [u8]) -> usize
     requires { ⌜ 180224 ≤ length (now out) ⌝ }
     ensures { λ r. ⌜ Wrote (lister (now (input .entry))) (now (out .entry)) (now (out .exit)) r ⌝ }
 {
-    if input.len() > 65536 {
+    if input.len() > MOST {
         return put_too_long(out);
     }
     match archive::check(input) {

@@ -3,5 +3,3 @@ pub mod Names
 pub mod Calls
 pub mod Thin
 pub mod Reading
-pub mod Ends
-pub mod Outline

@@ -13,7 +13,7 @@ use Rattle.walk.specs.declared.Walk.{Walk}
 use Rattle.walk.specs.declared.Walk.the-variants.{Stop, At}
 use Rattle.walk.proofs.Walk as S
 use Rattle.walk.proofs.Walk.Laws as S′
-use Rattle.reader.specs.Sections.{readerAt}
+use Rattle.reader.specs.Place.{readerAt}
 use Rattle.reader.specs.declared.Reader.{Reader}
 use Rattle.reader.proofs.Calls.{contractOf, handed, calling}
 use Rattle.reader.proofs.Thin as Thin

@@ -1,2 +1,2 @@
--- An archive's sections, as a reader finds them.
-pub mod Sections
+-- A reader as a value.
+pub mod Place

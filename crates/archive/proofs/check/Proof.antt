@@ -1,7 +1,7 @@
 -- `archive::check` meets its contract: the reader's answer without D.
 use mathlib.Core.Path.{sym, _∙_}
 use denote.Ref.{now}
-use Rattle.archive.proofs.Opened.{check-refused, check-passed}
+use Rattle.archive.proofs.Outcomes.{check-refused, check-passed}
 use borrow.Author.Needs.{needs}
 use Rattle.archive.proofs.check.Statement.{statement}
 use Rattle.archive.proofs.check.Tie as tie

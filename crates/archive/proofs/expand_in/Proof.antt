@@ -1,8 +1,8 @@
 -- `archive::expand_in` meets its contract: the reader's stops, or the expansion of an archive that it accepts.
 use mathlib.Core.Path.{sym, _∙_}
 use denote.Ref.{now}
-use Rattle.archive.proofs.Answers.{stopped}
-use Rattle.archive.proofs.Opened.{expand-refused}
+use Rattle.calls.proofs.Answers.{stopped}
+use Rattle.archive.proofs.Outcomes.{expand-refused}
 use borrow.Author.Needs.{needs}
 use Rattle.archive.proofs.expand_in.Statement.{statement}
 use Rattle.archive.proofs.expand_in.Tie as tie

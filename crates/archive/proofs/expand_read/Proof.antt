@@ -1,22 +1,20 @@
 -- `archive::expand_read` meets its contract: the expansion is written where there is room.
 use mathlib.Core.Path.{sym}
-use Prim.Native.Nat.{_*_}
-use native.Mathlib.Nat.{mul-le-mul}
 use native.Mathlib.Omega.{arith}
 use denote.Ref.{now}
-use lib.ListN.{take}
 use Rattle.walk.proofs.Limits.{bytes-of}
-use Rattle.archive.proofs.Answers.{answered-as}
-use Rattle.archive.proofs.Opened.{Opened, opened, expand-bytes}
+use Rattle.calls.proofs.Answers.{answered-as}
+use Rattle.archive.proofs.Opened.{OpenedIn, opened, opened-small}
+use Rattle.archive.proofs.Outcomes.{expand-bytes}
 use borrow.Author.Needs.{needs}
 use Rattle.archive.proofs.expand_read.Statement.{statement}
 use Rattle.archive.proofs.expand_read.Tie as tie
 
-rows-in : (c : tie.After-shared-slice-known) → (let a = c .before .args in Opened (now (a .s)) (a .dims) (a .bases) (a .cells) (take (a .bases * a .dims) (now (a .codes))) (take (a .bases) (now (a .sums))) (take (a .bases) (now (a .counts))))
+rows-in : (c : tie.After-shared-slice-known) → (let a = c .before .args in OpenedIn (now (a .s)) (a .dims) (a .bases) (a .cells) (now (a .codes)) (now (a .sums)) (now (a .counts)))
 rows-in c = opened (bytes-of (now (c .before .args .s)) (λ i. omega (arith, c .shared-slice-known .given i))) (c .before .pre)
 
 mul-size : tie.Need-mul-size
-mul-size c = let r = rows-in (c .before .before .before) .ready in let m = mul-le-mul (r .few) (r .dims) in omega (arith, m)
+mul-size c = omega (arith, opened-small (rows-in (c .before .before .before)))
 
 slice-aggregate-fit-expansion : tie.Need-slice-aggregate-fit-expansion
 slice-aggregate-fit-expansion c = rows-in (c .before .before .before .before .before) .ready .size

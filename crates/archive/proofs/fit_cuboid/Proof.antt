@@ -2,7 +2,7 @@
 use mathlib.Core.Path.{refl}
 use native.Mathlib.Omega.{arith}
 use denote.Ref.{now}
-use Rattle.archive.proofs.Answers.{no-room, done}
+use Rattle.calls.proofs.Answers.{no-room, done}
 use borrow.Author.Needs.{needs}
 use Rattle.archive.proofs.fit_cuboid.Statement.{statement}
 use Rattle.archive.proofs.fit_cuboid.Tie as tie

@@ -1,8 +1,8 @@
 -- `archive::list_in` meets its contract: the reader's stops, or the cuboid of an archive that it accepts.
 use mathlib.Core.Path.{sym, _∙_}
 use denote.Ref.{now}
-use Rattle.archive.proofs.Answers.{stopped}
-use Rattle.archive.proofs.Opened.{list-refused}
+use Rattle.calls.proofs.Answers.{stopped}
+use Rattle.archive.proofs.Outcomes.{list-refused}
 use borrow.Author.Needs.{needs}
 use Rattle.archive.proofs.list_in.Statement.{statement}
 use Rattle.archive.proofs.list_in.Tie as tie

@@ -1,18 +1,16 @@
 -- `archive::list_read` meets its contract: the set's number is tested, then the cuboid is written where there is room.
 use mathlib.Core.Path.{sym}
-use Prim.Native.Nat.{_*_}
-use native.Mathlib.Nat.{mul-le-mul}
 use native.Mathlib.Omega.{arith}
 use denote.Ref.{now}
-use lib.ListN.{take}
 use Rattle.walk.proofs.Limits.{bytes-of}
-use Rattle.archive.proofs.Answers.{stopped, answered-as}
-use Rattle.archive.proofs.Opened.{Opened, opened, list-stopped, list-bytes}
+use Rattle.calls.proofs.Answers.{stopped, answered-as}
+use Rattle.archive.proofs.Opened.{OpenedIn, opened, opened-small}
+use Rattle.archive.proofs.Outcomes.{list-stopped, list-bytes}
 use borrow.Author.Needs.{needs}
 use Rattle.archive.proofs.list_read.Statement.{statement}
 use Rattle.archive.proofs.list_read.Tie as tie
 
-rows-in : (c : tie.After-shared-slice-known) → (let a = c .before .args in Opened (now (a .s)) (a .dims) (a .bases) (a .cells) (take (a .bases * a .dims) (now (a .codes))) (take (a .bases) (now (a .sums))) (take (a .bases) (now (a .counts))))
+rows-in : (c : tie.After-shared-slice-known) → (let a = c .before .args in OpenedIn (now (a .s)) (a .dims) (a .bases) (a .cells) (now (a .codes)) (now (a .sums)) (now (a .counts)))
 rows-in c = opened (bytes-of (now (c .before .args .s)) (λ i. omega (arith, c .shared-slice-known .given i))) (c .before .pre)
 
 sets-of-requires : tie.Need-sets-of-requires
@@ -22,7 +20,7 @@ returns : tie.Need-returns
 returns c = stopped (now (c .before .before .before .before .before .before .args .out)) (list-stopped (rows-in (c .before .before .before .before .before)) (omega (arith, c .if1 .taken, c .before .sets-of .ensures)))
 
 mul-size : tie.Need-mul-size
-mul-size c = let r = rows-in (c .before .before .before .before .before) .ready in let m = mul-le-mul (r .few) (r .dims) in omega (arith, m)
+mul-size c = omega (arith, opened-small (rows-in (c .before .before .before .before .before)))
 
 slice-aggregate-fit-cuboid : tie.Need-slice-aggregate-fit-cuboid
 slice-aggregate-fit-cuboid c = rows-in (c .before .before .before .before .before .before .before) .ready .size

@@ -1,7 +1,7 @@
 -- `archive::look_in` meets its contract: the reader's stops, or the answer of an archive that it accepts.
 use mathlib.Core.Path.{sym, _∙_}
 use denote.Ref.{now}
-use Rattle.archive.proofs.Opened.{look-refused}
+use Rattle.archive.proofs.Outcomes.{look-refused}
 use borrow.Author.Needs.{needs}
 use Rattle.archive.proofs.look_in.Statement.{statement}
 use Rattle.archive.proofs.look_in.Tie as tie

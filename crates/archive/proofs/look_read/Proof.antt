@@ -7,34 +7,31 @@ use mathlib.Core.Bool.{true}
 use mir.Syntax.{w64}
 use mir.Facts.{toZ-ofZ}
 use denote.Ref.{now}
-use lib.ListN.{take}
 use borrow.Author.Tests.{not-true, not-false}
 use Rattle.fields.specs.Words.{wordsAt}
-use Rattle.walk.specs.Limits.{Bytes}
 use Rattle.walk.proofs.Limits.{bytes-of}
 use Rattle.questions.specs.Questions.{asks}
-use Rattle.archive.proofs.Opened.{Opened, opened, opened-long, look-stopped, look-long, look-told, normals-room, normals-held}
+use Rattle.archive.proofs.Opened.{OpenedIn, opened, opened-small}
+use Rattle.archive.proofs.Asked.{look-stopped, look-long, look-told}
+use Rattle.archive.proofs.Normals.{opened-long, normals-room, normals-held}
 use borrow.Author.Needs.{needs}
 use Rattle.archive.proofs.look_read.Statement.{statement}
 use Rattle.archive.proofs.look_read.Tie as tie
 
-are-bytes : (c : tie.After-shared-slice-known) → Bytes (now (c .before .args .s))
-are-bytes c = bytes-of (now (c .before .args .s)) (λ i. omega (arith, c .shared-slice-known .given i))
-
-rows-in : (c : tie.After-shared-slice-known) → (let a = c .before .args in Opened (now (a .s)) (a .dims) (a .bases) (a .cells) (take (a .bases * a .dims) (now (a .codes))) (take (a .bases) (now (a .sums))) (take (a .bases) (now (a .counts))))
-rows-in c = opened (are-bytes c) (c .before .pre)
+rows-in : (c : tie.After-shared-slice-known) → (let a = c .before .args in OpenedIn (now (a .s)) (a .dims) (a .bases) (a .cells) (now (a .codes)) (now (a .sums)) (now (a .counts)))
+rows-in c = opened (bytes-of (now (c .before .args .s)) (λ i. omega (arith, c .shared-slice-known .given i))) (c .before .pre)
 
 fits-requires : tie.Need-fits-requires
-fits-requires c κs = opened-long (rows-in (c .before .before .before)) (are-bytes (c .before .before .before))
+fits-requires c κs = opened-long (rows-in (c .before .before .before))
 
 returns : tie.Need-returns
 returns c = look-stopped (rows-in (c .before .before .before .before .before)) (now (c .before .before .before .before .before .before .args .question)) (sym (not-true _ (c .if1 .taken)) ∙ c .before .fits2 .ensures)
 
 mul-size : tie.Need-mul-size
-mul-size c = let r = rows-in (c .before .before .before .before .before) .ready in let m = mul-le-mul (r .few) (r .dims) in omega (arith, m)
+mul-size c = omega (arith, opened-small (rows-in (c .before .before .before .before .before)))
 
 sub-at : tie.Need-sub-at
-sub-at c = omega (arith, normals-room (rows-in (c .before .before .before .before .before)) (are-bytes (c .before .before .before .before .before)))
+sub-at c = omega (arith, normals-room (rows-in (c .before .before .before .before .before)))
 
 mul-at-2 : tie.Need-mul-at-2
 mul-at-2 c =
@@ -44,7 +41,7 @@ mul-at-2 c =
     omega (arith, m)
 
 sub-at-2 : tie.Need-sub-at-2
-sub-at-2 c = omega (arith, normals-room (rows-in (c .before .before .before .before .before)) (are-bytes (c .before .before .before .before .before)))
+sub-at-2 c = omega (arith, normals-room (rows-in (c .before .before .before .before .before)))
 
 -- the question fits
 asked : (c : tie.Else1) → true ≡ asks (wordsAt (now (c .before .before .before .before .before .before .args .s)) (c .before .before .before .before .before .before .args .dims) 8) (now (c .before .before .before .before .before .before .args .question))
@@ -62,15 +59,15 @@ slice-aggregate-answer-3 c = sym (rows-in (c .before .before .before .before .be
 answer-requires : tie.Need-answer-requires
 answer-requires c κs =
     let o = rows-in (c .before .before .before .before .before .before .before .before) in
-    ((o .ready, look-long o (now (c .before .before .before .before .before .before .before .before .before .args .question)) (asked (c .before .before .before))), normals-held o (are-bytes (c .before .before .before .before .before .before .before .before)))
+    ((o .ready, look-long o (now (c .before .before .before .before .before .before .before .before .before .args .question)) (asked (c .before .before .before))), normals-held o)
 
 returns-2 : tie.Need-returns-2
-returns-2 c = look-told (rows-in (c .before .before .before .before .before .before .before .before .before .before .before)) (now (c .before .before .before .before .before .before .before .before .before .before .before .before .args .question)) (are-bytes (c .before .before .before .before .before .before .before .before .before .before .before)) (asked (c .before .before .before .before .before .before)) (sym (c .enum-told .given .1) ∙ c .before .before .answer .ensures)
+returns-2 c = look-told (rows-in (c .before .before .before .before .before .before .before .before .before .before .before)) (now (c .before .before .before .before .before .before .before .before .before .before .before .before .args .question)) (asked (c .before .before .before .before .before .before)) (sym (c .enum-told .given .1) ∙ c .before .before .answer .ensures)
 
 returns-3 : tie.Need-returns-3
 returns-3 c =
     rw (toZ-ofZ {w = w64} {z = c .before .sum .given .0 .0} (record { sfits = c .known-told .given .0 .1 }))
-    (look-told (rows-in (c .before .before .before .before .before .before .before .before .before .before .before .before)) (now (c .before .before .before .before .before .before .before .before .before .before .before .before .before .args .question)) (are-bytes (c .before .before .before .before .before .before .before .before .before .before .before .before)) (asked (c .before .before .before .before .before .before .before)) (sym (c .before .sum .given .1) ∙ c .before .before .before .answer .ensures))
+    (look-told (rows-in (c .before .before .before .before .before .before .before .before .before .before .before .before)) (now (c .before .before .before .before .before .before .before .before .before .before .before .before .before .args .question)) (asked (c .before .before .before .before .before .before .before)) (sym (c .before .sum .given .1) ∙ c .before .before .before .answer .ensures))
 
 pub look-read-spec : {M : Type 1} → statement M
 look-read-spec =

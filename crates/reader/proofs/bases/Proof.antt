@@ -3,10 +3,10 @@ use contract.Running.{givenOf}
 use denote.Enum.Laws as EL
 use Rattle.walk.proofs.Walk as R
 use Rattle.walk.proofs.Walk.Laws as R′
-use Rattle.reader.proofs.Outline.{Base}
+use Rattle.sections.proofs.Outline.{Base}
 use Rattle.reader.proofs.Thin.{thin}
-use Rattle.reader.proofs.bases_at.Symbol as g
-use Rattle.reader.proofs.bases_at.Met as g-thm
+use Rattle.sections.proofs.bases_at.Symbol as g
+use Rattle.sections.proofs.bases_at.Met as g-thm
 use Rattle.reader.proofs.bases.Key.{name}
 use Rattle.reader.proofs.bases.Statement as stated
 use Rattle.reader.proofs.bases.Code as code
@@ -15,4 +15,4 @@ pub bases-spec : {M : Type 1} → stated.statement M
 unfolding code.routine
 bases-spec 𝓤 H 𝓜 𝓖 𝓡 =
     thin R.the-row Base R′.mir g.name (λ x u is. EL.lawful R.the-type R′.the-laws 𝓤 H (𝓖 .A) (givenOf 𝓤 H 𝓜 𝓖) tt .typed x _ is .0) 𝓤 H 𝓜 𝓖 𝓡
-    name code.env (code.unfolded 𝓤 H 𝓜 𝓡) g.routine code.calls-reader·bases-at (g-thm.met 𝓤 H 𝓜 𝓖 𝓡)
+    name code.env (code.unfolded 𝓤 H 𝓜 𝓡) g.routine code.calls-sections·bases-at (g-thm.met 𝓤 H 𝓜 𝓖 𝓡)

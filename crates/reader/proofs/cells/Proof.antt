@@ -3,10 +3,10 @@ use contract.Running.{givenOf}
 use denote.Enum.Laws as EL
 use Rattle.walk.proofs.Walk as R
 use Rattle.walk.proofs.Walk.Laws as R′
-use Rattle.reader.proofs.Outline.{Cell}
+use Rattle.sections.proofs.Outline.{Cell}
 use Rattle.reader.proofs.Thin.{thin}
-use Rattle.reader.proofs.cells_at.Symbol as g
-use Rattle.reader.proofs.cells_at.Met as g-thm
+use Rattle.sections.proofs.cells_at.Symbol as g
+use Rattle.sections.proofs.cells_at.Met as g-thm
 use Rattle.reader.proofs.cells.Key.{name}
 use Rattle.reader.proofs.cells.Statement as stated
 use Rattle.reader.proofs.cells.Code as code
@@ -15,4 +15,4 @@ pub cells-spec : {M : Type 1} → stated.statement M
 unfolding code.routine
 cells-spec 𝓤 H 𝓜 𝓖 𝓡 =
     thin R.the-row Cell R′.mir g.name (λ x u is. EL.lawful R.the-type R′.the-laws 𝓤 H (𝓖 .A) (givenOf 𝓤 H 𝓜 𝓖) tt .typed x _ is .0) 𝓤 H 𝓜 𝓖 𝓡
-    name code.env (code.unfolded 𝓤 H 𝓜 𝓡) g.routine code.calls-reader·cells-at (g-thm.met 𝓤 H 𝓜 𝓖 𝓡)
+    name code.env (code.unfolded 𝓤 H 𝓜 𝓡) g.routine code.calls-sections·cells-at (g-thm.met 𝓤 H 𝓜 𝓖 𝓡)

@@ -14,7 +14,7 @@ use Rattle.entries.proofs.ArchiveRead.Laws as An′
 use Rattle.reader.proofs.Calls.{var, tag, inner, copies, into, leaves, goes-on, goes-by, upFrom, free-all, met-by}
 use Rattle.reader.proofs.Reading as Rd
 use Rattle.reader.proofs.Reading.{Tok, OwnS, typedR, typedW, starts, reads, moves, stopped, forks, there, moved-from}
-use Rattle.reader.proofs.Outline.{Head, Base, Cell, Close, Word, header-halts, bases-halts, cells-halts, close-halts, counted}
+use Rattle.sections.proofs.Outline.{Head, Base, Cell, Close, Word, header-halts, bases-halts, cells-halts, close-halts, counted}
 use Rattle.reader.proofs.start.Symbol as start-def
 use Rattle.reader.proofs.start.Met as start-thm
 use Rattle.reader.proofs.moved.Symbol as moved-def

@@ -1,0 +1,106 @@
+-- Why `build` writes the archive of a table: its base rows, stored in flat lists, are ready to be condensed, its sizes stand in its bytes, and what is written just if there is room for it answers the call.
+use mathlib.Core.Path.{_≡_, refl, sym, ap, ap₂, subst, _∙_}
+use mathlib.Core.Bool.{true, false, false≢true}
+use mathlib.Core.List.{List}
+use Prim.Native.Nat.{ℕ, _+_, _*_, _≤_, _<_}
+use native.Mathlib.Nat.{mul-le-mul}
+use native.Mathlib.Omega.{arith}
+use lib.IntN.{ℤ}
+use lib.ListN.{length, take}
+use lib.Seq.{length-take-le}
+use Rattle.fields.specs.Words.{wordsAt}
+use Rattle.walk.specs.Parsed.{Parsed, stop, got, many}
+use Rattle.walk.specs.Fields.{field, header, close}
+use Rattle.walk.specs.Limits.{Bytes}
+use Rattle.walk.proofs.Steps.{through}
+use Rattle.walk.proofs.Places.{header-read}
+use Rattle.cube.specs.declared.Total.{Total}
+use Rattle.cube.specs.Measure.{Row}
+use Rattle.rows.specs.Rows.{rowsOf}
+use Rattle.table.specs.Layout.{FACT, Held}
+use Rattle.table.specs.Reading.{row, body, readTable, baseRows, answer, Stored}
+use Rattle.table.specs.declared.TableRead.the-variants as Read
+use Rattle.table.proofs.Accepted.{rowed, counted, table-forth}
+use Rattle.table.proofs.Rows.{placed}
+use Rattle.entries.specs.Layout.{archiveBytes, Limits}
+use Rattle.singles.specs.Ready.{Ready}
+use Rattle.singles.proofs.Ready.{rows-front}
+use Rattle.required.proofs.Judged.{limits-ready}
+use Rattle.building.specs.Fitted.{Fitted}
+use Rattle.calls.specs.declared.Written.the-variants.{Length, Stop}
+use Rattle.calls.specs.Answers.{Outcome, stop as stopped, bytes, Answered}
+use Rattle.calls.specs.Calls.{builds}
+use Rattle.calls.proofs.Answers.{no-room, done}
+use Rattle.build.proofs.Folded.{folded-within}
+
+-- ---- what is written just if there is room for it
+
+module _ {o : Outcome} {xs l m : List ℕ} {n : ℕ} (e : o ≡ bytes xs) (f : Fitted xs l m n) (s : length m ≡ length l) where
+  pub fitted-short : length m < n → Answered o l m (Stop 15)
+  fitted-short h =
+      let k : length l < length xs = omega (arith, h, s, f .count) in
+      subst (λ (x : List ℕ). Answered o l x (Stop 15)) (sym (f .short k)) (no-room l e k)
+
+  pub fitted-done : n ≤ length m → Answered o l m (Length n)
+  fitted-done h =
+      let k : length xs ≤ length l = omega (arith, h, s, f .count) in
+      done e k (record { count = f .count; same = s; list = f .fits k })
+
+-- ---- a table that was read
+
+pub build-refused : (s : List ℕ) {k : ℕ} → answer (readTable s) ≡ Read.Stop k → builds s ≡ stopped k
+unfolding builds
+build-refused s {k} e = rw (go (readTable s) e)
+  where
+    go : (p : Parsed Held) → answer p ≡ Read.Stop k → p ≡ stop k
+    go (stop n) f = let z : n ≡ k = cc in ap stop z
+    go (got t rest) f = let z : false ≡ true = cc in absurd (false≢true z)
+
+told : (p : Parsed Held) {d n : ℕ} → answer p ≡ Read.Rows d n → (t : Held) × (rest : List ℕ) × (p ≡ got t rest) × (length (t .sizes) ≡ d) × (length (baseRows t) ≡ n)
+told (stop k) e = let z : false ≡ true = cc in absurd (false≢true z)
+told (got t rest) e = (t, rest, refl, cc e, cc e)
+
+-- the sizes stand behind D
+sizes-at : (s : List ℕ) {t : Held} {rest : List ℕ} → readTable s ≡ got t rest → t .sizes ≡ wordsAt s (length (t .sizes)) 8
+unfolding readTable body
+sizes-at s {t} e =
+    let h = through (header FACT s) (body s) e in
+    let zs = h .0 in
+    let p = header-read s FACT (h .2) in
+    let n = through (field 0 1025 5 (h .1)) (counted s zs) (h .3) in
+    let r = through (many (n .0) (row zs) (n .1)) (rowed s zs) (n .3) in
+    let c = through (close s (r .1)) (λ u rest′. got (record { sizes = zs; rows = r .0 }) rest′) (r .3) in
+    let all : record { sizes = zs; rows = r .0 } ≡ t = cc (c .3) in
+    subst (λ (x : Held). x .sizes ≡ wordsAt s (length (x .sizes)) 8) all (p .are ∙ ap (λ (k : ℕ). wordsAt s k 8) (sym (p .dims)))
+
+-- flat lists have the base rows of a table that was read
+pub record Tabled (s : List ℕ) (d n : ℕ) (codes : List ℕ) (sums : List ℤ) (counts : List ℕ) : Type 0 where
+  pub small : n * d ≤ 8192
+  pub headed : 8 + 4 * d ≤ length s
+  pub ready : Ready d n codes sums counts
+  pub limits : Limits (wordsAt s d 8) (rowsOf d n codes sums counts)
+  pub built : builds s ≡ bytes (archiveBytes (wordsAt s d 8) (rowsOf d n codes sums counts))
+
+pub tabled : {s : List ℕ} {d n : ℕ} → Bytes s → answer (readTable s) ≡ Read.Rows d n → (codes : List ℕ) (sums : List ℤ) (counts : List ℕ)
+    → (8192 ≤ length codes) × (1024 ≤ length sums) × (1024 ≤ length counts) → Stored (readTable s) codes sums counts → Tabled s d n (take (n * d) codes) (take n sums) (take n counts)
+unfolding builds
+tabled {s} {d} {n} b e codes sums counts room h =
+    let x = told (readTable s) e in
+    let t = x .0 in
+    let l = folded-within t (table-forth s t (x .1) b (x .2) .0) in
+    let few : n ≤ 1024 = omega (arith, l .few, x .4) in
+    let dims : d ≤ 8 = omega (arith, l .sized .few, x .3) in
+    let k = mul-le-mul few dims in
+    let small : n * d ≤ 8192 = omega (arith, k) in
+    let stored : rowsOf (length (t .sizes)) (length (baseRows t)) codes sums counts ≡ baseRows t = subst (λ (p : Parsed Held). Stored p codes sums counts) (x .2) h in
+    let rows : rowsOf d n (take (n * d) codes) (take n sums) (take n counts) ≡ baseRows t
+    = rows-front d n codes sums counts ∙ ap₂ (λ (i j : ℕ). rowsOf i j codes sums counts) (sym (x .3)) (sym (x .4)) ∙ stored in
+    let sizes : t .sizes ≡ wordsAt s d 8 = sizes-at s (x .2) ∙ ap (λ (k : ℕ). wordsAt s k 8) (x .3) in
+    record {
+      small = small;
+      headed = omega (arith, placed s t (x .2) .whole, x .3);
+      ready = limits-ready l rows (x .3) (sym (length-take-le (n * d) codes (omega (arith, small, room .0)))) (length-take-le n sums (omega (arith, few, room .1)))
+          (length-take-le n counts (omega (arith, few, room .2)));
+      limits = subst (λ (zs : List ℕ). Limits zs (rowsOf d n (take (n * d) codes) (take n sums) (take n counts))) sizes (subst (Limits (t .sizes)) (sym rows) l);
+      built = rw (x .2) (ap₂ (λ (zs : List ℕ) (r : List (Row Total)). bytes (archiveBytes zs r)) sizes (sym rows));
+    }

@@ -1,0 +1,124 @@
+-- The base rows of a table within its limits are within the limits of an archive.
+use mathlib.Core.Path.{_≡_, refl, ap, subst, _∙_}
+use mathlib.Core.Bool.{Bool, true}
+use mathlib.Core.List.{List, [], _∷_, map, foldl, List·Memᴰ·head, List·Memᴰ·tail, Memᴰ·map, Memᴰ·of-map}
+use Prim.Native.Nat.{ℕ, zero, suc, _+_, _≤_}
+use native.Mathlib.Nat.{zero-add}
+use native.Mathlib.Omega.{arith}
+use lib.ListN.{length, length-map}
+use Rattle.lists.specs.Lists.{_∈_, keep}
+use Rattle.lists.specs.Order.{earlier, same}
+use Rattle.lists.proofs.Order.{same-refl, sort-length}
+use Rattle.lists.proofs.Members.{keep-in, keep-of}
+use Rattle.lattice.specs.Sets.{full}
+use Rattle.walk.specs.Limits.{Below}
+use Rattle.cube.specs.declared.Total.{Total}
+use Rattle.cube.specs.Measure.{Row, plus, nothing, sums, totalOf, codesOf}
+use Rattle.cube.specs.Codes.{ALL, Coded, falls, cell, plain}
+use Rattle.cube.specs.Cube.{cuboid, total, filled, grouped}
+use Rattle.cube.specs.Bounds.{most, countOf}
+use Rattle.cube.specs.Table.{Table, folded}
+use Rattle.cube.proofs.Promises.{base-order, base-codes, base-totals, base-rows, base-total}
+use Rattle.walk.proofs.Limits.{below-coded}
+use Rattle.table.specs.Layout.{Held, Reads, Limits}
+use Rattle.table.specs.Reading.{baseRows}
+use Rattle.entries.specs.Layout.{Fair, Limits as Within}
+use Rattle.build.proofs.Made.{readings-make}
+
+-- ---- the total of all rows, by the cell in which all fall
+
+abbrev alls : ℕ → List ℕ
+alls zero = []
+alls (suc d) = ALL ∷ alls d
+
+falls-alls : (d : ℕ) (x : List ℕ) → Coded d x → falls (alls d) x ≡ true
+falls-alls zero [] h = refl
+falls-alls zero (a ∷ x) h = absurd h
+falls-alls (suc d) [] h = absurd h
+falls-alls (suc d) (a ∷ x) h = falls-alls d x (h .1)
+
+keep-all : {A : Type 0} (p : A → Bool) (l : List A) → ((x : A) → x ∈ l → p x ≡ true) → keep p l ≡ l
+keep-all p [] h = refl
+keep-all p (x ∷ l) h = rw (h x (List·Memᴰ·head refl)) (ap (λ (m : List _). x ∷ m) (keep-all p l (λ y m. h y (List·Memᴰ·tail m))))
+
+count-from : (t : Total) (rows : List (Row Total)) → foldl (λ u r. plus u (r .total)) t rows .count ≡ t .count + countOf rows
+count-from t [] = omega arith
+count-from t (r ∷ rows) = omega (arith, count-from (plus t (r .total)) rows)
+
+count-total : (d : ℕ) (rows : List (Row Total)) → ((r : Row Total) → r ∈ rows → Coded d (r .codes)) → total (plain d) sums rows (alls d) .count ≡ countOf rows
+unfolding total
+count-total d rows h =
+    ap (λ (l : List (Row Total)). totalOf sums l .count) (keep-all (λ r. falls (alls d) (r .codes)) rows (λ r m. falls-alls d (r .codes) (h r m)))
+    ∙ count-from nothing rows ∙ zero-add (countOf rows)
+
+count-ones : (rows : List (Row Total)) → ((r : Row Total) → r ∈ rows → r .total .count ≡ 1) → countOf rows ≡ length rows
+count-ones [] h = refl
+count-ones (r ∷ rows) h = omega (arith, h r (List·Memᴰ·head refl), count-ones rows (λ q m. h q (List·Memᴰ·tail m)))
+
+module _ (t : Held) (l : Limits t) where
+  abbrev d : ℕ
+  d = length (t .sizes)
+
+  pub table-rows : Table d (t .rows)
+  table-rows r m = below-coded (t .sizes) (r .codes) (λ z i. l .sized .each z i .1) (l .each r m .below)
+
+  -- no more base rows than rows
+  folded-few : length (baseRows t) ≤ 1024
+  unfolding folded grouped cuboid
+  folded-few =
+      let xs = map (cell (full d)) (codesOf (t .rows)) in
+      omega (
+        arith,
+        l .few,
+        sort-length earlier xs,
+        length-map (codesOf (t .rows)) (cell (full d)),
+        length-map (t .rows) (λ r. r .codes),
+        length-map (cuboid (plain d) (codesOf (t .rows)) (full d)) (filled (plain d) sums (t .rows)),
+      )
+
+  folded-counts : countOf (baseRows t) ≤ most
+  folded-counts =
+      let b : total (plain d) sums (baseRows t) (alls d) .count ≡ countOf (baseRows t) =
+      count-total d (baseRows t) (λ r m. base-rows d (t .rows) table-rows .valid (r .codes) (Memᴰ·map (λ q. q .codes) m)) in
+      omega (
+        arith,
+        b,
+        ap (λ (u : Total). u .count) (base-total d (t .rows) table-rows (alls d)),
+        count-total d (t .rows) table-rows,
+        count-ones (t .rows) (λ r m. l .each r m .once),
+        l .few,
+      )
+
+  module _ (r : Row Total) (m : r ∈ baseRows t) where
+    -- the table's rows with the codes of a base row: at least one
+    abbrev same-rows : List (Row Total)
+    same-rows = keep (λ q. same (r .codes) (q .codes)) (t .rows)
+
+    found : (q : Row Total) × (q ∈ t .rows) × (q .codes ≡ r .codes)
+    found = Memᴰ·of-map (λ q. q .codes) (t .rows) (base-codes d (t .rows) table-rows (r .codes) .0 (Memᴰ·map (λ q. q .codes) m))
+
+    reads : (q : Row Total) → q ∈ same-rows → Reads (t .sizes) q
+    reads q i = l .each q (keep-in (λ q. same (r .codes) (q .codes)) (t .rows) i .0)
+
+    some-counted : (rows : List (Row Total)) {q : Row Total} → q ∈ rows → q .total .count ≡ 1 → 1 ≤ countOf rows
+    some-counted (p ∷ rows) (List·Memᴰ·head e) c = omega (arith, ap (λ (q : Row Total). q .total .count) e, c)
+    some-counted (p ∷ rows) (List·Memᴰ·tail i) c = omega (arith, some-counted rows i c)
+
+    folded-fair : Fair (t .sizes) r
+    folded-fair =
+        let e : r .total ≡ totalOf sums same-rows = base-totals d (t .rows) table-rows r m in
+        let f = found in
+        let i : f .0 ∈ same-rows = keep-of (λ q. same (r .codes) (q .codes)) (f .1) (rw (f .2) (same-refl (r .codes))) in record {
+          below = subst (Below (t .sizes)) (f .2) (l .each (f .0) (f .1) .below);
+          counted = omega (arith, ap (λ (u : Total). u .count) e, count-from nothing same-rows, some-counted same-rows i (reads (f .0) i .once));
+          made = rw e (readings-make same-rows (λ q j. (reads q j .reading, reads q j .once)));
+        }
+
+  pub folded-within : Within (t .sizes) (baseRows t)
+  folded-within = record {
+    sized = l .sized;
+    few = folded-few;
+    rising = base-order d (t .rows) table-rows;
+    each = folded-fair;
+    counts = folded-counts;
+  }

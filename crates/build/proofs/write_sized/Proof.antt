@@ -1,0 +1,50 @@
+-- `archive::write_sized` meets its contract: the buffer has the sizes that stand behind D, and the archive was written just if its length is no more than the output's.
+use mathlib.Core.Path.{_≡_, sym, ap, ap₂, subst, _∙_}
+use mathlib.Core.List.{List}
+use Prim.Native.Nat.{ℕ}
+use denote.Ref.{now}
+use lib.ListN.{length}
+use Rattle.fields.specs.Words.{wordsAt}
+use Rattle.fields.specs.WordsLaws.{length-wordsAt}
+use Rattle.rows.specs.Rows.{rowsOf}
+use Rattle.entries.specs.Layout.{archiveBytes, Limits}
+use Rattle.singles.specs.Ready.{Ready}
+use Rattle.calls.specs.Answers.{bytes}
+use Rattle.build.proofs.Building.{fitted-short, fitted-done}
+use borrow.Author.Needs.{needs}
+use Rattle.build.proofs.write_sized.Statement.{statement}
+use Rattle.build.proofs.write_sized.Tie as tie
+
+-- the buffer, filled
+abbrev sizes : tie.After-read-words → List ℕ
+sizes c = c .read-words .last .1 .1 .0
+
+long : (c : tie.After-read-words) → length (now (c .before .before .before .before .before .before .before .args .sizes)) ≡ length (sizes c)
+long c = sym (ap length (c .read-words .ensures) ∙ length-wordsAt (now (c .before .before .before .before .before .before .before .args .s)) (length (now (c .before .before .before .before .before .before .before .args .sizes))) _)
+
+write-archive-requires : tie.Need-write-archive-requires
+write-archive-requires c κs =
+    let a = c .before .before .before .before .before .before .before .before .before .before .before .args in
+    let r = c .before .before .before .before in (
+      subst (λ (d : ℕ). Ready d (a .rows) (now (a .codes)) (now (a .sums)) (now (a .counts))) (long r) (c .before .before .before .before .before .before .before .before .before .before .before .pre .0 .1),
+      subst (λ (d : ℕ). Limits (sizes r) (rowsOf d (a .rows) (now (a .codes)) (now (a .sums)) (now (a .counts)))) (long r)
+          (subst (λ (zs : List ℕ). Limits zs (rowsOf (length (now (a .sizes))) (a .rows) (now (a .codes)) (now (a .sums)) (now (a .counts)))) (sym (r .read-words .ensures)) (c .before .before .before .before .before .before .before .before .before .before .before .pre .1)),
+    )
+
+-- the archive by the sizes that stand in the bytes and by those in the buffer
+same-archive : (c : tie.After-read-words) → (let a = c .before .before .before .before .before .before .before .args in
+    bytes (archiveBytes (wordsAt (now (a .s)) (length (now (a .sizes))) 8) (rowsOf (length (now (a .sizes))) (a .rows) (now (a .codes)) (now (a .sums)) (now (a .counts))))
+    ≡ bytes (archiveBytes (sizes c) (rowsOf (length (sizes c)) (a .rows) (now (a .codes)) (now (a .sums)) (now (a .counts)))))
+same-archive c = let a = c .before .before .before .before .before .before .before .args in
+    ap₂ (λ (zs : List ℕ) (d : ℕ). bytes (archiveBytes zs (rowsOf d (a .rows) (now (a .codes)) (now (a .sums)) (now (a .counts))))) (sym (c .read-words .ensures)) (long c)
+
+returns : tie.Need-returns
+returns c = fitted-short (same-archive (c .before .before .before .before .before .before .before .before)) (c .before .before .before .write-archive .ensures) (c .before .before .out .given) (c .if1 .taken)
+
+returns-2 : tie.Need-returns-2
+returns-2 c = fitted-done (same-archive (c .before .before .before .before .before .before .before .before)) (c .before .before .before .write-archive .ensures) (c .before .before .out .given) (c .if1 .left)
+
+pub write-sized-spec : {M : Type 1} → statement M
+write-sized-spec =
+    tie.close
+    (tie.spec (λ c κs. search needs) write-archive-requires (λ c. search needs) (λ c. search needs) returns (λ c. search needs) (λ c. search needs) returns-2)

@@ -1,0 +1,98 @@
+-- The P examples of document 01 on bytes: each is a table's bytes, built, read back, asked and expanded by the definitions of the calls. One list, one theorem.
+use mathlib.Core.Path.{_≡_, refl}
+use mathlib.Core.List.{List, [], _∷_, map, flatMap}
+use Prim.Native.Nat.{ℕ, _+_, _-_, _*_, _/_, _^_}
+use lib.IntN.{pos}
+use lib.Count.{ones, onesIn}
+use lib.ListN.{length}
+use Rattle.fields.specs.Words.{wordAt, words, wordsBytes}
+use Rattle.fields.specs.Twos.{readingAt, sumAt}
+use Rattle.fields.specs.Check.{checkOf}
+use Rattle.lattice.specs.Sets.{sets}
+use Rattle.walk.specs.Parsed.{Parsed, stop, got, many}
+use Rattle.walk.specs.Fields.{room, word, sum, reading, field, codes, header, close}
+use Rattle.cube.specs.declared.Total.{Total}
+use Rattle.cube.specs.Measure.{Row}
+use Rattle.cube.specs.Bounds.{canMake}
+use Rattle.cube.specs.Codes.{ALL}
+use Rattle.cube.specs.Cube.{cuboid, total, grouped}
+use Rattle.cube.specs.Condensed.{Entry, Answer, no-record, found, proper, single, listed, shared, normals, reach}
+use Rattle.cube.specs.Table.{folded}
+use Rattle.cube.proofs.Examples.{Said, Example, examples}
+use Rattle.table.specs.Layout.{tableBytes}
+use Rattle.table.specs.Reading.{row, body, readTable}
+use Rattle.entries.specs.Layout.{Held, cellBytes, baseBytes, section, layout, required, archiveBytes}
+use Rattle.entries.specs.Reading.{rising, fair, amount, list, entry, entries, bases, cell, cells, walkArchive, readArchive}
+use Rattle.cuboids.specs.Cuboids.{cuboidBytes, expansionBytes}
+use Rattle.calls.specs.declared.Checked.the-variants as Check
+use Rattle.calls.specs.declared.Found.{Found}
+use Rattle.calls.specs.declared.Found.the-variants as Find
+use Rattle.calls.specs.Answers.{Outcome, stop as stopped, bytes, within}
+use Rattle.calls.specs.Calls.{builds, checks, listsCuboid, expands, entriesIn, looksUp}
+
+-- the bytes of an outcome, the entries that were read, the answer that was found
+abbrev bytesOf : Outcome → List ℕ
+bytesOf (stopped n) = []
+bytesOf (bytes xs) = xs
+
+abbrev entriesOf : Parsed Held → List (Entry Total)
+entriesOf (stop n) = []
+entriesOf (got a rest) = entriesIn a
+
+abbrev answerOf : Found → Answer Total
+answerOf (Find.Cell z n k) = found k (record { sum = z; count = n })
+answerOf Find.NoRecord = no-record
+answerOf (Find.Stop n) = no-record
+
+-- how many cells an expansion of so many bytes has
+abbrev cellsIn : ℕ → ℕ → ℕ
+cellsIn d n = (n - 4 * 2 ^ d) / (4 * d + 12)
+
+abbrev built : Example → List ℕ
+built e = bytesOf (builds (tableBytes (record { sizes = e .sizes; rows = e .rows })))
+
+abbrev onBytes : Example → Said
+onBytes e = record {
+  entries = entriesOf (readArchive (built e));
+  cells = cellsIn (length (e .sizes)) (length (bytesOf (expands (built e))));
+  answers = map (λ q. answerOf (looksUp (built e) q)) (e .questions);
+}
+
+pub as-document-01-says : map onBytes examples ≡ map (λ e. e .said) examples
+unfolding builds expands looksUp expansionBytes cuboidBytes readTable body row reading readingAt tableBytes folded readArchive walkArchive header field word sum sumAt room many codes rising fair amount list entry bases entries cell cells close wordAt checkOf words archiveBytes required layout baseBytes cellBytes listed single canMake normals shared proper cuboid total grouped reach sets ones onesIn wordsBytes flatMap
+as-document-01-says = refl
+
+-- ---- The five rows: 108 bytes, 324 bytes, ten entries; an output of 324 bytes suffices and one of 323 does not; a cuboid; a set that is none.
+
+abbrev read : List ℕ → ℕ → Row Total
+read x n = record { codes = x; total = record { sum = pos n; count = 1 } }
+
+abbrev many-read : List ℕ → ℕ → ℕ → Row Total
+many-read x n k = record { codes = x; total = record { sum = pos n; count = k } }
+
+abbrev five : List ℕ
+five = tableBytes (record { sizes = 7 ∷ 6 ∷ 3 ∷ []; rows = read (0 ∷ 1 ∷ 1 ∷ []) 50 ∷ read (1 ∷ 1 ∷ 1 ∷ []) 100 ∷ read (2 ∷ 3 ∷ 1 ∷ []) 60 ∷ read (4 ∷ 5 ∷ 1 ∷ []) 70 ∷ read (6 ∷ 5 ∷ 2 ∷ []) 80 ∷ [] })
+
+pub five-lengths : map length (five ∷ bytesOf (builds five) ∷ bytesOf (within 324 (builds five)) ∷ []) ≡ 108 ∷ 324 ∷ 324 ∷ []
+unfolding builds readTable body row reading readingAt tableBytes folded header field word room many codes close wordAt checkOf words archiveBytes required layout baseBytes cellBytes listed single normals shared proper cuboid total grouped sets ones onesIn wordsBytes flatMap
+five-lengths = refl
+
+pub five-short : within 323 (builds five) ≡ stopped 15
+unfolding builds readTable body row reading readingAt tableBytes folded header field word room many codes close wordAt checkOf words archiveBytes required layout baseBytes cellBytes listed single normals shared proper cuboid total grouped sets ones onesIn wordsBytes flatMap
+five-short = refl
+
+pub five-checked : checks (bytesOf (builds five)) ≡ Check.Entries 5 5
+unfolding checks builds readTable body row reading readingAt tableBytes folded readArchive walkArchive header field word sum sumAt room many codes rising fair amount list entry bases entries cell cells close wordAt checkOf words archiveBytes required layout baseBytes cellBytes listed single canMake normals shared proper cuboid total grouped sets ones onesIn wordsBytes flatMap
+five-checked = refl
+
+pub five-listed : map (listsCuboid (bytesOf (builds five))) (2 ∷ 8 ∷ [])
+    ≡ bytes (section cellBytes (many-read (ALL ∷ 1 ∷ ALL ∷ []) 150 2 ∷ many-read (ALL ∷ 3 ∷ ALL ∷ []) 60 1 ∷ many-read (ALL ∷ 5 ∷ ALL ∷ []) 150 2 ∷ [])) ∷ stopped 14 ∷ []
+unfolding listsCuboid cuboidBytes builds readTable body row reading readingAt tableBytes folded readArchive walkArchive header field word sum sumAt room many codes rising fair amount list entry bases entries cell cells close wordAt checkOf words archiveBytes required layout baseBytes cellBytes listed single canMake normals shared proper cuboid total grouped sets ones onesIn wordsBytes flatMap
+five-listed = refl
+
+-- ---- No rows at D 1, size 1: 24 bytes that end with the check word 45425545 (hexadecimal)
+
+pub empty-built : builds (tableBytes (record { sizes = 1 ∷ []; rows = [] }))
+    ≡ bytes (0x43 ∷ 0x55 ∷ 0x42 ∷ 0x45 ∷ 1 ∷ 0 ∷ 0 ∷ 0 ∷ 1 ∷ 0 ∷ 0 ∷ 0 ∷ 0 ∷ 0 ∷ 0 ∷ 0 ∷ 0 ∷ 0 ∷ 0 ∷ 0 ∷ 0x45 ∷ 0x55 ∷ 0x42 ∷ 0x45 ∷ [])
+unfolding builds readTable body row reading readingAt tableBytes folded header field word room many codes close wordAt checkOf words archiveBytes required layout baseBytes cellBytes listed single normals shared proper cuboid total grouped sets ones onesIn wordsBytes flatMap
+empty-built = refl

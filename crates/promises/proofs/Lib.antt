@@ -1,0 +1,3 @@
+-- The demands on the calls, and the worked examples.
+pub mod Promises
+pub mod Examples

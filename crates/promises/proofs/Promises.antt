@@ -1,0 +1,167 @@
+-- The front page: the user's demands 2 and 3 on bytes. Demand 1 is the contracts of the five calls (src/lib.rt), each an equation with its definition in specs/Calls.antt.
+use mathlib.Core.Path.{_≡_, refl, sym, ap, ap₂, subst, _∙_}
+use mathlib.Core.Logic.{_↔_}
+use mathlib.Core.Bool.{true}
+use mathlib.Core.Option.{some as just}
+use mathlib.Core.List.{List, [], map, flatMap, List·Permᴰ, Memᴰ·cast, Memᴰ·map, Memᴰ·of-map}
+use Prim.Native.Nat.{ℕ, _+_, _^_, _<_, _≤_}
+use lib.ListN.{length, length-append, length-map, getElem?}
+use borrow.Author.Tests.{lt-ltb}
+use Rattle.lists.specs.Lists.{_∈_}
+use Rattle.lists.proofs.Members.{flat-same}
+use Rattle.lattice.specs.Sets.{sets}
+use Rattle.walk.specs.Parsed.{got}
+use Rattle.walk.specs.Limits.{Bytes}
+use Rattle.cube.specs.declared.Total.{Total}
+use Rattle.cube.specs.Measure.{sums, Row, codesOf}
+use Rattle.cube.specs.Codes.{plain}
+use Rattle.cube.specs.Cube.{Exists, total, grouped, complete}
+use Rattle.cube.specs.Condensed.{Entry, base, normal, Answer, no-record, found, lookup, normals, listed, reach, Base, own, stands, Condensed, ours}
+use Rattle.cube.proofs.Sums.{sums-add}
+use Rattle.cube.proofs.Folding.{grouped-folded}
+use Rattle.cube.proofs.Promises.{base-rows, no-record-iff, answer, one-entry, fewest-entries, as-few, shortest-list}
+use Rattle.table.specs.Layout.{Held as Table, Limits}
+use Rattle.table.specs.Reading.{readTable, baseRows}
+use Rattle.table.proofs.Accepted.{table-forth}
+use Rattle.entries.specs.Layout.{Based, based, Held, section, cellBytes, required, archiveBytes}
+use Rattle.entries.specs.Reading.{readArchive, rowsIn}
+use Rattle.entries.proofs.Accepted.{required-rows, required-sizes, archive-back, archive-forth}
+use Rattle.entries.proofs.Limits.{limits-base}
+use Rattle.questions.specs.Questions.{asks}
+use Rattle.cuboids.specs.Cuboids.{cuboidBytes, expansionBytes}
+use Rattle.calls.specs.declared.Checked.the-variants as Check
+use Rattle.calls.specs.declared.Found.the-variants as Find
+use Rattle.calls.specs.Answers.{bytes}
+use Rattle.calls.specs.Calls.{outcome, builds, counted, checks, cuboidOf, listsCuboid, expanded, expands, entriesIn, told, looksUp}
+use Rattle.calls.proofs.Entries.{entries-required}
+use Rattle.build.proofs.Folded.{table-rows, folded-within}
+
+told-none : (r : Answer Total) → told r ≡ Find.NoRecord → r ≡ no-record
+told-none no-record h = refl
+told-none (found n u) h = cc h
+
+listed-required : (set : ℕ) (zs : List ℕ) (rows : List (Row Total)) → set < 2 ^ length zs
+    → cuboidOf set (required zs rows) ≡ bytes (cuboidBytes (length zs) rows set)
+listed-required set zs rows h = rw (required-sizes zs rows, required-rows zs rows, lt-ltb set (2 ^ length zs) h)
+
+expanded-required : (zs : List ℕ) (rows : List (Row Total)) → expanded (required zs rows) ≡ bytes (expansionBytes (length zs) rows)
+expanded-required zs rows = rw (required-sizes zs rows, required-rows zs rows)
+
+entries-length : (a : Held) → length (entriesIn a) ≡ length (a .bases) + length (a .cells)
+entries-length a = length-append (map (λ b. base (b .row) (b .list)) (a .bases)) (map normal (a .cells)) ∙ ap₂ _+_ (length-map (a .bases) _) (length-map (a .cells) _)
+
+-- ---- Demand 2: a question to any accepted archive
+
+module _ (s : List ℕ) (a : Held) (b : Bytes s) (e : readArchive s ≡ got a []) where
+  -- its dimensions, and its base rows
+  abbrev d : ℕ
+  d = length (a .sizes)
+
+  abbrev rows : List (Row Total)
+  rows = rowsIn a
+
+  entries-ours : entriesIn a ≡ ours (plain d) sums rows
+  entries-ours = ap entriesIn (archive-forth s a [] b e .2) ∙ entries-required (a .sizes) rows
+
+  rows-base : Base (plain d) (codesOf rows)
+  rows-base = let l = archive-forth s a [] b e .0 in limits-base (a .sizes) rows l
+
+  module _ (q : List ℕ) (k : asks (a .sizes) q ≡ true) where
+    looked : looksUp s q ≡ told (lookup (plain d) q (ours (plain d) sums rows))
+    unfolding looksUp
+    looked = rw (e, k) (ap (λ (l : List (Entry Total)). told (lookup (plain d) q l)) entries-ours)
+
+    -- A question gets 'no record' just if no base row falls in the cell;
+    pub no-record-just-if : (looksUp s q ≡ Find.NoRecord) ↔ (Exists (plain d) (codesOf rows) q → ⊥)
+    no-record-just-if =
+        let r = no-record-iff d rows rows-base q in
+        (λ h. r .0 (told-none (lookup (plain d) q (ours (plain d) sums rows)) (sym looked ∙ h)), λ h. looked ∙ ap told (r .1 h))
+
+    -- otherwise the cell's sum and count, and the number of an entry of the archive that stands for it,
+    pub cell-answered : Exists (plain d) (codesOf rows) q → (n : ℕ) × (f : Entry Total) × (getElem? (entriesIn a) n ≡ just f) × (q ∈ stands (plain d) f)
+        × (looksUp s q ≡ Find.Cell (total (plain d) sums rows q .sum) (total (plain d) sums rows q .count) n)
+    cell-answered x = let r = answer d rows rows-base q x in (r .0, r .1, ap (λ (l : List (Entry Total)). getElem? l (r .0)) entries-ours ∙ r .2, r .3, looked ∙ ap told (r .4))
+
+    -- and no other entry does.
+    pub entry-alone : {f g : Entry Total} (m n : ℕ) → getElem? (entriesIn a) m ≡ just f → getElem? (entriesIn a) n ≡ just g
+        → q ∈ stands (plain d) f → q ∈ stands (plain d) g → m ≡ n
+    entry-alone m n x y = one-entry d rows rows-base q m n (ap (λ (l : List (Entry Total)). getElem? l m) (sym entries-ours) ∙ x) (ap (λ (l : List (Entry Total)). getElem? l n) (sym entries-ours) ∙ y)
+
+-- ---- Demands 2 and 3: what `build` writes for an accepted table
+
+module _ (s : List ℕ) (t : Table) (b : Bytes s) (e : readTable s ≡ got t []) where
+  -- its dimensions, its base rows, and the archive that is written for it
+  abbrev D : ℕ
+  D = length (t .sizes)
+
+  abbrev ourArchive : List ℕ
+  ourArchive = archiveBytes (t .sizes) (baseRows t)
+
+  limits : Limits t
+  limits = table-forth s t [] b e .0
+
+  -- It is the archive of the table's base rows,
+  pub built : builds s ≡ bytes ourArchive
+  unfolding builds
+  built = rw e
+
+  -- which every call accepts:
+  pub built-read : readArchive ourArchive ≡ got (required (t .sizes) (baseRows t)) []
+  built-read = archive-back (t .sizes) (baseRows t) (folded-within t limits)
+
+  pub built-check : checks ourArchive ≡ Check.Entries (length (baseRows t)) (length (normals (plain D) (codesOf (baseRows t))))
+  unfolding checks required
+  built-check = ap counted built-read ∙ ap₂ Check.Entries (length-map (baseRows t) _) (length-map (normals (plain D) (codesOf (baseRows t))) _)
+
+  -- its cuboids are those of the table's own rows, each cell with the exact sum and count of its rows,
+  cuboid-built : (set : ℕ) → cuboidBytes D (baseRows t) set ≡ cuboidBytes D (t .rows) set
+  unfolding cuboidBytes
+  cuboid-built set = ap (section cellBytes) (grouped-folded sums D (t .rows) (table-rows t limits) (plain D) sums-add set)
+
+  pub built-lists : (set : ℕ) → set < 2 ^ D → listsCuboid ourArchive set ≡ bytes (cuboidBytes D (t .rows) set)
+  unfolding listsCuboid
+  built-lists set h =
+      ap (outcome (cuboidOf set)) built-read
+      ∙ listed-required set (t .sizes) (baseRows t) h ∙ ap bytes (cuboid-built set)
+
+  -- and expanded it is the complete cube of the table.
+  pub built-expands : expands ourArchive ≡ bytes (expansionBytes D (t .rows))
+  unfolding expands expansionBytes
+  built-expands =
+      ap (outcome expanded) built-read
+      ∙ expanded-required (t .sizes) (baseRows t)
+      ∙ ap bytes (flat-same (cuboidBytes D (baseRows t)) (cuboidBytes D (t .rows)) (sets D) (λ set m. cuboid-built set))
+
+  -- The cells of that cube, set by set, are those of CUBE BY.
+  pub expanded-cells : flatMap (grouped (plain D) sums (t .rows)) (sets D) ≡ complete (plain D) sums (t .rows)
+  unfolding complete
+  expanded-cells = refl
+
+  -- The entries in those bytes are our entries: the base rows with their lists, and the normal cells.
+  abbrev held : Held
+  held = required (t .sizes) (baseRows t)
+
+  rows-of : Base (plain D) (codesOf (baseRows t))
+  rows-of = base-rows D (t .rows) (table-rows t limits)
+
+  pub built-entries : entriesIn held ≡ ours (plain D) sums (baseRows t)
+  built-entries = entries-required (t .sizes) (baseRows t)
+
+  -- Every condensed cube of the table, by any writer, has at least as many entries, and as many exactly when its entries lie at the cells of ours, one at each.
+  module _ {es : List (Entry Total)} (c : Condensed (plain D) sums (baseRows t) es) where
+    pub built-fewest : length (held .bases) + length (held .cells) ≤ length es
+    built-fewest = rw (← entries-length held, built-entries) (fewest-entries D (baseRows t) rows-of c)
+
+    pub built-as-few : (length es ≡ length (held .bases) + length (held .cells)) ↔ List·Permᴰ (map (own (plain D)) es) (map (own (plain D)) (entriesIn held))
+    built-as-few = rw (← entries-length held, built-entries) (as-few D (baseRows t) rows-of c)
+
+  -- No list of sets that stands for the same cells as a row's list in those bytes is shorter.
+  pub built-shortest : (r : Row Total) (list : List ℕ) → record { row = r; list = list } ∈ held .bases → (l : List ℕ) → ((u : ℕ) → u ∈ l → u ∈ sets D)
+      → ((c : List ℕ) → (c ∈ reach (plain D) (r .codes) list) ↔ (c ∈ reach (plain D) (r .codes) l)) → length list ≤ length l
+  unfolding required
+  built-shortest r list m l h k =
+      let q = Memᴰ·of-map (based D (baseRows t)) (baseRows t) m in
+      let p : q .0 ≡ r = ap (λ (x : Based). x .row) (q .2) in
+      let f : listed (plain D) (codesOf (baseRows t)) (r .codes) ≡ list = ap (λ (x : Row Total). listed (plain D) (codesOf (baseRows t)) (x .codes)) (sym p) ∙ ap (λ (x : Based). x .list) (q .2) in
+      subst (λ (n : List ℕ). length n ≤ length l) f
+      (shortest-list D (codesOf (baseRows t)) (r .codes) (rows-of .valid (r .codes) (Memᴰ·map (λ p. p .codes) (Memᴰ·cast (sym p) (q .1)))) l h (subst (λ (n : List ℕ). (c : List ℕ) → (c ∈ reach (plain D) (r .codes) n) ↔ (c ∈ reach (plain D) (r .codes) l)) (sym f) k))

@@ -1,0 +1,1 @@
+// The user's demands on the calls; there is no code here.

@@ -1,0 +1,2 @@
+-- What stands at a place in an archive.
+pub mod Sections
