@@ -80,17 +80,16 @@ enum cube_stop {
 /*
  * Lengths for d dimensions (1 to 8) and n rows (0 to 1,024), in bytes. A
  * table's length is exact. A ROOM is an upper bound, an output that is always
- * enough; n is the table's row count or the archive's base count. Arguments are
- * evaluated more than once.
+ * enough; n is the table's row count or the archive's base count. That a call
+ * which is lent as much does not stop for want of output is proved of these
+ * formulas (crates/promises/proofs/Room.antt). Arguments are evaluated more than
+ * once.
  *
- * Cuboid: each base row falls in one cell of the set, so there are at most n
- * cells of 4d + 12 bytes. Expansion: 2^d cuboids. Archive: 4d + 20 bytes are
- * fields that occur once, and a base entry has 4d + 16 bytes without its list.
- * The rest is shared out over the pairs of a base row and one of the 2^d - 1
- * sets other than the full one. If the row is single on the set, the pair costs
- * at most the 4 bytes of a listed set number. If not, the row falls in a normal
- * cell of the set (4d + 12 bytes) with at least one other row, and bears at
- * most half of it: 2d + 6 bytes, which is more than 4.
+ * Cuboid: a cell of 4d + 12 bytes for each base row at most. Expansion: 2^d
+ * cuboids. Archive: 4d + 20 bytes are fields that occur once, and a base entry
+ * has 4d + 16 bytes without its list. Then each base row takes at most 2d + 6
+ * bytes for each of the 2^d - 1 sets other than the full one: the 4 bytes of a
+ * listed set number, or half of a normal cell, in which another row falls too.
  */
 #define CUBE_TABLE_LENGTH(d, n) (16 + 4 * (size_t)(d) + (size_t)(n) * (4 * (size_t)(d) + 4))
 #define CUBE_ARCHIVE_ROOM(d, n)                                                                        \

@@ -1,7 +1,7 @@
 //! How many bytes of output are always enough, for so many dimensions (1 to 8) and rows (0 to 1,024).
 //!
-//! These are upper bounds. The rows are the row count of a table or the base count of an archive. The comments of
-//! `include/cube_archive.h` say why the bounds hold.
+//! These are upper bounds. The rows are the row count of a table or the base count of an archive. That the bounds hold
+//! is proved of these formulas (`crates/promises/proofs/Room.antt`); the comments of `include/cube_archive.h` say why.
 
 /// For the archive of a table.
 pub const fn archive(dims: usize, rows: usize) -> usize {

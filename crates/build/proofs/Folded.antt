@@ -1,23 +1,23 @@
 -- The base rows of a table within its limits are within the limits of an archive.
 use mathlib.Core.Path.{_≡_, refl, ap, subst, _∙_}
 use mathlib.Core.Bool.{Bool, true}
-use mathlib.Core.List.{List, [], _∷_, map, foldl, List·Memᴰ·head, List·Memᴰ·tail, Memᴰ·map, Memᴰ·of-map}
+use mathlib.Core.List.{List, [], _∷_, foldl, List·Memᴰ·head, List·Memᴰ·tail, Memᴰ·map, Memᴰ·of-map}
 use Prim.Native.Nat.{ℕ, zero, suc, _+_, _≤_}
 use native.Mathlib.Nat.{zero-add}
 use native.Mathlib.Omega.{arith}
-use lib.ListN.{length, length-map}
+use lib.ListN.{length}
 use Rattle.lists.specs.Lists.{_∈_, keep}
-use Rattle.lists.specs.Order.{earlier, same}
-use Rattle.lists.proofs.Order.{same-refl, sort-length}
+use Rattle.lists.specs.Order.{same}
+use Rattle.lists.proofs.Order.{same-refl}
 use Rattle.lists.proofs.Members.{keep-in, keep-of}
-use Rattle.lattice.specs.Sets.{full}
 use Rattle.walk.specs.Limits.{Below}
 use Rattle.cube.specs.declared.Total.{Total}
-use Rattle.cube.specs.Measure.{Row, plus, nothing, sums, totalOf, codesOf}
-use Rattle.cube.specs.Codes.{ALL, Coded, falls, cell, plain}
-use Rattle.cube.specs.Cube.{cuboid, total, filled, grouped}
+use Rattle.cube.specs.Measure.{Row, plus, nothing, sums, totalOf}
+use Rattle.cube.specs.Codes.{ALL, Coded, falls, plain}
+use Rattle.cube.specs.Cube.{total}
 use Rattle.cube.specs.Bounds.{most, countOf}
-use Rattle.cube.specs.Table.{Table, folded}
+use Rattle.cube.specs.Table.{Table}
+use Rattle.cube.proofs.Folding.{folded-few}
 use Rattle.cube.proofs.Promises.{base-order, base-codes, base-totals, base-rows, base-total}
 use Rattle.walk.proofs.Limits.{below-coded}
 use Rattle.table.specs.Layout.{Held, Reads, Limits}
@@ -62,20 +62,6 @@ module _ (t : Held) (l : Limits t) where
   pub table-rows : Table d (t .rows)
   table-rows r m = below-coded (t .sizes) (r .codes) (λ z i. l .sized .each z i .1) (l .each r m .below)
 
-  -- no more base rows than rows
-  folded-few : length (baseRows t) ≤ 1024
-  unfolding folded grouped cuboid
-  folded-few =
-      let xs = map (cell (full d)) (codesOf (t .rows)) in
-      omega (
-        arith,
-        l .few,
-        sort-length earlier xs,
-        length-map (codesOf (t .rows)) (cell (full d)),
-        length-map (t .rows) (λ r. r .codes),
-        length-map (cuboid (plain d) (codesOf (t .rows)) (full d)) (filled (plain d) sums (t .rows)),
-      )
-
   folded-counts : countOf (baseRows t) ≤ most
   folded-counts =
       let b : total (plain d) sums (baseRows t) (alls d) .count ≡ countOf (baseRows t) =
@@ -117,7 +103,7 @@ module _ (t : Held) (l : Limits t) where
   pub folded-within : Within (t .sizes) (baseRows t)
   folded-within = record {
     sized = l .sized;
-    few = folded-few;
+    few = omega (arith, l .few, folded-few sums d (t .rows));
     rising = base-order d (t .rows) table-rows;
     each = folded-fair;
     counts = folded-counts;

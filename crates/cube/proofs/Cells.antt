@@ -4,15 +4,17 @@ use mathlib.Core.Logic.{_≢_}
 use mathlib.Core.Bool.{true, false}
 use mathlib.Core.List.{List, [], _∷_, map, Memᴰ·cast, Memᴰ·map, Memᴰ·of-map}
 use Prim.Native.Nat.{ℕ, _≤_}
-use lib.ListN.{length}
+use native.Mathlib.Omega.{arith}
+use lib.ListN.{length, length-map}
 use Rattle.lists.specs.Lists.{_∈_}
 use Rattle.lists.specs.Order.{Rising, earlier}
 use Rattle.lists.proofs.Members.{keep-in, keep-of}
 use Rattle.lists.proofs.Pairwise.{keep-one, pairwise-imp}
 use Rattle.lists.proofs.Pigeonhole.{one-long, two-long}
-use Rattle.lists.proofs.Order.{by-codes, sort-in, sort-of, sort-rising, rising-unique}
+use Rattle.lists.proofs.Order.{by-codes, sort-in, sort-of, sort-rising, sort-length, rising-unique}
+use Rattle.cube.specs.Measure.{Measure, Row, codesOf}
 use Rattle.cube.specs.Lattice.{Lattice, Laws}
-use Rattle.cube.specs.Cube.{within, Exists, cuboid}
+use Rattle.cube.specs.Cube.{within, Exists, cuboid, filled, grouped}
 use Rattle.cube.specs.Condensed.{single, Base}
 use Rattle.cube.proofs.Singles.{single-other, single-of, single-not}
 
@@ -28,6 +30,15 @@ module _ (L : Lattice) where
   pub cuboid-rising : (xs : List (List ℕ)) (s : ℕ) → Rising earlier (cuboid L xs s)
   unfolding cuboid
   cuboid-rising xs s = sort-rising earlier by-codes (map (L .cell s) xs)
+
+  -- at most one for each row
+  pub cuboid-few : (xs : List (List ℕ)) (s : ℕ) → length (cuboid L xs s) ≤ length xs
+  unfolding cuboid
+  cuboid-few xs s = omega (arith, sort-length earlier (map (L .cell s) xs), length-map xs (L .cell s))
+
+  pub grouped-few : {A : Type 0} (M : Measure A) (rows : List (Row A)) (s : ℕ) → length (grouped L M rows s) ≤ length rows
+  unfolding grouped
+  grouped-few M rows s = omega (arith, length-map (cuboid L (codesOf rows) s) (filled L M rows), cuboid-few (codesOf rows) s, length-map rows (λ r. r .codes))
 
   -- the cells depend on which codes there are, not on how often or in which order
   pub cuboid-same : (xs ys : List (List ℕ)) (s : ℕ) → ((x : List ℕ) → x ∈ xs → x ∈ ys) → ((x : List ℕ) → x ∈ ys → x ∈ xs) → cuboid L xs s ≡ cuboid L ys s

@@ -2,7 +2,8 @@
 use mathlib.Core.Path.{_≡_, refl, sym, _∙_, ap}
 use mathlib.Core.Logic.{_↔_}
 use mathlib.Core.List.{List, [], _∷_, map, Memᴰ·cast, Memᴰ·map, Memᴰ·of-map}
-use Prim.Native.Nat.{ℕ}
+use Prim.Native.Nat.{ℕ, _≤_}
+use lib.ListN.{length}
 use Rattle.lists.specs.Lists.{_∈_, keep}
 use Rattle.lists.specs.Order.{Rising, earlier, same}
 use Rattle.lists.proofs.Members.{keep-same, map-same, flat-same}
@@ -15,12 +16,17 @@ use Rattle.cube.specs.Cube.{cuboid, total, filled, grouped, complete}
 use Rattle.cube.specs.Condensed.{Base}
 use Rattle.cube.specs.Table.{Table, folded}
 use Rattle.cube.proofs.Codes.{cell-full, falls-same}
-use Rattle.cube.proofs.Cells.{cuboid-in, cuboid-of, cuboid-rising, cuboid-same}
+use Rattle.cube.proofs.Cells.{cuboid-in, cuboid-of, cuboid-rising, grouped-few, cuboid-same}
 use Rattle.cube.proofs.Regroup.{fill, regroup}
 
 codes-filled : (L : Lattice) {A : Type 0} (M : Measure A) (rows : List (Row A)) (cs : List (List ℕ)) → codesOf (map (filled L M rows) cs) ≡ cs
 codes-filled L M rows [] = refl
 codes-filled L M rows (c ∷ cs) = ap (λ (l : List (List ℕ)). c ∷ l) (codes-filled L M rows cs)
+
+-- no more base rows than rows
+pub folded-few : {A : Type 0} (M : Measure A) (d : ℕ) (rows : List (Row A)) → length (folded M d rows) ≤ length rows
+unfolding folded
+folded-few M d rows = grouped-few (plain d) M rows (full d)
 
 module _ {A : Type 0} (M : Measure A) (d : ℕ) (rows : List (Row A)) (t : Table d rows) where
   pub coded : (x : List ℕ) → x ∈ codesOf rows → Coded d x

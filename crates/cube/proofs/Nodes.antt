@@ -2,14 +2,16 @@
 use mathlib.Core.Path.{_≡_, sym, _∙_, ap}
 use mathlib.Core.Logic.{_≢_}
 use mathlib.Core.Bool.{true, false, not, false≢true}
-use mathlib.Core.List.{List}
-use Prim.Native.Nat.{ℕ}
+use mathlib.Core.List.{List, _∷_, List·Memᴰ·cases-cons, Memᴰ·cast}
+use Prim.Native.Nat.{ℕ, _<_}
 use lib.Dec.{eqb}
+use lib.ListN.{length}
 use borrow.Author.Tests.{ne-eqb, eqb-false, not-true}
 use Rattle.lists.specs.Lists.{_∈_, Pairwise}
 use Rattle.lists.proofs.Tests.{cases}
 use Rattle.lists.proofs.Members.{keep-in, keep-of}
-use Rattle.lists.proofs.Pairwise.{pairwise-keep, pairwise-either}
+use Rattle.lists.proofs.Pairwise.{pairwise-keep, pairwise-imp, pairwise-either}
+use Rattle.lists.proofs.Pigeonhole.{fewest}
 use Rattle.cube.specs.Lattice.{Lattice, Laws}
 use Rattle.cube.specs.Condensed.{proper}
 
@@ -31,6 +33,12 @@ module _ (L : Lattice) (W : Laws L) where
   pub proper-order : Pairwise (Before L) (proper L)
   unfolding proper
   proper-order = pairwise-keep (Before L) (λ t. not (eqb t (L .finest))) (L .nodes) (W .order)
+
+  -- fewer than all nodes
+  pub proper-few : length (proper L) < length (L .nodes)
+  proper-few = fewest (L .finest ∷ proper L) (L .nodes)
+      (λ s m e. proper-in m .1 (sym e), pairwise-imp (Before L) _≢_ (proper L) (λ s t m n q. q .0) proper-order)
+      (λ s m. cases (List·Memᴰ·cases-cons m) (λ e. Memᴰ·cast e (W .finest-in)) (λ i. proper-in i .0))
 
   pub holds-antisym : {s t : ℕ} → s ∈ L .nodes → t ∈ L .nodes → L .holds s t ≡ true → L .holds t s ≡ true → s ≡ t
   holds-antisym i j e f = cases (pairwise-either (Before L) (W .order) i j) (λ q. q)

@@ -2,19 +2,19 @@
 use mathlib.Core.Path.{_≡_, sym, _∙_, ap, subst}
 use mathlib.Core.Logic.{_≢_, _⊎_, inl, inr, _↔_}
 use mathlib.Core.Bool.{true, false, not, false≢true}
-use mathlib.Core.List.{List, [], _∷_, map}
+use mathlib.Core.List.{List, [], _∷_}
 use Prim.Native.Nat.{ℕ, _*_, _≤_}
 use native.Mathlib.Omega.{arith}
 use lib.Dec.{eqb, leb}
 use native.Mathlib.Nat.{le-trans, mul-le-mul-right}
-use lib.ListN.{length, length-map}
+use lib.ListN.{length}
 use borrow.Author.Tests.{eqb-true, eqb-false, leb-true, le-leb}
 use Rattle.lists.specs.Lists.{_∈_, Distinct}
 use Rattle.lists.specs.Order.{earlier}
 use Rattle.lists.proofs.Tests.{cases, truth}
 use Rattle.lists.proofs.Members.{keep-in, keep-of, keep-length, flat-in, flat-of, flat-length}
 use Rattle.lists.proofs.Pairwise.{pairwise-keep, pairwise-imp, pairwise-flat}
-use Rattle.lists.proofs.Order.{by-codes, rising-distinct, sort-length}
+use Rattle.lists.proofs.Order.{by-codes, rising-distinct}
 use Rattle.cube.specs.Lattice.{Lattice, Laws}
 use Rattle.cube.specs.Cube.{within, Exists, cuboid}
 use Rattle.cube.specs.Condensed.{proper, single, listed, reach, shared, normals, Base}
@@ -22,7 +22,7 @@ use Rattle.cube.proofs.Nodes.{Before, proper-in, proper-of, proper-orde
 use Rattle.cube.proofs.Singles.{single-up}
 use Rattle.cube.proofs.Smallest.{listed-in, listed-held}
 use Rattle.cube.proofs.Reach.{reach-in, reach-of}
-use Rattle.cube.proofs.Cells.{cuboid-in, cuboid-of, cuboid-rising, within-exists, single-within, crowd-within, single-finest}
+use Rattle.cube.proofs.Cells.{cuboid-in, cuboid-of, cuboid-rising, cuboid-few, within-exists, single-within, crowd-within, single-finest}
 
 module _ (L : Lattice) (W : Laws L) (xs : List (List ℕ)) (b : Base L xs) where
   -- in whatever cell a row with a permitted list stands for, that row alone falls
@@ -40,7 +40,7 @@ module _ (L : Lattice) (W : Laws L) (xs : List (List ℕ)) (b : Base L xs) where
       (λ e. rw (e, single-within L W xs b h m e))
       (λ e. rw e (le-leb 2 (length (within L xs (L .cell s x))) (crowd-within L W xs b h m e)))
 
-  shared-in : {c : List ℕ} (s : ℕ) → c ∈ shared L xs s → ((x : List ℕ) × (x ∈ xs) × (c ≡ L .cell s x)) × (2 ≤ length (within L xs c))
+  pub shared-in : {c : List ℕ} (s : ℕ) → c ∈ shared L xs s → ((x : List ℕ) × (x ∈ xs) × (c ≡ L .cell s x)) × (2 ≤ length (within L xs c))
   unfolding shared
   shared-in {c} s m =
       let k = keep-in (λ c. leb 2 (length (within L xs c))) (cuboid L xs s) m in
@@ -50,10 +50,13 @@ module _ (L : Lattice) (W : Laws L) (xs : List (List ℕ)) (b : Base L xs) where
   unfolding normals
   normals-in m = let f = flat-in (shared L xs) (proper L) m in shared-in (f .0) (f .2) .1
 
+  pub shared-distinct : (s : ℕ) → Distinct (shared L xs s)
+  unfolding shared
+  shared-distinct s = pairwise-keep _≢_ (λ c. leb 2 (length (within L xs c))) (cuboid L xs s) (rising-distinct earlier by-codes (cuboid L xs s) (cuboid-rising L xs s))
+
   pub normals-distinct : Distinct (normals L xs)
-  unfolding normals shared
-  normals-distinct = pairwise-flat _≢_ (shared L xs) (proper L)
-      (λ s m. pairwise-keep _≢_ (λ c. leb 2 (length (within L xs c))) (cuboid L xs s) (rising-distinct earlier by-codes (cuboid L xs s) (cuboid-rising L xs s)))
+  unfolding normals
+  normals-distinct = pairwise-flat _≢_ (shared L xs) (proper L) (λ s m. shared-distinct s)
       (pairwise-imp (Before L) (λ s t. (u v : List ℕ) → u ∈ shared L xs s → v ∈ shared L xs t → u ≢ v) (proper L)
       (λ s t i j h u v m n e.
       let f = shared-in s m .0 in
@@ -104,13 +107,8 @@ module _ (L : Lattice) (W : Laws L) (xs : List (List ℕ)) (b : Base L xs) where
 
 -- There are not many: at most one of a node for each row.
 shared-length : (L : Lattice) (xs : List (List ℕ)) (s : ℕ) → length (shared L xs s) ≤ length xs
-unfolding shared cuboid
-shared-length L xs s = omega (
-  arith,
-  keep-length (λ c. leb 2 (length (within L xs c))) (cuboid L xs s),
-  sort-length earlier (map (L .cell s) xs),
-  length-map xs (L .cell s),
-)
+unfolding shared
+shared-length L xs s = omega (arith, keep-length (λ c. leb 2 (length (within L xs c))) (cuboid L xs s), cuboid-few L xs s)
 
 pub normals-length : (L : Lattice) (xs : List (List ℕ)) → length (normals L xs) ≤ length (L .nodes) * length xs
 unfolding normals proper

@@ -1,6 +1,6 @@
 -- The length of an archive: opening, D, sizes, base count, base entries with their lists, normal count, normal entries, check word.
-use mathlib.Core.Path.{_≡_}
-use mathlib.Core.List.{List, [], _∷_, _++_, flatMap}
+use mathlib.Core.Path.{_≡_, refl}
+use mathlib.Core.List.{List, [], _∷_, _++_, map, flatMap}
 use Prim.Native.Nat.{ℕ, _+_, _*_}
 use native.Mathlib.Nat.{suc-mul}
 use native.Mathlib.Omega.{arith}
@@ -15,7 +15,7 @@ use Rattle.cube.specs.declared.Total.{Total}
 use Rattle.cube.specs.Measure.{sums, Row, codesOf}
 use Rattle.cube.specs.Codes.{plain}
 use Rattle.cube.specs.Cube.{filled}
-use Rattle.cube.specs.Condensed.{normals}
+use Rattle.cube.specs.Condensed.{listed, normals}
 use Rattle.entries.specs.Layout.{CUBE, Based, Held, cellBytes, baseBytes, section, setsIn, layout, based, required, archiveBytes, Limits}
 use Rattle.entries.proofs.Written.{Entered}
 use Rattle.entries.proofs.Walkable.{Walkable}
@@ -30,6 +30,14 @@ pub base-length : (d : ℕ) (b : Based) → length (b .row .codes) ≡ d → len
 unfolding baseBytes
 base-length d b h =
     omega (arith, length-append (cellBytes (b .row)) (wordBytes (length (b .list)) ++ wordsBytes (b .list)), length-wordsBytes (b .list), cell-length d (b .row) h)
+
+-- our base entries list the sets of our lists
+pub sets-listed : (d : ℕ) (rows rs : List (Row Total)) → setsIn (map (based d rows) rs) ≡ length (flatMap (listed (plain d) (codesOf rows)) (codesOf rs))
+unfolding flatMap
+sets-listed d rows [] = refl
+sets-listed d rows (r ∷ rs) =
+    let l = listed (plain d) (codesOf rows) in
+    omega (arith, sets-listed d rows rs, length-append (l (r .codes)) (flatMap l (codesOf rs)))
 
 bases-length : (zs x : List ℕ) (before : ℕ) (bs : List Based) → Entered zs x before bs
     → length (flatMap baseBytes bs) ≡ length bs * (4 * length zs + 16) + 4 * setsIn bs

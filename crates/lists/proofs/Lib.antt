@@ -1,6 +1,7 @@
 -- Laws of lists and orders.
 pub mod Tests
 pub mod Members
+pub mod Lengths
 pub mod Pairwise
 pub mod Places
 pub mod Parts

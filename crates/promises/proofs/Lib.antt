@@ -1,3 +1,4 @@
 -- The demands on the calls, and the worked examples.
 pub mod Promises
+pub mod Room
 pub mod Examples

@@ -1,0 +1,95 @@
+-- Outputs that are always enough: no result is longer than its room, so no call that is lent as much stops with 15.
+use mathlib.Core.Path.{_≡_}
+use mathlib.Core.List.{List, [], flatMap, Memᴰ·map}
+use Prim.Native.Nat.{ℕ, _+_, _-_, _*_, _^_, _≤_}
+use native.Mathlib.Nat.{le-refl, le-trans, add-le-add, mul-le-mul-right}
+use native.Mathlib.Omega.{arith}
+use lib.Dec.{ltb}
+use lib.ListN.{length, length-map}
+use borrow.Author.Tests.{le-leb}
+use Rattle.lists.proofs.Tests.{cases, truth}
+use Rattle.lists.proofs.Members.{flat-length}
+use Rattle.lattice.specs.Sets.{sets}
+use Rattle.lattice.proofs.Sets.{sets-length}
+use Rattle.walk.specs.Parsed.{got}
+use Rattle.walk.specs.Limits.{Bytes}
+use Rattle.cube.specs.declared.Total.{Total}
+use Rattle.cube.specs.Measure.{Row, sums, codesOf}
+use Rattle.cube.specs.Codes.{plain}
+use Rattle.cube.specs.Condensed.{listed, normals}
+use Rattle.cube.specs.Table.{Table as Rows}
+use Rattle.cube.proofs.Cells.{grouped-few}
+use Rattle.cube.proofs.Folding.{folded-few}
+use Rattle.cube.proofs.Counting.{plain-counts}
+use Rattle.table.specs.Layout.{Held as Table, Limits as TableLimits}
+use Rattle.table.specs.Reading.{readTable, baseRows}
+use Rattle.table.proofs.Accepted.{table-forth}
+use Rattle.entries.specs.Layout.{Held, required, archiveBytes, Limits}
+use Rattle.entries.specs.Reading.{readArchive, rowsIn}
+use Rattle.entries.proofs.Accepted.{archive-forth}
+use Rattle.entries.proofs.Limits.{limits-base}
+use Rattle.entries.proofs.Lengths.{sets-listed, archive-length}
+use Rattle.cuboids.specs.Cuboids.{cuboidBytes, expansionBytes}
+use Rattle.cuboids.proofs.Lengths.{cuboid-length}
+use Rattle.calls.specs.Answers.{bytes, within}
+use Rattle.calls.specs.Calls.{builds, dims, listsCuboid, expands}
+use Rattle.build.proofs.Folded.{folded-within}
+use Rattle.promises.specs.Room.{cuboidRoom, expansionRoom, archiveRoom}
+use Rattle.promises.proofs.Promises.{built}
+
+-- ---- the results
+
+module _ (d : ℕ) (rows : List (Row Total)) (t : Rows d rows) where
+  pub cuboid-room : (set : ℕ) → length (cuboidBytes d rows set) ≤ cuboidRoom d (length rows)
+  cuboid-room set = omega (arith, cuboid-length d rows set t, mul-le-mul-right (4 * d + 12) (grouped-few (plain d) sums rows set))
+
+  pub expansion-room : length (expansionBytes d rows) ≤ expansionRoom d (length rows)
+  unfolding expansionBytes
+  expansion-room =
+      let n = cuboidRoom d (length rows) in
+      omega (arith, flat-length (cuboidBytes d rows) n (sets d) (λ set m. cuboid-room set), mul-le-mul-right n (sets-length d))
+
+-- a listed set has 4 bytes, and half a normal entry at least as many
+shared-out : (d n p lists cells : ℕ) → lists + 2 * cells ≤ p * n → n * (4 * d + 16) + 4 * lists + cells * (4 * d + 12) ≤ n * (4 * d + 16 + p * (2 * d + 6))
+shared-out d n p lists cells h = omega (arith, mul-le-mul-right (2 * d + 6) h)
+
+pub archive-room : (zs : List ℕ) (rows : List (Row Total)) → Limits zs rows → length (archiveBytes zs rows) ≤ archiveRoom (length zs) (length rows)
+unfolding required
+archive-room zs rows l =
+    let d = length zs in
+    let xs = codesOf rows in
+    let count = rw (length-map rows (λ r. r .codes)) at (plain-counts d xs (limits-base zs rows l)) in
+    let rest = shared-out d (length rows) (2 ^ d - 1) (length (flatMap (listed (plain d) xs) xs)) (length (normals (plain d) xs)) count in
+    omega (arith, archive-length zs rows l, sets-listed d rows rows, rest)
+
+-- where it was built, by the rows of the table too
+pub built-room : (t : Table) → TableLimits t → length (archiveBytes (t .sizes) (baseRows t)) ≤ archiveRoom (length (t .sizes)) (length (t .rows))
+built-room t l = le-trans (archive-room (t .sizes) (baseRows t) (folded-within t l)) (add-le-add (le-refl _) (mul-le-mul-right _ (folded-few sums (length (t .sizes)) (t .rows))))
+
+-- ---- the calls
+
+enough : (xs : List ℕ) (k : ℕ) → length xs ≤ k → within k (bytes xs) ≡ bytes xs
+enough xs k h = rw (le-leb (length xs) k h)
+
+-- by the row count of a table
+pub build-enough : (s : List ℕ) (t : Table) → Bytes s → readTable s ≡ got t [] → (k : ℕ) → archiveRoom (length (t .sizes)) (length (t .rows)) ≤ k → within k (builds s) ≡ builds s
+build-enough s t b e k h = rw (built s t b e) (enough (archiveBytes (t .sizes) (baseRows t)) k (le-trans (built-room t (table-forth s t [] b e .0)) h))
+
+-- by the base count of an archive
+module _ (s : List ℕ) (a : Held) (b : Bytes s) (e : readArchive s ≡ got a []) (k : ℕ) where
+  coded : Rows (dims a) (rowsIn a)
+  coded r m = limits-base (a .sizes) (rowsIn a) (archive-forth s a [] b e .0) .valid (r .codes) (Memᴰ·map (λ q. q .codes) m)
+
+  pub list-enough : (set : ℕ) → cuboidRoom (dims a) (length (a .bases)) ≤ k → within k (listsCuboid s set) ≡ listsCuboid s set
+  unfolding listsCuboid
+  list-enough set h =
+      let g = rw (← length-map (a .bases) (λ q. q .row)) at h in
+      cases (truth (ltb set (2 ^ dims a)))
+      (λ f. rw (e, f) (enough (cuboidBytes (dims a) (rowsIn a) set) k (le-trans (cuboid-room (dims a) (rowsIn a) coded set) g)))
+      (λ f. rw (e, f))
+
+  pub expand-enough : expansionRoom (dims a) (length (a .bases)) ≤ k → within k (expands s) ≡ expands s
+  unfolding expands
+  expand-enough h =
+      let g = rw (← length-map (a .bases) (λ q. q .row)) at h in
+      rw e (enough (expansionBytes (dims a) (rowsIn a)) k (le-trans (expansion-room (dims a) (rowsIn a) coded) g))

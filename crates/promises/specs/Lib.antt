@@ -1,0 +1,2 @@
+-- Outputs that are always enough.
+pub mod Room
