@@ -9,18 +9,15 @@ use lib.IntN.{ℤ}
 use lib.ListN.{length, take}
 use lib.Seq.{length-take-le}
 use Rattle.fields.specs.Words.{wordsAt}
-use Rattle.walk.specs.Parsed.{Parsed, stop, got, many}
-use Rattle.walk.specs.Fields.{field, header, close}
+use Rattle.walk.specs.Parsed.{Parsed, stop, got}
 use Rattle.walk.specs.Limits.{Bytes}
-use Rattle.walk.proofs.Steps.{through}
-use Rattle.walk.proofs.Places.{header-read}
 use Rattle.cube.specs.declared.Total.{Total}
 use Rattle.cube.specs.Measure.{Row}
 use Rattle.rows.specs.Rows.{rowsOf}
-use Rattle.table.specs.Layout.{FACT, Held}
-use Rattle.table.specs.Reading.{row, body, readTable, baseRows, answer, Stored}
+use Rattle.table.specs.Layout.{Held}
+use Rattle.table.specs.Reading.{readTable, baseRows, answer, Stored}
 use Rattle.table.specs.declared.TableRead.the-variants as Read
-use Rattle.table.proofs.Accepted.{rowed, counted, table-forth}
+use Rattle.table.proofs.Accepted.{table-forth}
 use Rattle.table.proofs.Rows.{placed}
 use Rattle.entries.specs.Layout.{archiveBytes, Limits}
 use Rattle.singles.specs.Ready.{Ready}
@@ -60,19 +57,6 @@ told : (p : Parsed Held) {d n : ℕ} → answer p ≡ Read.Rows d n → (t : Hel
 told (stop k) e = let z : false ≡ true = cc in absurd (false≢true z)
 told (got t rest) e = (t, rest, refl, cc e, cc e)
 
--- the sizes stand behind D
-sizes-at : (s : List ℕ) {t : Held} {rest : List ℕ} → readTable s ≡ got t rest → t .sizes ≡ wordsAt s (length (t .sizes)) 8
-unfolding readTable body
-sizes-at s {t} e =
-    let h = through (header FACT s) (body s) e in
-    let zs = h .0 in
-    let p = header-read s FACT (h .2) in
-    let n = through (field 0 1025 5 (h .1)) (counted s zs) (h .3) in
-    let r = through (many (n .0) (row zs) (n .1)) (rowed s zs) (n .3) in
-    let c = through (close s (r .1)) (λ u rest′. got (record { sizes = zs; rows = r .0 }) rest′) (r .3) in
-    let all : record { sizes = zs; rows = r .0 } ≡ t = cc (c .3) in
-    subst (λ (x : Held). x .sizes ≡ wordsAt s (length (x .sizes)) 8) all (p .are ∙ ap (λ (k : ℕ). wordsAt s k 8) (sym (p .dims)))
-
 -- flat lists have the base rows of a table that was read
 pub record Tabled (s : List ℕ) (d n : ℕ) (codes : List ℕ) (sums : List ℤ) (counts : List ℕ) : Type 0 where
   pub small : n * d ≤ 8192
@@ -95,10 +79,11 @@ tabled {s} {d} {n} b e codes sums counts room h =
     let stored : rowsOf (length (t .sizes)) (length (baseRows t)) codes sums counts ≡ baseRows t = subst (λ (p : Parsed Held). Stored p codes sums counts) (x .2) h in
     let rows : rowsOf d n (take (n * d) codes) (take n sums) (take n counts) ≡ baseRows t
     = rows-front d n codes sums counts ∙ ap₂ (λ (i j : ℕ). rowsOf i j codes sums counts) (sym (x .3)) (sym (x .4)) ∙ stored in
-    let sizes : t .sizes ≡ wordsAt s d 8 = sizes-at s (x .2) ∙ ap (λ (k : ℕ). wordsAt s k 8) (x .3) in
+    let at = placed s t (x .2) in
+    let sizes : t .sizes ≡ wordsAt s d 8 = at .sizes ∙ ap (λ (k : ℕ). wordsAt s k 8) (x .3) in
     record {
       small = small;
-      headed = omega (arith, placed s t (x .2) .whole, x .3);
+      headed = omega (arith, at .whole, x .3);
       ready = limits-ready l rows (x .3) (sym (length-take-le (n * d) codes (omega (arith, small, room .0)))) (length-take-le n sums (omega (arith, few, room .1)))
           (length-take-le n counts (omega (arith, few, room .2)));
       limits = subst (λ (zs : List ℕ). Limits zs (rowsOf d n (take (n * d) codes) (take n sums) (take n counts))) sizes (subst (Limits (t .sizes)) (sym rows) l);

@@ -1,29 +1,27 @@
 -- An archive is accepted exactly if it is the archive of base rows within the limits, and what is read is what was written.
-use mathlib.Core.Path.{_≡_, refl, sym, ap, ap₂, _∙_, subst}
+use mathlib.Core.Path.{_≡_, refl, sym, ap, _∙_}
 use mathlib.Core.Logic.{_↔_}
-use mathlib.Core.List.{List, [], _∷_, map}
+use mathlib.Core.Bool.{true}
+use mathlib.Core.List.{List, [], map-map, map-id}
 use Prim.Native.Nat.{ℕ}
 use lib.ListN.{length}
 use Rattle.lists.specs.Order.{same}
 use Rattle.lists.proofs.Order.{same-eq, same-refl}
 use Rattle.walk.specs.Parsed.{Parsed, got, stopUnless}
 use Rattle.walk.specs.Limits.{Bytes}
-use Rattle.walk.proofs.Steps.{then-on, through, passed}
+use Rattle.walk.proofs.Steps.{then-on, through-test}
 use Rattle.cube.specs.declared.Total.{Total}
 use Rattle.cube.specs.Measure.{Row}
 use Rattle.entries.specs.Layout.{Held, based, required, archiveBytes, Limits}
 use Rattle.entries.specs.Reading.{walkArchive, rowsIn, readArchive}
 use Rattle.entries.proofs.Walkable.{walk-forth, walk-back}
-use Rattle.entries.proofs.Limits.{walkable-limits, limits-walkable}
+use Rattle.entries.proofs.Entered.{walkable-limits}
+use Rattle.entries.proofs.Limits.{limits-walkable}
 
 -- the rows of our entries are the rows
 pub required-rows : (zs : List ℕ) (rows : List (Row Total)) → rowsIn (required zs rows) ≡ rows
 unfolding required
-required-rows zs rows = go (length zs) rows rows
-  where
-    go : (d : ℕ) (all rs : List (Row Total)) → map (λ b. b .row) (map (based d all) rs) ≡ rs
-    go d all [] = refl
-    go d all (r ∷ rs) = ap (λ (l : List (Row Total)). r ∷ l) (go d all rs)
+required-rows zs rows = map-map (λ b. b .row) (based (length zs) rows) rows ∙ map-id rows
 
 pub required-sizes : (zs : List ℕ) (rows : List (Row Total)) → required zs rows .sizes ≡ zs
 unfolding required
@@ -43,20 +41,20 @@ archive-back zs rows l =
     then-on (judged (archiveBytes zs rows)) (walked zs rows l)
     ∙ rw (required-sizes zs rows, required-rows zs rows, same-refl (archiveBytes zs rows))
 
+-- what was read was walked over, and passed stop 12
+pub read-forth : (s : List ℕ) {a : Held} {rest : List ℕ} → readArchive s ≡ got a rest → (walkArchive s ≡ got a rest) × (same s (archiveBytes (a .sizes) (rowsIn a)) ≡ true)
+unfolding readArchive
+read-forth s e = through-test (λ h. same s (archiveBytes (h .sizes) (rowsIn h))) 12 (walkArchive s) e
+
 pub archive-forth : (s : List ℕ) (a : Held) (rest : List ℕ) → Bytes s → readArchive s ≡ got a rest
     → Limits (a .sizes) (rowsIn a) × (s ≡ archiveBytes (a .sizes) (rowsIn a)) × (a ≡ required (a .sizes) (rowsIn a)) × (rest ≡ [])
-unfolding readArchive
 archive-forth s a rest b e =
-    let t = through (walkArchive s) (judged s) e in
-    let p = passed (same s (archiveBytes (t .0 .sizes) (rowsIn (t .0)))) (got (t .0) (t .1)) 12 (t .3) in
-    let q : t .0 ≡ a = cc (p .1) in
-    let r : t .1 ≡ rest = cc (p .1) in
-    let w : walkArchive s ≡ got a rest = t .2 ∙ ap₂ got q r in
-    let f = walk-forth s a rest b w in
+    let t = read-forth s e in
+    let f = walk-forth s a rest b (t .0) in
     let l = walkable-limits a (f .0) in
-    let s′ : s ≡ archiveBytes (a .sizes) (rowsIn a) = subst (λ (h : Held). s ≡ archiveBytes (h .sizes) (rowsIn h)) q (same-eq s (archiveBytes (t .0 .sizes) (rowsIn (t .0))) (p .0)) in
-    let g = sym w ∙ ap walkArchive s′ ∙ walked (a .sizes) (rowsIn a) l in
-    (l, s′, cc g, f .2)
+    let k = same-eq s (archiveBytes (a .sizes) (rowsIn a)) (t .1) in
+    let g = sym (t .0) ∙ ap walkArchive k ∙ walked (a .sizes) (rowsIn a) l in
+    (l, k, cc g, f .2)
 
 -- An archive is accepted exactly if it is the archive of sizes and base rows within the limits.
 pub accepted-iff : (s : List ℕ) → Bytes s → ((a : Held) × (readArchive s ≡ got a [])) ↔ ((zs : List ℕ) × (rows : List (Row Total)) × Limits zs rows × (s ≡ archiveBytes zs rows))

@@ -10,12 +10,11 @@ use Rattle.walk.specs.Parsed.{Parsed, stop, got, many}
 use Rattle.walk.specs.Fields.{room, word}
 use Rattle.walk.specs.Walked.{Walked}
 use Rattle.walk.proofs.Steps.{then-on, then-off, through, walked-as, cons-forth}
-use Rattle.walk.proofs.Fields.{word-at-place, word-on, word-off}
+use Rattle.walk.proofs.Fields.{word-at-place, word-rest, word-on, word-off}
 use Rattle.cube.specs.declared.Total.{Total}
 use Rattle.cube.specs.Measure.{Row}
 use Rattle.entries.specs.Reading.{cell, cells}
 use Rattle.walk.proofs.Any.{Any, any-as, any-none, any-then, any-word, any-sum, any-many, any-walked}
-use Rattle.walk.proofs.Places.{word-read}
 
 -- a normal entry is so many bytes of any value
 any-cell : (d : ℕ) → Any (cell d) (4 * d + 12)
@@ -47,5 +46,5 @@ pub cells-read : (s : List ℕ) (d at : ℕ) {cs : List (Row Total)} {rest : Lis
 unfolding cells
 cells-read s d at h e =
     let t = through (word (drop at s)) (λ n. many n (cell d)) e in
-    let w = word-read s at h (t .2) in
-    (w .0 .whole, many-length (cell d) (t .0) (t .1) (t .3) ∙ w .1)
+    let w = word-rest s at h (t .2) in
+    (w .0, many-length (cell d) (t .0) (t .1) (t .3) ∙ w .2)

@@ -6,24 +6,18 @@ use native.Mathlib.Omega.{arith}
 use lib.ListN.{length, drop}
 use Rattle.fields.specs.Words.{wordAt, wordsAt}
 use Rattle.walk.specs.declared.Walk.{Walk}
-use Rattle.walk.specs.declared.Walk.the-variants.{Stop, At}
+use Rattle.walk.specs.declared.Walk.the-variants.{At}
 use Rattle.walk.specs.Parsed.{Parsed, stop, got, andThen, consed}
 use Rattle.walk.specs.Fields.{field}
 use Rattle.walk.specs.Walked.{Says, Walked}
-use Rattle.walk.proofs.Steps.{then-on, then-off, through, walked-as, Follows, step-on, step-off, step-done, cons-forth}
+use Rattle.walk.proofs.Steps.{then-on, then-off, through, walked-as, walked-map, cons-forth}
+use Rattle.walk.proofs.Loops.{Follows, step-on, step-off, step-done}
+use Rattle.walk.proofs.Fields.{word-rest, field-got}
 use Rattle.cube.specs.declared.Total.{Total}
+use Rattle.cube.specs.Measure.{Row}
 use Rattle.entries.specs.Layout.{Based}
 use Rattle.entries.specs.Reading.{rising, amount, list, entry, entries, bases}
-use Rattle.walk.proofs.Places.{field-read}
 use Rattle.entries.proofs.Entry.{entry-read}
-
--- a value made of what was read ends where it ends
-walked-made : {A B : Type 0} {s : List ℕ} {p : Parsed A} {r : Walk} (make : A → B) → Walked s p r → Walked s (andThen p (λ x rest. got (make x) rest)) r
-walked-made {A} {B} {s} {p} {r} make h = record { says = go r (h .says) }
-  where
-    go : (r : Walk) → Says s p r → Says s (andThen p (λ x rest. got (make x) rest)) r
-    go (Stop n) e = then-off (λ x rest. got (make x) rest) e
-    go (At k) g = (make (g .0), then-on (λ x rest. got (make x) rest) (g .1), g .2)
 
 -- ---- an entry
 
@@ -50,7 +44,7 @@ module _ (zs before : List ℕ) (total : ℕ) (l : List ℕ) where
     entry-ended f = entry-codes ∙ then-off (listed x) f
 
     pub entry-on : {t : Total} {k s : List ℕ} {r : Walk} → amount total m ≡ got t k → Walked s (list k) r → Walked s (entry zs before total l) r
-    entry-on {t} f h = walked-as (entry-codes ∙ then-on (listed x) f) (walked-made (made x t) h)
+    entry-on {t} f h = walked-as (entry-codes ∙ then-on (listed x) f) (walked-map (made x t) h)
 
 -- ---- the loop over entries
 
@@ -67,9 +61,7 @@ module _ {s : List ℕ} (zs before : List ℕ) (total at i n : ℕ) {whole : Par
       → Follows s (entries zs (n - (i + 1)) (wordsAt s (length zs) at) (total + w) rest) whole
   entries-on {e} {w} {rest} h l f g =
       let r = entry-read s zs before total at l f .row in
-      let c : e .row .total .count ≡ w = ap (λ x. x .total .count) r ∙ sym g in
-      subst (λ (x : List ℕ). Follows s (entries zs (n - (i + 1)) x (total + w) rest) whole) (ap (λ x. x .codes) r)
-      (subst (λ (m : ℕ). Follows s (entries zs (n - (i + 1)) (e .row .codes) (total + m) rest) whole) c (step-on v more (left h) f))
+      rw g (subst (λ (x : Row Total). Follows s (entries zs (n - (i + 1)) (x .codes) (total + x .total .count) rest) whole) r (step-on v more (left h) f))
 
   pub entries-off : {k : ℕ} → i < n → entry zs before total (drop at s) ≡ stop k → whole ≡ stop k
   entries-off h e = step-off v more (left h) e
@@ -108,11 +100,12 @@ pub bases-read : (s zs : List ℕ) (at : ℕ) {bs : List Based} {rest : List ℕ
 unfolding bases
 bases-read s zs at {bs} h e =
     let t = through (field 0 1025 5 (drop at s)) (λ n. entries zs n [] 0) e in
-    let f = field-read s 0 1025 5 at h (t .2) in
+    let f = field-got 0 1025 5 (drop at s) (t .2) in
+    let w = word-rest s at h (f .0) in
     let n = entries-length zs (t .0) [] 0 (t .1) (t .3) in
     record {
-      whole = f .0 .whole;
-      count = n ∙ f .0 .value;
-      few = omega (arith, n, f .0 .below);
-      read = rw n (ap (entries zs (t .0) [] 0) (sym (f .1)) ∙ t .3);
+      whole = w .0;
+      count = n ∙ w .2;
+      few = omega (arith, n, f .2);
+      read = rw n (ap (entries zs (t .0) [] 0) (sym (w .1)) ∙ t .3);
     }

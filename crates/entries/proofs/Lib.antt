@@ -1,11 +1,14 @@
 -- Laws of archives.
 pub mod Written
 pub mod Walkable
+pub mod Entered
 pub mod Limits
 pub mod Accepted
 pub mod Bounds
 pub mod After
 pub mod Front
+pub mod Fair
+pub mod Parts
 pub mod Entry
 pub mod Entries
 pub mod Cells

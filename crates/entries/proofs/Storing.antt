@@ -67,14 +67,14 @@ module _ (b : List ℕ) (d n : ℕ) (c : List ℕ) (s : List ℤ) (k : List ℕ)
         subst (λ (m : ℕ). Entry b m (t .total) at (here h .0 .row) (here h .2)) (a .dims) (entry-read b (a .held .sizes) (t .before) (t .total) at (t .place) (here h .3))
 
     pub turn-whole : i < n → at + widthThere b d at ≤ length b
-    turn-whole h = there h .took .whole
+    turn-whole h = there h .whole
 
     pub turn-on : (c′ : List ℕ) (s′ : List ℤ) (k′ : List ℕ) {next : ℕ} → i < n → rowsOf d (suc i) c′ s′ k′ ≡ rowsOf d i c s k ++ rowThere b d at ∷ []
         → next ≡ at + widthThere b d at → Turn b d n c′ s′ k′ next (i + 1)
     turn-on c′ s′ k′ {next} h e f =
         let g = here h in
         let q = there h in
-        let l : g .2 ≡ drop next b = q .took .behind ∙ ap (λ (m : ℕ). drop m b) (sym f) in
+        let l : g .2 ≡ drop next b = q .behind ∙ ap (λ (m : ℕ). drop m b) (sym f) in
         record {
           archive = t .archive;
           below = omega arith;

@@ -1,7 +1,8 @@
 -- The entries of an archive as bytes: what is written is read back, and what was read stands there.
-use mathlib.Core.Path.{_≡_, refl, sym, ap, _∙_, subst}
+use mathlib.Core.Path.{_≡_, refl, ap}
 use mathlib.Core.Bool.{true}
-use mathlib.Core.List.{List, [], _∷_, _++_, flatMap, append-assoc}
+use mathlib.Core.Logic.{_↔_}
+use mathlib.Core.List.{List, [], _∷_, _++_, flatMap}
 use Prim.Native.Nat.{ℕ, zero, suc, _+_, _^_, _≤_, _<_}
 use native.Mathlib.Omega.{arith}
 use lib.IntN.{ℤ}
@@ -9,13 +10,16 @@ use lib.ListN.{length}
 use lib.Signed.{mag}
 use Rattle.lists.specs.Lists.{_∈_}
 use Rattle.lists.specs.Order.{earlier}
+use Rattle.lists.proofs.Pigeonhole.{no-more}
 use Rattle.fields.specs.Words.{wordBytes, wordsBytes}
 use Rattle.fields.specs.Twos.{sumBytes}
-use Rattle.walk.specs.Parsed.{Parsed, stop, got, andThen, stopUnless, many}
+use Rattle.walk.specs.Parsed.{Parsed, got, andThen, stopUnless, many}
 use Rattle.walk.specs.Fields.{word, sum, codes}
-use Rattle.walk.specs.Limits.{Below, Bytes}
-use Rattle.walk.proofs.Steps.{cons-back, cons-forth}
-use Rattle.walk.proofs.Codecs.{Codec, bytes-behind, word-codec, sum-codec, field-codec, words-codec, codes-codec, many-codec, codec-same, codec-test, codec-pair, codec-count, tested, pair}
+use Rattle.walk.specs.Limits.{Below}
+use Rattle.walk.proofs.Steps.{then-made}
+use Rattle.walk.proofs.Codec.{Codec, codec-same, codec-as, codec-test, pair, codec-pair, codec-count}
+use Rattle.walk.proofs.Many.{flat-each, Cons, codec-nil, codec-cons, words-codec, many-codec}
+use Rattle.walk.proofs.Codecs.{word-codec, sum-codec, field-codec, codes-codec}
 use Rattle.cube.specs.declared.Total.{Total}
 use Rattle.cube.specs.Measure.{Row}
 use Rattle.entries.specs.Layout.{Based, cellBytes, baseBytes}
@@ -38,62 +42,42 @@ row x t = record { codes = x; total = t }
 abbrev based : Row Total → List ℕ → Based
 based r ss = record { row = r; list = ss }
 
-abbrev amounts : List ℕ → Parsed Total
-amounts = pair total (λ t. t .sum) (λ t. t .count) (λ t. refl) (λ z n. refl) (λ z n. refl) sum (λ z. word)
+-- a sum and a count
+abbrev totalBytes : Total → List ℕ
+totalBytes t = sumBytes (t .sum) ++ wordBytes (t .count)
 
-amounts-codec : Codec amounts (λ t. sumBytes (t .sum) ++ wordBytes (t .count)) Wide
+abbrev amounts : List ℕ → Parsed Total
+amounts = pair total sum (λ z. word)
+
+amounts-codec : Codec amounts totalBytes Wide
 amounts-codec = codec-pair total (λ t. t .sum) (λ t. t .count) (λ t. refl) (λ z n. refl) (λ z n. refl) sum-codec (λ z p. word-codec)
+
+amount-codec : (before : ℕ) → Codec (amount before) totalBytes (λ t. Wide t × (fair before (t .sum) (t .count) ≡ true))
+unfolding amount
+amount-codec before = codec-same (λ l. then-made total (sum l) (λ z. word) (λ t rest. stopUnless (fair before (t .sum) (t .count)) 8 (got t rest)))
+    (codec-test (λ t. fair before (t .sum) (t .count)) 8 amounts-codec)
+
+-- codes with a sum and a count
+module _ {f : List ℕ → Parsed (List ℕ)} {g : List ℕ → Parsed Total} {P : List ℕ → Type 0} {Q : Total → Type 0} where
+  row-codec : Codec f wordsBytes P → Codec g totalBytes Q → Codec (pair row f (λ x. g)) cellBytes (λ r. P (r .codes) × Q (r .total))
+  unfolding cellBytes
+  row-codec c k = codec-pair row (λ r. r .codes) (λ r. r .total) (λ r. refl) (λ x t. refl) (λ x t. refl) c (λ x p. k)
 
 -- ---- a normal entry
 
-cell-as : (d : ℕ) (l : List ℕ) → cell d l ≡ pair row (λ r. r .codes) (λ r. r .total) (λ r. refl) (λ x t. refl) (λ x t. refl) (many d word) (λ x. amounts) l
-unfolding cell
-cell-as d l = go (many d word l)
-  where
-    two : (x : List ℕ) (z : ℤ) (p : Parsed ℕ) → andThen p (λ n rest. got (row x (total z n)) rest) ≡ andThen (andThen p (λ n rest. got (total z n) rest)) (λ t rest. got (row x t) rest)
-    two x z (stop n) = refl
-    two x z (got v rest) = refl
-
-    one : (x : List ℕ) (p : Parsed ℤ) → andThen p (λ z rest. andThen (word rest) (λ n rest′. got (row x (total z n)) rest′))
-        ≡ andThen (andThen p (λ z rest. andThen (word rest) (λ n rest′. got (total z n) rest′))) (λ t rest. got (row x t) rest)
-    one x (stop n) = refl
-    one x (got z rest) = two x z (word rest)
-
-    go : (p : Parsed (List ℕ)) → andThen p (λ x rest. andThen (sum rest) (λ z rest′. andThen (word rest′) (λ n rest″. got (row x (total z n)) rest″)))
-        ≡ andThen p (λ x rest. andThen (amounts rest) (λ t rest′. got (row x t) rest′))
-    go (stop n) = refl
-    go (got x rest) = one x (sum rest)
-
 pub cell-codec : (d : ℕ) → Codec (cell d) cellBytes (λ r. Words d (r .codes) × Wide (r .total))
-unfolding cellBytes
-cell-codec d = codec-same (cell-as d) (codec-pair row (λ r. r .codes) (λ r. r .total) (λ r. refl) (λ x t. refl) (λ x t. refl) (words-codec word-codec d) (λ x p. amounts-codec))
+unfolding cell
+cell-codec d = codec-same (λ l i. andThen (many d word l) (λ x rest. then-made total (sum rest) (λ z. word) (λ t rest′. got (row x t) rest′) i))
+    (row-codec (words-codec word-codec d) amounts-codec)
 
 -- ---- a base entry
-
-amount-as : (before : ℕ) (l : List ℕ) → amount before l ≡ tested (λ t. fair before (t .sum) (t .count)) 8 amounts l
-unfolding amount
-amount-as before l = go (sum l)
-  where
-    two : (z : ℤ) (p : Parsed ℕ) → andThen p (λ n rest. stopUnless (fair before z n) 8 (got (total z n) rest))
-        ≡ andThen (andThen p (λ n rest. got (total z n) rest)) (λ t rest. stopUnless (fair before (t .sum) (t .count)) 8 (got t rest))
-    two z (stop n) = refl
-    two z (got n rest) = refl
-
-    go : (p : Parsed ℤ) → andThen p (λ z rest. andThen (word rest) (λ n rest′. stopUnless (fair before z n) 8 (got (total z n) rest′)))
-        ≡ andThen (andThen p (λ z rest. andThen (word rest) (λ n rest′. got (total z n) rest′))) (λ t rest. stopUnless (fair before (t .sum) (t .count)) 8 (got t rest))
-    go (stop n) = refl
-    go (got z rest) = two z (word rest)
-
-amount-codec : (before : ℕ) → Codec (amount before) (λ t. sumBytes (t .sum) ++ wordBytes (t .count)) (λ t. Wide t × (fair before (t .sum) (t .count) ≡ true))
-amount-codec before = codec-same (amount-as before) (codec-test (λ t. fair before (t .sum) (t .count)) 8 amounts-codec)
 
 rising-codec : (zs x : List ℕ) → ((z : ℕ) → z ∈ zs → z ≤ 2 ^ 32) → Codec (rising zs x) wordsBytes (λ y. Below zs y × (earlier x y ≡ true))
 unfolding rising
 rising-codec zs x h = codec-test (earlier x) 7 (codes-codec zs h)
 
 -- a list: its length, and its sets
-
-list-codec : Codec list (λ ss. wordBytes (length ss) ++ wordsBytes ss) (λ ss. ((0 ≤ length ss) × (length ss < 71)) × ((s : ℕ) → s ∈ ss → s < 2 ^ 32))
+pub list-codec : Codec list (λ ss. wordBytes (length ss) ++ wordsBytes ss) (λ ss. ((0 ≤ length ss) × (length ss < 71)) × ((s : ℕ) → s ∈ ss → s < 2 ^ 32))
 unfolding list
 list-codec = codec-count (field-codec 0 71 9 (omega arith)) (words-codec word-codec)
 
@@ -106,42 +90,15 @@ pub record Enters (zs x : List ℕ) (before : ℕ) (b : Based) : Type 0 where
   pub short : length (b .list) ≤ 70
   pub sets : (s : ℕ) → s ∈ b .list → s < 2 ^ 32
 
-module _ (zs x : List ℕ) (before : ℕ) where
-  abbrev rows : List ℕ → Parsed (Row Total)
-  rows = pair row (λ r. r .codes) (λ r. r .total) (λ r. refl) (λ x t. refl) (λ x t. refl) (rising zs x) (λ y. amount before)
-
-  entry-as : (l : List ℕ) → entry zs x before l ≡ pair based (λ b. b .row) (λ b. b .list) (λ b. refl) (λ r s. refl) (λ r s. refl) rows (λ r. list) l
-  unfolding entry
-  entry-as l = go (rising zs x l)
-    where
-      one : (y : List ℕ) (p : Parsed Total) → andThen p (λ t rest. andThen (list rest) (λ ss rest′. got (based (row y t) ss) rest′))
-          ≡ andThen (andThen p (λ t rest. got (row y t) rest)) (λ r rest. andThen (list rest) (λ ss rest′. got (based r ss) rest′))
-      one y (stop n) = refl
-      one y (got t rest) = refl
-
-      go : (p : Parsed (List ℕ)) → andThen p (λ y rest. andThen (amount before rest) (λ t rest′. andThen (list rest′) (λ ss rest″. got (based (row y t) ss) rest″)))
-          ≡ andThen (andThen p (λ y rest. andThen (amount before rest) (λ t rest′. got (row y t) rest′))) (λ r rest. andThen (list rest) (λ ss rest′. got (based r ss) rest′))
-      go (stop n) = refl
-      go (got y rest) = one y (amount before rest)
-
-  module _ (h : (z : ℕ) → z ∈ zs → z ≤ 2 ^ 32) where
-    rows-codec : Codec rows cellBytes (λ r. (Below zs (r .codes) × (earlier x (r .codes) ≡ true)) × (Wide (r .total) × (fair before (r .total .sum) (r .total .count) ≡ true)))
-    unfolding cellBytes
-    rows-codec = codec-pair row (λ r. r .codes) (λ r. r .total) (λ r. refl) (λ x t. refl) (λ x t. refl) (rising-codec zs x h) (λ y p. amount-codec before)
-
-    entry-all : Codec (entry zs x before) baseBytes
-        (λ b. ((Below zs (b .row .codes) × (earlier x (b .row .codes) ≡ true)) × (Wide (b .row .total) × (fair before (b .row .total .sum) (b .row .total .count) ≡ true)))
-        × (((0 ≤ length (b .list)) × (length (b .list) < 71)) × ((s : ℕ) → s ∈ b .list → s < 2 ^ 32)))
-    unfolding baseBytes
-    entry-all = codec-same entry-as (codec-pair based (λ b. b .row) (λ b. b .list) (λ b. refl) (λ r s. refl) (λ r s. refl) rows-codec (λ r p. list-codec))
-
-    pub entry-codec : Codec (entry zs x before) baseBytes (Enters zs x before)
-    entry-codec = record {
-      back = λ b l e. entry-all .back b l (((e .below, e .after), (e .wide, e .fits)), ((omega arith, omega (arith, e .short)), e .sets));
-      forth = λ b l rest k e.
-          let r = entry-all .forth b l rest k e in
-          (record { below = r .0 .0 .0 .0; after = r .0 .0 .0 .1; wide = r .0 .0 .1 .0; fits = r .0 .0 .1 .1; short = omega (arith, r .0 .1 .0 .1); sets = r .0 .1 .1 }, r .1);
-    }
+entry-codec : (zs x : List ℕ) (before : ℕ) → ((z : ℕ) → z ∈ zs → z ≤ 2 ^ 32) → Codec (entry zs x before) baseBytes (Enters zs x before)
+unfolding entry baseBytes
+entry-codec zs x before h =
+    codec-as (λ b. (
+      λ p. record { below = p .0 .0 .0; after = p .0 .0 .1; wide = p .0 .1 .0; fits = p .0 .1 .1; short = omega (arith, p .1 .0 .1); sets = p .1 .1 },
+      λ e. (((e .below, e .after), (e .wide, e .fits)), ((omega arith, omega (arith, e .short)), e .sets)),
+    ))
+    (codec-same (λ l. then-made row (rising zs x l) (λ y. amount before) (λ r rest. andThen (list rest) (λ ss rest′. got (based r ss) rest′)))
+    (codec-pair based (λ b. b .row) (λ b. b .list) (λ b. refl) (λ r s. refl) (λ r s. refl) (row-codec (rising-codec zs x h) (amount-codec before)) (λ r p. list-codec)))
 
 -- n base entries, each told the codes and the total count before it
 abbrev pub Entered : List ℕ → List ℕ → ℕ → List Based → Type 0
@@ -149,34 +106,20 @@ Entered zs x before [] = Unit {0}
 Entered zs x before (b ∷ bs) = Enters zs x before b × Entered zs (b .row .codes) (before + b .row .total .count) bs
 
 module _ (zs : List ℕ) (h : (z : ℕ) → z ∈ zs → z ≤ 2 ^ 32) where
-  pub entries-back : (x : List ℕ) (before : ℕ) (bs : List Based) (l : List ℕ) → Entered zs x before bs → entries zs (length bs) x before (flatMap baseBytes bs ++ l) ≡ got bs l
-  unfolding entries flatMap
-  entries-back x before [] l e = refl
-  entries-back x before (b ∷ bs) l e = cons-back (λ b. entries zs (length bs) (b .row .codes) (before + b .row .total .count))
-      (ap (entry zs x before) (append-assoc (baseBytes b) (flatMap baseBytes bs) l) ∙ entry-codec zs x before h .back b (flatMap baseBytes bs ++ l) (e .0))
-      (entries-back (b .row .codes) (before + b .row .total .count) bs l (e .1))
-
-  pub entries-forth : (n : ℕ) (x : List ℕ) (before : ℕ) (bs : List Based) (l rest : List ℕ) → Bytes l → entries zs n x before l ≡ got bs rest
-      → (length bs ≡ n) × Entered zs x before bs × (l ≡ flatMap baseBytes bs ++ rest)
-  unfolding entries flatMap
-  entries-forth zero x before bs l rest k e = let p : [] ≡ bs = cc in let q : l ≡ rest = cc in rw (← p) (refl, tt, q)
-  entries-forth (suc n) x before bs l rest k e =
-      let t = cons-forth (λ b. entries zs n (b .row .codes) (before + b .row .total .count)) (entry zs x before l) e in
-      let g = entry-codec zs x before h .forth (t .0) l (t .2) k (t .3) in
-      let r = entries-forth n (t .0 .row .codes) (before + t .0 .row .total .count) (t .1) (t .2) rest (bytes-behind (baseBytes (t .0)) (t .2) (subst Bytes (g .1) k)) (t .4) in
-      rw (t .5) (
-        ap suc (r .0),
-        (g .0, r .1),
-        g .1 ∙ ap (λ (m : List ℕ). baseBytes (t .0) ++ m) (r .2) ∙ sym (append-assoc (baseBytes (t .0)) (flatMap baseBytes (t .1)) rest),
-      )
+  entries-codec : (n : ℕ) (x : List ℕ) (before : ℕ) → Codec (entries zs n x before) (flatMap baseBytes) (λ bs. (length bs ≡ n) × Entered zs x before bs)
+  unfolding entries
+  entries-codec zero x before = codec-as (λ bs. (λ e. rw e (refl, tt), λ p. no-more bs (p .0))) (codec-nil (flat-each baseBytes))
+  entries-codec (suc n) x before = codec-as each (codec-cons (flat-each baseBytes) (entry-codec zs x before h) (λ b p. entries-codec n (b .row .codes) (before + b .row .total .count)))
+    where
+      each : (bs : List Based) → Cons (Enters zs x before) (λ b bs. (length bs ≡ n) × Entered zs (b .row .codes) (before + b .row .total .count) bs) bs
+          ↔ ((length bs ≡ suc n) × Entered zs x before bs)
+      each [] = (λ p. absurd p, λ p. absurd (omega (arith, p .0)))
+      each (b ∷ bs) = (λ p. (ap suc (p .1 .0), (p .0, p .1 .1)), λ p. (p .1 .0, (omega (arith, p .0), p .1 .1)))
 
   -- the base count and the base entries
   pub bases-codec : Codec (bases zs) (λ bs. wordBytes (length bs) ++ flatMap baseBytes bs) (λ bs. ((0 ≤ length bs) × (length bs < 1025)) × Entered zs [] 0 bs)
   unfolding bases
-  bases-codec = codec-count (field-codec 0 1025 5 (omega arith)) (λ n. record {
-    back = λ bs l p. ap (λ (k : ℕ). entries zs k [] 0 (flatMap baseBytes bs ++ l)) (sym (p .0)) ∙ entries-back [] 0 bs l (p .1);
-    forth = λ bs l rest k e. let r = entries-forth n [] 0 bs l rest k e in ((r .0, r .1), r .2);
-  })
+  bases-codec = codec-count (field-codec 0 1025 5 (omega arith)) (λ n. entries-codec n [] 0)
 
 -- the normal count and the normal entries
 pub cells-codec : (d : ℕ) → Codec (cells d) (λ cs. wordBytes (length cs) ++ flatMap cellBytes cs)

@@ -2,7 +2,7 @@
 -- and the sets of fewer dimensions stand in it in their lattice order.
 use mathlib.Core.Path.{_≡_, refl, ap}
 use mathlib.Core.Bool.{Bool, true, _&&_}
-use mathlib.Core.List.{List, [], _∷_, Memᴰ·cast, List·Memᴰ·not-nil, List·Memᴰ·cases-cons}
+use mathlib.Core.List.{List, [], _∷_, Memᴰ·cast}
 use Prim.Native.Nat.{ℕ, _<_}
 use lib.Dec.{eqb, ltb}
 use lib.Count.{ones, onesIn}
@@ -10,10 +10,10 @@ use lib.ListN.{length, getD}
 use borrow.Author.Tests.{eqb-true, ltb-true}
 use Rattle.lists.specs.Lists.{every, some, below}
 use Rattle.lists.specs.Order.{Rising}
-use Rattle.lists.proofs.Tests.{cases, both, every-in, some-in}
+use Rattle.lists.proofs.Tests.{both, every-in, some-in}
 use Rattle.lists.proofs.Members.{below-of, in-at}
 use Rattle.lists.proofs.Places.{pairwise-at}
-use Rattle.lists.proofs.Order.{rising-unique}
+use Rattle.lists.proofs.Order.{rising-one, rising-cons, rising-unique}
 use Rattle.lattice.specs.Sets.{before, sets}
 use Rattle.lattice.proofs.Sets.{by-lattice, sets-in, sets-of, sets-rising}
 
@@ -29,11 +29,8 @@ right l = ordered l && (every (λ s. some (eqb s) l) (below 256) && every (λ s.
 
 ordered-rising : (l : List ℕ) → ordered l ≡ true → Rising before l
 ordered-rising [] e = tt
-ordered-rising (s ∷ []) e = (λ y m. absurd (List·Memᴰ·not-nil m), tt)
-ordered-rising (s ∷ t ∷ l) e =
-    let p = both (before s t) (ordered (t ∷ l)) e in
-    let r = ordered-rising (t ∷ l) (p .1) in
-    (λ u m. cases (List·Memᴰ·cases-cons m) (λ q. rw q (p .0)) (λ i. by-lattice .trans s t u (p .0) (r .0 u i)), r)
+ordered-rising (s ∷ []) e = rising-one before s
+ordered-rising (s ∷ t ∷ l) e = let p = both (before s t) (ordered (t ∷ l)) e in rising-cons before by-lattice s t l (p .0) (ordered-rising (t ∷ l) (p .1))
 
 pub table-is : (l : List ℕ) → right l ≡ true → l ≡ sets 8
 table-is l e =

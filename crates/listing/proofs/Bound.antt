@@ -7,6 +7,7 @@ use native.Mathlib.Omega.{arith}
 use lib.Dec.{eqb}
 use lib.ListN.{length, length-append}
 use Rattle.lists.specs.Lists.{_∈_}
+use Rattle.lists.proofs.Members.{flat-length}
 use Rattle.fields.specs.Words.{wordBytes}
 use Rattle.fields.specs.Check.{checkOf}
 use Rattle.decimals.specs.Decimals.{ascii, decimal}
@@ -22,13 +23,7 @@ use Rattle.entries.proofs.Lengths.{cell-length, base-length}
 use Rattle.lines.specs.Lines.{codeText, rowText, setText, baseText, cellText, headText}
 use Rattle.lines.proofs.Texts.{length-rowText, length-baseText, length-cellText, length-headText}
 use Rattle.listing.specs.Listing.{listing}
-use Rattle.listing.proofs.Fits.{RowFits, BaseFits, entered-fits}
-
--- texts of at most 11 bytes each
-flat-few : {A : Type 0} (text : A → List ℕ) (xs : List A) → ((x : A) → x ∈ xs → length (text x) ≤ 11) → length (flatMap text xs) ≤ 11 * length xs
-unfolding flatMap
-flat-few text [] h = omega arith
-flat-few text (x ∷ xs) h = omega (arith, length-append (text x) (flatMap text xs), h x (List·Memᴰ·head refl), flat-few text xs (λ y m. h y (List·Memᴰ·tail m)))
+use Rattle.listing.proofs.Fits.{RowFits, BaseFits, walkable-fits}
 
 -- texts that are at most 11 quarters as long as the bytes
 flat-within : {A : Type 0} (text bytes : A → List ℕ) (xs : List A) → ((x : A) → x ∈ xs → 4 * length (text x) ≤ 11 * length (bytes x))
@@ -59,7 +54,7 @@ row-few : (d : ℕ) (r : Row Total) → RowFits d r → length (rowText r) ≤ 1
 row-few d r f = omega (
   arith,
   length-rowText r,
-  flat-few codeText (r .codes) (λ c m. code-few c (f .0 .1 c m)),
+  flat-length codeText 11 (r .codes) (λ c m. code-few c (f .0 .1 c m)),
   f .0 .0,
   integer-digits (r .total .sum) (f .1 .0),
   word-digits (r .total .count) (f .1 .1),
@@ -70,7 +65,7 @@ base-within d b f = omega (
   arith,
   length-baseText b,
   row-few d (b .row) (f .row),
-  flat-few setText (b .list) (λ s m. set-few s (f .sets s m)),
+  flat-length setText 11 (b .list) (λ s m. set-few s (f .sets s m)),
   base-length d b (f .row .0 .0),
 )
 
@@ -107,6 +102,6 @@ listing-within a w =
       length-append head (flatMap baseText (a .bases) ++ flatMap cellText (a .cells)),
       length-append (flatMap baseText (a .bases)) (flatMap cellText (a .cells)),
       head-few d (length (a .bases)) (length (a .cells)) (omega (arith, w .sized .few)) (omega (arith, w .few)) (w .count),
-      flat-within baseText baseBytes (a .bases) (λ b m. base-within d b (entered-fits (a .sizes) (w .sized) [] 0 (a .bases) (w .entered) b m)),
+      flat-within baseText baseBytes (a .bases) (λ b m. base-within d b (walkable-fits w b m)),
       flat-within cellText cellBytes (a .cells) (λ r m. cell-within d r (w .each r m)),
     )

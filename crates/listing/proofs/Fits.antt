@@ -1,18 +1,20 @@
 -- What was read of an archive is made of words, and its sums fit 64 bits.
-use mathlib.Core.Path.{sym, subst}
-use mathlib.Core.List.{List, [], _∷_, List·Memᴰ·head, List·Memᴰ·tail, List·Memᴰ·not-nil, List·Memᴰ·cases-cons}
-use mathlib.Core.Path.{refl}
-use Prim.Native.Nat.{ℕ, _+_, _^_, _≤_, _<_}
-use native.Mathlib.Omega.{arith}
+use mathlib.Core.Path.{subst}
+use mathlib.Core.List.{List, []}
+use Prim.Native.Nat.{ℕ, _^_, _≤_, _<_}
 use lib.ListN.{length}
 use Rattle.lists.specs.Lists.{_∈_}
-use Rattle.lists.proofs.Tests.{cases}
-use Rattle.walk.specs.Limits.{Sized, Below}
-use Rattle.walk.proofs.Lengths.{length-below}
+use Rattle.lattice.specs.Sets.{full}
+use Rattle.walk.specs.Limits.{Sized}
+use Rattle.walk.proofs.Limits.{below-coded}
 use Rattle.cube.specs.declared.Total.{Total}
 use Rattle.cube.specs.Measure.{Row}
-use Rattle.entries.specs.Layout.{Based}
-use Rattle.entries.proofs.Written.{Words, Wide, Enters, Entered}
+use Rattle.cube.proofs.Codes.{cell-full}
+use Rattle.entries.specs.Layout.{Based, Held}
+use Rattle.entries.proofs.Written.{Words, Wide, Enters}
+use Rattle.entries.proofs.Walkable.{Walkable}
+use Rattle.entries.proofs.Entered.{entered-each}
+use Rattle.entries.proofs.Limits.{cell-words}
 
 -- a row
 abbrev pub RowFits : ℕ → Row Total → Type 0
@@ -24,22 +26,13 @@ pub record BaseFits (d : ℕ) (b : Based) : Type 0 where
   pub short : length (b .list) ≤ 70
   pub sets : (s : ℕ) → s ∈ b .list → s < 2 ^ 32
 
-below-words : (zs x : List ℕ) → ((z : ℕ) → z ∈ zs → z ≤ 65535) → Below zs x → (w : ℕ) → w ∈ x → w < 2 ^ 32
-below-words [] [] h b w m = absurd (List·Memᴰ·not-nil m)
-below-words [] (a ∷ x) h b w m = absurd b
-below-words (z ∷ zs) [] h b w m = absurd b
-below-words (z ∷ zs) (a ∷ x) h b w m = cases (List·Memᴰ·cases-cons m)
-    (λ e. rw e (omega (arith, b .0, h z (List·Memᴰ·head refl))))
-    (below-words zs x (λ y i. h y (List·Memᴰ·tail i)) (b .1) w)
+-- the codes of a base entry are the cell of the full set
+enters-fits : {zs x : List ℕ} {before : ℕ} {b : Based} → Sized zs → Enters zs x before b → BaseFits (length zs) b
+enters-fits {zs} {b = b} s e =
+    let d = length zs in
+    let y = b .row .codes in
+    let k = below-coded zs y (λ z m. s .each z m .1) (e .below) in
+    record { row = (subst (Words d) (cell-full d y k) (cell-words d (full d) y k), e .wide); short = e .short; sets = e .sets }
 
-module _ (zs : List ℕ) (sized : Sized zs) where
-  enters-fits : (x : List ℕ) (before : ℕ) (b : Based) → Enters zs x before b → BaseFits (length zs) b
-  enters-fits x before b e =
-      let y = b .row .codes in
-      record { row = ((length-below zs y (e .below), below-words zs y (λ z m. sized .each z m .1) (e .below)), e .wide); short = e .short; sets = e .sets }
-
-  pub entered-fits : (x : List ℕ) (before : ℕ) (bs : List Based) → Entered zs x before bs → (b : Based) → b ∈ bs → BaseFits (length zs) b
-  entered-fits x before [] e b m = absurd (List·Memᴰ·not-nil m)
-  entered-fits x before (c ∷ bs) e b m = cases (List·Memᴰ·cases-cons m)
-      (λ q. subst (BaseFits (length zs)) (sym q) (enters-fits x before c (e .0)))
-      (entered-fits (c .row .codes) (before + c .row .total .count) bs (e .1) b)
+pub walkable-fits : {a : Held} → Walkable a → (b : Based) → b ∈ a .bases → BaseFits (length (a .sizes)) b
+walkable-fits {a} w b m = enters-fits (w .sized) (entered-each (a .sizes) [] 0 (a .bases) (w .entered) m .2)

@@ -1,26 +1,26 @@
 -- Where the entries of an accepted archive stand, and that its text is short enough.
 use mathlib.Core.Path.{_≡_, sym, ap, subst, _∙_}
-use mathlib.Core.List.{List, [], _++_, flatMap, append-assoc}
+use mathlib.Core.List.{List, _++_, flatMap, append-assoc}
 use Prim.Native.Nat.{ℕ, _+_, _-_, _*_, _≤_}
 use native.Mathlib.Omega.{arith}
 use lib.ListN.{length, drop, length-append}
-use lib.Seq.{drop-at}
-use Rattle.fields.specs.Words.{wordBytes, wordsBytes, wordAt}
+use Rattle.lists.proofs.Parts.{drop-front}
+use Rattle.fields.specs.Words.{wordBytes, wordAt}
 use Rattle.fields.specs.Check.{checkOf}
-use Rattle.walk.specs.Fields.{word, headerBytes}
+use Rattle.walk.specs.Parsed.{got}
+use Rattle.walk.specs.Fields.{headerBytes}
 use Rattle.walk.specs.Limits.{Bytes}
-use Rattle.walk.proofs.Codecs.{word-codec}
 use Rattle.walk.proofs.Lengths.{length-flat, length-header}
-use Rattle.walk.proofs.Places.{word-read}
-use Rattle.entries.specs.Layout.{CUBE, Held, cellBytes, baseBytes, section, layout, archiveBytes}
-use Rattle.entries.specs.Reading.{readArchive, rowsIn}
-use Rattle.entries.proofs.Walkable.{Walkable}
-use Rattle.entries.proofs.Limits.{limits-walkable}
-use Rattle.entries.proofs.Accepted.{archive-forth}
+use Rattle.walk.proofs.Places.{header-read}
+use Rattle.entries.specs.Layout.{CUBE, Held, cellBytes, baseBytes, section, layout}
+use Rattle.entries.specs.Reading.{walkArchive, readArchive}
+use Rattle.entries.proofs.Walkable.{Walkable, walk-forth}
+use Rattle.entries.proofs.Fields.{parts as came}
+use Rattle.entries.proofs.Accepted.{read-forth}
 use Rattle.entries.proofs.Lengths.{cell-length}
 use Rattle.lines.specs.Lines.{headText, baseText, cellText}
 use Rattle.listing.specs.Listing.{listing, heldBy, Accepted}
-use Rattle.listing.proofs.Fits.{RowFits, BaseFits, entered-fits}
+use Rattle.listing.proofs.Fits.{RowFits, BaseFits, walkable-fits}
 use Rattle.listing.proofs.Turns.{Turn, turn-start}
 use Rattle.listing.proofs.Bound.{listing-within}
 
@@ -35,22 +35,30 @@ module _ {s : List ℕ} {d n m : ℕ} (b : Bytes s) (x : Accepted s d n m) where
   abbrev a : Held
   a = x .held
 
-  pub held-is : heldBy (readArchive s) ≡ a
+  held-is : heldBy (readArchive s) ≡ a
   held-is = ap heldBy (x .read)
 
+  walked : walkArchive s ≡ got a (x .rest)
+  walked = read-forth s (x .read) .0
+
   walkable : Walkable a
-  walkable = let f = archive-forth s a (x .rest) b (x .read) in subst Walkable (sym (f .2)) (limits-walkable (a .sizes) (rowsIn a) (f .0))
+  walkable = walk-forth s a (x .rest) b walked .0
 
   is-layout : s ≡ layout a
-  unfolding archiveBytes
-  is-layout = let f = archive-forth s a (x .rest) b (x .read) in f .1 ∙ ap layout (sym (f .2))
+  is-layout = walk-forth s a (x .rest) b walked .1
 
   -- the parts of its bytes
   abbrev front : List ℕ
   front = headerBytes CUBE (a .sizes)
 
+  abbrev baseCount : List ℕ
+  baseCount = wordBytes (length (a .bases))
+
   abbrev bases : List ℕ
   bases = flatMap baseBytes (a .bases)
+
+  abbrev cellCount : List ℕ
+  cellCount = wordBytes (length (a .cells))
 
   abbrev cells : List ℕ
   cells = flatMap cellBytes (a .cells)
@@ -59,28 +67,22 @@ module _ {s : List ℕ} {d n m : ℕ} (b : Bytes s) (x : Accepted s d n m) where
   check = wordBytes (checkOf (front ++ (section baseBytes (a .bases) ++ section cellBytes (a .cells))))
 
   abbrev behind : List ℕ
-  behind = wordBytes (length (a .cells)) ++ (cells ++ check)
+  behind = cellCount ++ (cells ++ check)
 
-  parts : s ≡ front ++ (wordBytes (length (a .bases)) ++ (bases ++ behind))
+  parts : s ≡ front ++ (baseCount ++ (bases ++ behind))
   unfolding layout
-  parts = is-layout ∙ in-order front (wordBytes (length (a .bases))) bases (wordBytes (length (a .cells))) cells check
+  parts = is-layout ∙ in-order front baseCount bases cellCount cells check
 
   -- D stands behind the opening
   pub dims-there : d ≡ wordAt s 4
-  dims-there =
-      let D = length (a .sizes) in
-      let rest = wordsBytes (a .sizes) ++ (wordBytes (length (a .bases)) ++ (bases ++ behind)) in
-      let e : s ≡ CUBE ++ (wordBytes D ++ rest) = parts in
-      let f : drop 4 s ≡ wordBytes D ++ rest = ap (drop 4) e in
-      x .dims ∙ word-read s 4 (omega (arith, ap length e, length-append CUBE (wordBytes D ++ rest))) (ap word f ∙ word-codec .back D rest (omega (arith, walkable .sized .few))) .1
+  dims-there = x .dims ∙ header-read s CUBE (came s walked .2) .dims
 
   -- the base entries stand behind the sizes and the base count
   bases-there : drop (12 + 4 * d) s ≡ bases ++ behind
   bases-there =
-      let p = front ++ wordBytes (length (a .bases)) in
-      let e : s ≡ p ++ (bases ++ behind) = parts ∙ sym (append-assoc front (wordBytes (length (a .bases))) (bases ++ behind)) in
-      ap (drop (12 + 4 * d)) e
-      ∙ drop-at p (bases ++ behind) (12 + 4 * d) (omega (arith, length-append front (wordBytes (length (a .bases))), length-header CUBE (a .sizes), x .dims))
+      let p = front ++ baseCount in
+      let e : s ≡ p ++ (bases ++ behind) = parts ∙ sym (append-assoc front baseCount (bases ++ behind)) in
+      drop-front p (bases ++ behind) (12 + 4 * d) e (omega (arith, length-append front baseCount, length-header CUBE (a .sizes), x .dims))
 
   -- the normal entries stand before the check word
   cells-length : length cells ≡ m * (4 * d + 12)
@@ -89,19 +91,18 @@ module _ {s : List ℕ} {d n m : ℕ} (b : Bytes s) (x : Accepted s d n m) where
       e ∙ ap (λ (k : ℕ). k * (4 * d + 12)) (sym (x .cells))
 
   pub whole : 20 + 4 * d + m * (4 * d + 12) ≤ length s
-  whole = omega (arith, ap length parts, length-append front (wordBytes (length (a .bases)) ++ (bases ++ behind)), length-append bases behind, length-append cells check, length-header CUBE (a .sizes), x .dims, cells-length)
+  whole = omega (arith, ap length parts, length-append front (baseCount ++ (bases ++ behind)), length-append bases behind, length-append cells check, length-header CUBE (a .sizes), x .dims, cells-length)
 
   cells-there : drop (length s - 4 - m * (4 * d + 12)) s ≡ cells ++ check
   cells-there =
-      let p = front ++ (wordBytes (length (a .bases)) ++ (bases ++ wordBytes (length (a .cells)))) in
-      let e : s ≡ p ++ (cells ++ check) = parts ∙ four-first front (wordBytes (length (a .bases))) bases (wordBytes (length (a .cells))) (cells ++ check) in
-      let k : length p ≡ length s - 4 - m * (4 * d + 12) = omega (arith, ap length e, length-append p (cells ++ check), length-append cells check, cells-length) in
-      ap (drop (length s - 4 - m * (4 * d + 12))) e ∙ drop-at p (cells ++ check) (length s - 4 - m * (4 * d + 12)) k
+      let p = front ++ (baseCount ++ (bases ++ cellCount)) in
+      let e : s ≡ p ++ (cells ++ check) = parts ∙ four-first front baseCount bases cellCount (cells ++ check) in
+      drop-front p (cells ++ check) (length s - 4 - m * (4 * d + 12)) e (omega (arith, ap length e, length-append p (cells ++ check), length-append cells check, cells-length))
 
   -- where the loops over the entries begin
   pub bases-start : (l : List ℕ) → Turn baseBytes baseText (BaseFits d) s (heldBy (readArchive s) .bases) l l 0 n (12 + 4 * d) 0
   bases-start l = rw held-is (turn-start baseBytes baseText (BaseFits d) s (a .bases) l behind (sym (x .bases)) (omega (arith, whole)) bases-there
-      (λ e i. subst (λ (k : ℕ). BaseFits k e) (sym (x .dims)) (entered-fits (a .sizes) (walkable .sized) [] 0 (a .bases) (walkable .entered) e i)))
+      (λ e i. subst (λ (k : ℕ). BaseFits k e) (sym (x .dims)) (walkable-fits walkable e i)))
 
   pub cells-start : (l : List ℕ) → Turn cellBytes cellText (RowFits d) s (heldBy (readArchive s) .cells) l l 0 m (length s - 4 - m * (4 * d + 12)) 0
   cells-start l = rw held-is (turn-start cellBytes cellText (RowFits d) s (a .cells) l check (sym (x .cells)) (omega arith) cells-there

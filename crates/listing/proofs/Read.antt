@@ -1,5 +1,5 @@
 -- Entries that stand at a place are read there.
-use mathlib.Core.Path.{_≡_, refl, sym, ap, _∙_}
+use mathlib.Core.Path.{_≡_, sym, ap, _∙_}
 use mathlib.Core.List.{List, _++_}
 use Prim.Native.Nat.{ℕ, _+_, _*_, _≤_}
 use native.Mathlib.Omega.{arith}
@@ -21,6 +21,6 @@ cell-reads d s r f at rest h e = (cell-there s d r f at rest h e, sym (cell-leng
 pub base-reads : (d : ℕ) (s : List ℕ) (b : Based) → BaseFits d b → (at : ℕ) (rest : List ℕ) → at ≤ length s → drop at s ≡ baseBytes b ++ rest
     → (baseThere s d at ≡ b) × (widthThere s d at ≡ length (baseBytes b))
 base-reads d s b f at rest h e =
-    let there = base-there s d b (f .row) (refl, f .sets) (omega (arith, f .short)) at rest h e in
+    let there = base-there s d b (f .row) (f .short) (f .sets) at rest h e in
     let sets : wordAt s (at + 4 * d + 12) ≡ length (b .list) = sym (length-wordsAt s (wordAt s (at + 4 * d + 12)) (at + 4 * d + 16)) ∙ ap (λ (x : Based). length (x .list)) there in
     (there, omega (arith, sets, base-length d b (f .row .0 .0)))

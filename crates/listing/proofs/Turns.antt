@@ -4,9 +4,10 @@ use mathlib.Core.List.{List, [], _∷_, _++_, flatMap, append-assoc, List·Mem�
 use Prim.Native.Nat.{ℕ, _+_, _-_, _≤_, _<_}
 use native.Mathlib.Omega.{arith}
 use lib.ListN.{length, drop, length-append, length-drop}
-use lib.Seq.{drop-drop, drop-at}
+use lib.Seq.{drop-drop}
 use borrow.Rule.Slice.PartMut.{midOf, putMid}
 use Rattle.lists.specs.Lists.{_∈_}
+use Rattle.lists.proofs.Parts.{drop-front}
 use Rattle.fields.specs.Written.{Wrote}
 use Rattle.writing.specs.Writing.{Writing}
 use Rattle.writing.specs.WritingLaws.{writing-none, writing-more, writing-done, writing-room}
@@ -82,7 +83,7 @@ module _ {A : Type 0} (bytes line : A → List ℕ) (P : A → Type 0) (there : 
         count = g .3;
         place = omega (arith, thing-whole);
         end = g .2;
-        here = ap (λ (j : ℕ). drop j s) e ∙ sym (drop-drop (width s at) at s) ∙ ap (drop (width s at)) here ∙ drop-at (bytes thing) behind (width s at) (sym (read .1));
+        here = ap (λ (j : ℕ). drop j s) e ∙ sym (drop-drop (width s at) at s) ∙ drop-front (bytes thing) behind (width s at) here (sym (read .1));
         each = λ y i. g .5 y (List·Memᴰ·tail i);
         writing = writing-more (line thing) (flatMap line (g .1)) (g .6) v;
       }

@@ -10,7 +10,7 @@ use lib.ListN.{length}
 use borrow.Author.Tests.{ltb-true, ltb-false, eqb-true, lt-ltb, le-ltb, eq-eqb, ne-eqb}
 use Rattle.lists.specs.Lists.{_∈_, Distinct}
 use Rattle.lists.specs.Order.{earlier, same, Strict, Rising, place, insert, sort}
-use Rattle.lists.proofs.Tests.{cases, both, both-of, either, truth}
+use Rattle.lists.proofs.Tests.{cases, both, both-of, either, truth, refuted}
 use Rattle.lists.proofs.Pairwise.{pairwise-imp}
 
 pub same-eq : (x y : List ℕ) → same x y ≡ true → x ≡ y
@@ -41,8 +41,14 @@ earlier-skip a b x y e = rw (le-ltb a b (omega arith), eq-eqb a b e)
 pub earlier-gt : (a b : ℕ) (x y : List ℕ) → b < a → earlier (a ∷ x) (b ∷ y) ≡ false
 earlier-gt a b x y h = rw (le-ltb a b (omega arith), ne-eqb a b (omega arith))
 
+-- no codes come before any
+pub earlier-none : (x y : List ℕ) → length x ≡ 0 → 1 ≤ length y → earlier x y ≡ true
+earlier-none [] [] e h = absurd (omega arith)
+earlier-none [] (b ∷ y) e h = refl
+earlier-none (a ∷ x) y e h = absurd (omega arith)
+
 earlier-rest : (a b : ℕ) (x y : List ℕ) → a ≡ b → earlier (a ∷ x) (b ∷ y) ≡ false → earlier x y ≡ false
-earlier-rest a b x y q e = cases (truth (earlier x y)) (λ t. absurd (false≢true (sym e ∙ earlier-eq a b x y q t))) (λ t. t)
+earlier-rest a b x y q e = refuted (λ t. false≢true (sym e ∙ earlier-eq a b x y q t))
 
 earlier-trans : (x y z : List ℕ) → earlier x y ≡ true → earlier y z ≡ true → earlier x z ≡ true
 earlier-trans [] [] z e f = f
@@ -74,10 +80,10 @@ by-codes = record { trans = earlier-trans; total = earlier-total; irrefl = earli
 
 module _ {A : Type 0} {less : A → A → Bool} (o : Strict less) where
   pub strict-self : (x : A) → less x x ≡ false
-  strict-self x = cases (truth (less x x)) (λ e. absurd (o .irrefl x e)) (λ e. e)
+  strict-self x = refuted (o .irrefl x)
 
   pub strict-turned : (x y : A) → less x y ≡ true → less y x ≡ false
-  strict-turned x y e = cases (truth (less y x)) (λ f. absurd (o .irrefl x (o .trans x y x e f))) (λ f. f)
+  strict-turned x y e = refuted (λ f. o .irrefl x (o .trans x y x e f))
 
 -- x comes before y, and z does not: x comes before z
 pub before-cut : (x y z : List ℕ) → earlier x y ≡ true → earlier z y ≡ false → earlier x z ≡ true
@@ -85,14 +91,21 @@ before-cut x y z e f = cases (truth (earlier y z)) (by-codes .trans x y z e) (λ
 
 -- not coming before is transitive
 pub not-cut : (x y z : List ℕ) → earlier x y ≡ false → earlier y z ≡ false → earlier x z ≡ false
-not-cut x y z e f = cases (truth (earlier x z)) (λ g. absurd (false≢true (sym e ∙ before-cut x z y g f))) (λ g. g)
+not-cut x y z e f = refuted (λ g. false≢true (sym e ∙ before-cut x z y g f))
 
 pub not-same : (x y : List ℕ) → earlier x y ≡ true → same y x ≡ false
-not-same x y e = cases (truth (same y x)) (λ f. absurd (by-codes .irrefl x (rw (same-eq y x f) at e))) (λ f. f)
+not-same x y e = refuted (λ f. by-codes .irrefl x (rw (same-eq y x f) at e))
 
 -- ---- lists that rise strictly
 
 module _ {A : Type 0} (less : A → A → Bool) where
+  pub rising-one : (x : A) → Rising less (x ∷ [])
+  rising-one x = (λ y m. absurd (List·Memᴰ·not-nil m), tt)
+
+  -- what comes before the first comes before all
+  pub rising-cons : Strict less → (x y : A) (l : List A) → less x y ≡ true → Rising less (y ∷ l) → Rising less (x ∷ y ∷ l)
+  rising-cons o x y l e r = (λ z m. cases (List·Memᴰ·cases-cons m) (λ q. rw q e) (λ i. o .trans x y z e (r .0 z i)), r)
+
   insert-in : (x : A) {z : A} (l : List A) → z ∈ insert less x l → (z ≡ x) ⊎ (z ∈ l)
   insert-in x [] m = List·Memᴰ·cases-cons m
   insert-in x {z} (y ∷ l) m = go (less x y) (less y x) (insert-in x l) m
@@ -113,11 +126,11 @@ module _ {A : Type 0} (less : A → A → Bool) where
         go false false p q f n = cases n (λ e. List·Memᴰ·head (e ∙ o .total x y p q)) (λ i. i)
 
     insert-rising : (x : A) (l : List A) → Rising less l → Rising less (insert less x l)
-    insert-rising x [] r = (λ y m. absurd (List·Memᴰ·not-nil m), tt)
+    insert-rising x [] r = rising-one x
     insert-rising x (y ∷ l) r = go (less x y) (less y x) refl refl (insert-rising x l (r .1))
       where
         go : (a b : Bool) → less x y ≡ a → less y x ≡ b → Rising less (insert less x l) → Rising less (place a b x y l (insert less x l))
-        go true b p q f = (λ z m. cases (List·Memᴰ·cases-cons m) (λ e. rw e p) (λ i. o .trans x y z p (r .0 z i)), r)
+        go true b p q f = rising-cons o x y l p r
         go false true p q f = (λ z m. cases (insert-in x l m) (λ e. rw e q) (r .0 z), f)
         go false false p q f = r
 

@@ -1,13 +1,21 @@
 -- Parts of lists.
-use mathlib.Core.Path.{_≡_, sym, _∙_}
+use mathlib.Core.Path.{_≡_, refl, sym, ap, _∙_}
 use mathlib.Core.List.{List, [], _∷_, _++_, Memᴰ·append-left, Memᴰ·append-right, Memᴰ·cast}
 use Prim.Native.Nat.{ℕ, zero, suc, _+_, _-_, _≤_, _<_}
 use native.Mathlib.Nat.{zero-add, suc-add}
 use native.Mathlib.Omega.{arith}
 use lib.ListN.{length, getD, take, drop, length-drop, take-append-drop}
-use lib.Seq.{slice, take-nil, drop-nil, take-append-le, drop-append-le, getD-take, getD-drop, length-slice}
+use lib.Seq.{slice, take-nil, drop-nil, take-append-le, drop-append-le, take-at, drop-at, getD-take, getD-drop, length-slice}
 use Rattle.lists.specs.Lists.{_∈_}
 use Rattle.lists.proofs.Members.{at-in}
+
+-- what stands behind a front
+pub drop-front : {A : Type 0} {l : List A} (p q : List A) (n : ℕ) → l ≡ p ++ q → length p ≡ n → drop n l ≡ q
+drop-front p q n e h = ap (drop n) e ∙ drop-at p q n h
+
+-- fronts of equal length
+pub front-same : {A : Type 0} (p q l m : List A) → p ++ l ≡ q ++ m → length p ≡ length q → p ≡ q
+front-same p q l m e h = sym (take-at p l (length q) h) ∙ ap (take (length q)) e ∙ take-at q m (length q) refl
 
 -- a part of a list that lies in its front
 pub part-front : {A : Type 0} (p q : List A) (a d : ℕ) → a + d ≤ length p → take d (drop a (p ++ q)) ≡ take d (drop a p)

@@ -27,6 +27,11 @@ pub truth : (b : Bool) → (b ≡ true) ⊎ (b ≡ false)
 truth true = inl refl
 truth false = inr refl
 
+-- a test that cannot pass failed
+pub refuted : {b : Bool} → (b ≡ true → ⊥) → b ≡ false
+refuted {b = true} h = absurd (h refl)
+refuted {b = false} h = refl
+
 module _ {A : Type 0} where
   pub every-in : (p : A → Bool) {x : A} {l : List A} → every p l ≡ true → x ∈ l → p x ≡ true
   every-in p {l = y ∷ l} e (List·Memᴰ·head h) = rw h (both (p y) (every p l) e .0)

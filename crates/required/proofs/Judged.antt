@@ -1,20 +1,20 @@
 -- An archive whose fields are right is the one that its base rows require, just if what they require stands behind its sizes and nothing but the check word follows.
-use mathlib.Core.Path.{_≡_, refl, sym, ap, ap₂, subst, _∙_}
-use mathlib.Core.Logic.{_≢_}
-use mathlib.Core.Bool.{Bool, true, false, false≢true}
+use mathlib.Core.Path.{_≡_, refl, sym, ap, subst, _∙_}
+use mathlib.Core.Bool.{true, false, false≢true}
 use mathlib.Core.List.{List, [], _++_, append-assoc, Memᴰ·map}
 use Prim.Native.Nat.{ℕ, _+_, _-_, _*_, _≤_}
 use native.Mathlib.Omega.{arith}
 use borrow.Author.Tests.{eqb-true, eqb-false}
 use lib.Dec.{eqb}
 use lib.IntN.{ℤ}
-use lib.ListN.{length, take, drop, length-append}
-use lib.Seq.{take-at, drop-at}
+use lib.ListN.{length, drop, length-append}
 use Rattle.lists.specs.Lists.{_∈_, Distinct}
 use Rattle.lists.specs.Order.{same}
-use Rattle.lists.proofs.Tests.{cases, truth}
+use Rattle.lists.proofs.Tests.{cases, truth, refuted}
+use Rattle.lists.proofs.Parts.{drop-front, front-same}
 use Rattle.lists.proofs.Order.{same-eq, same-refl}
 use Rattle.fields.specs.Words.{wordBytes, wordsAt}
+use Rattle.fields.specs.WordsLaws.{length-wordsAt}
 use Rattle.fields.specs.Opening.{startsWith}
 use Rattle.fields.specs.OpeningLaws.{starts-append, starts-is}
 use Rattle.fields.specs.Check.{checkOf, checked}
@@ -29,13 +29,13 @@ use Rattle.rows.specs.Rows.{rowsOf}
 use Rattle.rows.proofs.Rows.{rows-codes}
 use Rattle.rows.proofs.Flat.{rows-length}
 use Rattle.entries.specs.Layout.{CUBE, Held, section, baseBytes, cellBytes, layout, required, archiveBytes, Limits}
-use Rattle.entries.specs.Reading.{walkArchive, rowsIn}
-use Rattle.walk.specs.declared.Walk.{Walk}
+use Rattle.entries.specs.Reading.{walkArchive}
 use Rattle.walk.specs.declared.Walk.the-variants.{Stop, At}
 use Rattle.walk.proofs.Places.{header-read}
 use Rattle.entries.proofs.Fields.{parts}
 use Rattle.entries.proofs.Walkable.{walk-forth}
-use Rattle.entries.proofs.Limits.{walkable-limits, limits-summable, limits-base}
+use Rattle.entries.proofs.Entered.{walkable-limits}
+use Rattle.entries.proofs.Limits.{limits-summable, limits-base}
 use Rattle.singles.specs.Ready.{Ready}
 use Rattle.condense.specs.Shared.{normalRows}
 use Rattle.bases.specs.Listed.{ourBases}
@@ -46,69 +46,6 @@ use Rattle.required.specs.Read.{Read, sections}
 pub archive-sections : (zs : List ℕ) (rows : List (Row Total)) → archiveBytes zs rows ≡ checked (headerBytes CUBE zs ++ sections (length zs) rows)
 unfolding archiveBytes required layout sections ourBases normalRows
 archive-sections zs rows = refl
-
--- a body that begins with the header, its check word behind it
-module _ (zs body : List ℕ) where
-  abbrev front : List ℕ
-  front = headerBytes CUBE zs
-
-  abbrev whole : List ℕ
-  whole = checked (front ++ body)
-
-  behind : drop (8 + 4 * length zs) whole ≡ body ++ wordBytes (checkOf (front ++ body))
-  behind =
-      ap (drop (8 + 4 * length zs)) (append-assoc front body (wordBytes (checkOf (front ++ body))))
-      ∙ drop-at front (body ++ wordBytes (checkOf (front ++ body))) (8 + 4 * length zs) (omega (arith, length-header CUBE zs))
-
-  long : length whole ≡ 8 + 4 * length zs + length body + 4
-  long = omega (arith, length-append (front ++ body) (wordBytes (checkOf (front ++ body))), length-append front body, length-header CUBE zs)
-
-module _ (s : List ℕ) (a : Held) (b : Bytes s) (w : walkArchive s ≡ got a []) where
-  abbrev zs : List ℕ
-  zs = a .sizes
-
-  -- what stands behind the sizes, and what should
-  abbrev own : List ℕ
-  own = section baseBytes (a .bases) ++ section cellBytes (a .cells)
-
-  abbrev due : List ℕ
-  due = sections (length zs) (rowsIn a)
-
-  is : s ≡ checked (headerBytes CUBE zs ++ own)
-  unfolding layout
-  is = walk-forth s a [] b w .1
-
-  pub judged-right : startsWith (drop (8 + 4 * length zs) s) due ≡ true → length s ≡ 8 + 4 * length zs + length due + 4 → same s (archiveBytes zs (rowsIn a)) ≡ true
-  judged-right h k =
-      let tail = wordBytes (checkOf (headerBytes CUBE zs ++ own)) in
-      let t : drop (8 + 4 * length zs) s ≡ own ++ tail = ap (drop (8 + 4 * length zs)) is ∙ behind zs own in
-      let l : length own ≡ length due = omega (arith, k, ap length is, long zs own) in
-      let e : own ≡ due =
-      sym (take-at own tail (length due) l) ∙ ap (take (length due)) (sym t ∙ starts-is (drop (8 + 4 * length zs) s) due h)
-      ∙ take-at due (drop (length due) (drop (8 + 4 * length zs) s)) (length due) refl in
-      let f : s ≡ archiveBytes zs (rowsIn a) = is ∙ ap (λ (x : List ℕ). checked (headerBytes CUBE zs ++ x)) e ∙ sym (archive-sections zs (rowsIn a)) in
-      subst (λ (x : List ℕ). same s x ≡ true) f (same-refl s)
-
-  -- the archive that is due
-  right : same s (archiveBytes zs (rowsIn a)) ≡ true → s ≡ checked (headerBytes CUBE zs ++ due)
-  right h = same-eq s (archiveBytes zs (rowsIn a)) h ∙ archive-sections zs (rowsIn a)
-
-  pub judged-other : startsWith (drop (8 + 4 * length zs) s) due ≡ false → same s (archiveBytes zs (rowsIn a)) ≡ false
-  judged-other h = cases (truth (same s (archiveBytes zs (rowsIn a))))
-      (λ e. absurd (false≢true (sym h ∙ ap (λ (x : List ℕ). startsWith x due) (ap (drop (8 + 4 * length zs)) (right e) ∙ behind zs due)
-      ∙ starts-append due (wordBytes (checkOf (headerBytes CUBE zs ++ due))))))
-      (λ e. e)
-
-  pub judged-long : length s ≢ 8 + 4 * length zs + length due + 4 → same s (archiveBytes zs (rowsIn a)) ≡ false
-  judged-long h = cases (truth (same s (archiveBytes zs (rowsIn a))))
-      (λ e. absurd (h (ap length (right e) ∙ long zs due)))
-      (λ e. e)
-
-  pub read-long : 8 + 4 * length zs + 4 ≤ length s
-  read-long = omega (arith, ap length is, long zs own)
-
-  pub read-limits : Limits zs (rowsIn a)
-  read-limits = walkable-limits a (walk-forth s a [] b w .0)
 
 -- rows within the limits, in flat lists, are ready to be grouped
 pub limits-ready : {zs : List ℕ} {rows : List (Row Total)} {d n : ℕ} {codes : List ℕ} {sums : List ℤ} {counts : List ℕ} → Limits zs rows → rowsOf d n codes sums counts ≡ rows
@@ -127,7 +64,7 @@ limits-ready {zs} {rows} {d} {n} {codes} {sums} {counts} l e k size amounts tall
     }
 
 pub read-ready : {s : List ℕ} {d n : ℕ} {codes : List ℕ} {sums : List ℤ} {counts : List ℕ} → Bytes s → Read s d n codes sums counts → Ready d n codes sums counts
-read-ready {s} b r = limits-ready (read-limits s (r .held) b (r .walked)) (r .rows) (r .dims) (r .size) (r .amounts) (r .tallies)
+read-ready {s} b r = limits-ready (walkable-limits (r .held) (walk-forth s (r .held) [] b (r .walked) .0)) (r .rows) (r .dims) (r .size) (r .amounts) (r .tallies)
 
 -- the sizes stand behind D
 pub sizes-at : (s : List ℕ) {a : Held} → walkArchive s ≡ got a [] → a .sizes ≡ wordsAt s (length (a .sizes)) 8
@@ -135,31 +72,65 @@ sizes-at s {a} w =
     let h = header-read s CUBE (parts s w .2) in
     h .are ∙ ap (λ (n : ℕ). wordsAt s n 8) (sym (h .dims))
 
--- ---- the same of rows that were read into flat lists
+-- a body that begins with the header, its check word behind it
+module _ {s : List ℕ} {d : ℕ} (zs body : List ℕ) (dims : length zs ≡ d) (e : s ≡ checked (headerBytes CUBE zs ++ body)) where
+  abbrev front : List ℕ
+  front = headerBytes CUBE zs
+
+  abbrev check : List ℕ
+  check = wordBytes (checkOf (front ++ body))
+
+  behind : drop (8 + 4 * d) s ≡ body ++ check
+  behind = drop-front front (body ++ check) (8 + 4 * d) (e ∙ append-assoc front body check) (omega (arith, length-header CUBE zs, dims))
+
+  long : length s ≡ 8 + 4 * d + length body + 4
+  long = omega (arith, ap length e, length-append (front ++ body) check, length-append front body, length-header CUBE zs, dims)
 
 module _ {s : List ℕ} {d n : ℕ} {codes : List ℕ} {sums : List ℤ} {counts : List ℕ} (b : Bytes s) (r : Read s d n codes sums counts) where
+  abbrev zs : List ℕ
+  zs = wordsAt s d 8
+
+  abbrev dims : length zs ≡ d
+  dims = length-wordsAt s d 8
+
   abbrev table : List (Row Total)
   table = rowsOf d n codes sums counts
 
-  -- the archive that is due, by the sizes and rows in the bytes and by those in the lists
-  judged-as : {x : Bool} → x ≡ same s (archiveBytes (r .held .sizes) (rowsIn (r .held))) → x ≡ same s (archiveBytes (wordsAt s d 8) table)
-  judged-as e =
-      e ∙ ap₂ (λ (zs : List ℕ) (rows : List (Row Total)). same s (archiveBytes zs rows)) (sizes-at s (r .walked) ∙ ap (λ (k : ℕ). wordsAt s k 8) (r .dims)) (sym (r .rows))
+  -- what stands behind the sizes, and what should
+  abbrev own : List ℕ
+  own = section baseBytes (r .held .bases) ++ section cellBytes (r .held .cells)
 
-  due-at : {w : Walk} → Matched s (8 + 4 * d) (sections d table) w → Matched s (8 + 4 * length (r .held .sizes)) (sections (length (r .held .sizes)) (rowsIn (r .held))) w
-  due-at {w} m =
-      subst (λ (rows : List (Row Total)). Matched s (8 + 4 * length (r .held .sizes)) (sections (length (r .held .sizes)) rows) w) (r .rows)
-      (subst (λ (k : ℕ). Matched s (8 + 4 * k) (sections k table) w) (sym (r .dims)) m)
+  abbrev due : List ℕ
+  due = sections d table
+
+  is : s ≡ checked (headerBytes CUBE zs ++ own)
+  unfolding layout
+  is =
+      walk-forth s (r .held) [] b (r .walked) .1
+      ∙ ap (λ (x : List ℕ). checked (headerBytes CUBE x ++ own)) (sizes-at s (r .walked) ∙ ap (λ (k : ℕ). wordsAt s k 8) (r .dims))
+
+  should : archiveBytes zs table ≡ checked (headerBytes CUBE zs ++ due)
+  should = archive-sections zs table ∙ ap (λ (k : ℕ). checked (headerBytes CUBE zs ++ sections k table)) dims
 
   pub read-start : 8 + 4 * d + 4 ≤ length s
-  read-start = omega (arith, r .dims, read-long s (r .held) b (r .walked))
+  read-start = omega (arith, long zs own dims is)
 
-  pub other-of : {k : ℕ} → Matched s (8 + 4 * d) (sections d table) (Stop k) → false ≡ same s (archiveBytes (wordsAt s d 8) table)
-  other-of m = judged-as (sym (judged-other s (r .held) b (r .walked) (due-at m .meets .1)))
+  right : same s (archiveBytes zs table) ≡ true → s ≡ checked (headerBytes CUBE zs ++ due)
+  right e = same-eq s (archiveBytes zs table) e ∙ should
 
-  pub judged-of : {k : ℕ} → Matched s (8 + 4 * d) (sections d table) (At k) → eqb (length s - k) 4 ≡ same s (archiveBytes (wordsAt s d 8) table)
-  judged-of {k} m =
-      let g = due-at m .meets in
-      judged-as (cases (truth (eqb (length s - k) 4))
-      (λ e. e ∙ sym (judged-right s (r .held) b (r .walked) (g .0) (omega (arith, g .1, g .2, eqb-true (length s - k) 4 e))))
-      (λ e. e ∙ sym (judged-long s (r .held) b (r .walked) (λ f. eqb-false (length s - k) 4 e (omega (arith, f, g .1))))))
+  pub other-of : {k : ℕ} → Matched s (8 + 4 * d) due (Stop k) → false ≡ same s (archiveBytes zs table)
+  other-of m = sym (refuted (λ e. false≢true (sym (m .meets .1)
+      ∙ ap (λ (x : List ℕ). startsWith x due) (behind zs due dims (right e)) ∙ starts-append due (check zs due dims (right e)))))
+
+  right-of : startsWith (drop (8 + 4 * d) s) due ≡ true → length s ≡ 8 + 4 * d + length due + 4 → same s (archiveBytes zs table) ≡ true
+  right-of h k =
+      let l = drop (8 + 4 * d) s in
+      let t = sym (behind zs own dims is) ∙ starts-is l due h in
+      let e : own ≡ due = front-same own due (check zs own dims is) (drop (length due) l) t (omega (arith, k, long zs own dims is)) in
+      let f : s ≡ archiveBytes zs table = is ∙ ap (λ (x : List ℕ). checked (headerBytes CUBE zs ++ x)) e ∙ sym should in
+      subst (λ (x : List ℕ). same s x ≡ true) f (same-refl s)
+
+  pub judged-of : {k : ℕ} → Matched s (8 + 4 * d) due (At k) → eqb (length s - k) 4 ≡ same s (archiveBytes zs table)
+  judged-of {k} m = cases (truth (eqb (length s - k) 4))
+      (λ e. e ∙ sym (right-of (m .meets .0) (omega (arith, m .meets .1, m .meets .2, eqb-true (length s - k) 4 e))))
+      (λ e. e ∙ sym (refuted (λ f. eqb-false (length s - k) 4 e (omega (arith, long zs due dims (right f), m .meets .1)))))

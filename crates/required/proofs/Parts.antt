@@ -1,7 +1,7 @@
 -- Parts that are compared one behind the other, and the four parts of what base rows require.
 use mathlib.Core.Path.{_≡_, sym, ap, ap₂, _∙_}
 use mathlib.Core.List.{List, _++_, flatMap}
-use Prim.Native.Nat.{ℕ, _+_}
+use Prim.Native.Nat.{ℕ}
 use native.Mathlib.Omega.{arith}
 use lib.IntN.{ℤ}
 use lib.ListN.{length, drop, length-append, length-map}
@@ -32,15 +32,12 @@ module _ {s xs : List ℕ} {at : ℕ} (ys : List ℕ) where
   matched-stop m = record { meets = (m .meets .0, startsWith-append (drop at s) xs ys ∙ rw (m .meets .1)) }
 
   -- the first part stands there, so the second settles it
+  starts-then : {k : ℕ} → Matched s at xs (At k) → startsWith (drop at s) (xs ++ ys) ≡ startsWith (drop k s) ys
+  starts-then m = startsWith-append (drop at s) xs ys ∙ rw (m .meets .0, drop-drop (length xs) at s) (ap (λ (j : ℕ). startsWith (drop j s) ys) (sym (m .meets .1)))
+
   pub matched-then : {k : ℕ} (w : Walk) → Matched s at xs (At k) → Matched s k ys w → Matched s at (xs ++ ys) w
-  matched-then {k} (Stop n) m v =
-      let e : startsWith (drop at s) (xs ++ ys) ≡ startsWith (drop k s) ys =
-      startsWith-append (drop at s) xs ys ∙ rw (m .meets .0, drop-drop (length xs) at s) (ap (λ (j : ℕ). startsWith (drop j s) ys) (sym (m .meets .1))) in
-      record { meets = (v .meets .0, e ∙ v .meets .1) }
-  matched-then {k} (At j) m v =
-      let e : startsWith (drop at s) (xs ++ ys) ≡ startsWith (drop k s) ys =
-      startsWith-append (drop at s) xs ys ∙ rw (m .meets .0, drop-drop (length xs) at s) (ap (λ (j : ℕ). startsWith (drop j s) ys) (sym (m .meets .1))) in
-      record { meets = (e ∙ v .meets .0, omega (arith, v .meets .1, m .meets .1, length-append xs ys), v .meets .2) }
+  matched-then (Stop n) m v = record { meets = (v .meets .0, starts-then m ∙ v .meets .1) }
+  matched-then (At j) m v = record { meets = (starts-then m ∙ v .meets .0, omega (arith, v .meets .1, m .meets .1, length-append xs ys), v .meets .2) }
 
 -- the four parts, with the counts that the code has
 module _ (d n : ℕ) (codes : List ℕ) (sums : List ℤ) (counts : List ℕ) where

@@ -2,21 +2,20 @@
 use mathlib.Core.Path.{_≡_, refl, sym, ap, ap₂, _∙_, subst}
 use mathlib.Core.List.{List, [], _∷_, List·Memᴰ·head, List·Memᴰ·tail}
 use Prim.Native.Nat.{ℕ, zero, suc, _+_, _*_, _^_, _≤_, _<_}
-use native.Mathlib.Nat.{suc-mul}
 use native.Mathlib.Omega.{arith}
 use lib.IntN.{ℤ, pos, negsuc, natAbs}
 use lib.ListN.{length, drop}
 use lib.Signed.{mag}
 use Rattle.lists.specs.Lists.{_∈_}
-use Rattle.fields.specs.Words.{wordAt}
-use Rattle.fields.specs.Twos.{signedOf, readingAt}
-use Rattle.walk.specs.Parsed.{stop, got, andThen, many}
-use Rattle.walk.specs.Fields.{room, reading, field, codes, header, close}
+use Rattle.fields.specs.Words.{wordAt, wordsAt}
+use Rattle.walk.specs.Parsed.{stop, got, many}
+use Rattle.walk.specs.Fields.{header}
 use Rattle.walk.specs.Limits.{Bytes}
-use Rattle.walk.proofs.Steps.{through, cons-forth}
-use Rattle.walk.proofs.Fields.{word-at-place}
-use Rattle.walk.proofs.Any.{Any, any-value}
-use Rattle.walk.proofs.Places.{Took, took-then, any-took, field-read, codes-read, header-read}
+use Rattle.walk.proofs.Steps.{through-pair}
+use Rattle.walk.proofs.Found.{Finds, finds-to, finds-none, finds-then, finds-many, finds-field, finds-reading, finds-codes}
+use Rattle.walk.proofs.Places.{header-read}
+use Rattle.walk.proofs.Codec.{pair}
+use Rattle.walk.proofs.Ends.{closed-got}
 use Rattle.walk.proofs.Limits.{below-coded}
 use Rattle.cube.specs.declared.Total.{Total}
 use Rattle.cube.specs.Measure.{sums, Row}
@@ -27,76 +26,58 @@ use Rattle.rows.specs.Rows.{rowsOf}
 use Rattle.rows.proofs.Flat.{rows-length}
 use Rattle.cube.specs.Table.{folded}
 use Rattle.table.specs.declared.TableRead.the-variants as Answer
-use Rattle.table.specs.Reading.{row, body, readTable, rowThere, rowsAt, Rowed, baseRows, answer, Stored}
-use Rattle.table.proofs.Accepted.{read, rowed, counted, table-forth}
+use Rattle.table.specs.Reading.{row, readTable, rowThere, rowsAt, Rowed, baseRows, answer, Stored}
+use Rattle.table.proofs.Accepted.{read, held, rows, table-as, table-forth}
 
-any-reading : Any reading 4
-unfolding reading
-any-reading = any-value 4 (λ l. readingAt l 0)
+module _ (s zs : List ℕ) where
+  finds-row : (at : ℕ) → Finds s (row zs) at (at + (4 * length zs + 4)) (λ r. r ≡ rowThere s (length zs) at)
+  unfolding row
+  finds-row at =
+      let e : at + 4 * length zs + 4 ≡ at + (4 * length zs + 4) = omega arith in
+      finds-to e (finds-then (finds-codes s zs at) (λ x p. finds-then (finds-reading s (at + 4 * length zs)) (λ z q. finds-none (read x z) (ap₂ read p q))))
 
-reading-read : (s : List ℕ) (at : ℕ) {z : ℤ} {rest : List ℕ} → at ≤ length s → reading (drop at s) ≡ got z rest → Took s at 4 rest × (z ≡ readingAt s at)
-unfolding reading readingAt
-reading-read s at {z} h e =
-    let t = through (room 4 (drop at s)) (λ u rest. got (readingAt (drop at s) 0) rest) e in
-    let f : z ≡ readingAt (drop at s) 0 = cc (t .3) in
-    (any-took any-reading s at h e, f ∙ ap (signedOf 32) (word-at-place s at))
+  finds-rows : (n at : ℕ) → Finds s (many n (row zs)) at (at + n * (4 * length zs + 4)) (λ rs. rs ≡ rowsAt s (length zs) n at)
+  unfolding rowsAt
+  finds-rows = finds-many (4 * length zs + 4) finds-row (rowsAt s (length zs)) (λ at. refl) (λ n at. refl)
 
-row-read : (s zs : List ℕ) (at : ℕ) {r : Row Total} {rest : List ℕ} → at ≤ length s → row zs (drop at s) ≡ got r rest
-    → Took s at (4 * length zs + 4) rest × (r ≡ rowThere s (length zs) at)
-unfolding row
-row-read s zs at {r} {rest} h e =
-    let t = through (codes zs (drop at s)) (λ x rest. andThen (reading rest) (λ z rest′. got (read x z) rest′)) e in
-    let w = codes-read s zs at h (t .2) in
-    let u = through (reading (t .1)) (λ z rest′. got (read (t .0) z) rest′) (t .3) in
-    let k : u .1 ≡ rest = cc (u .3) in
-    let g = reading-read s (at + 4 * length zs) (w .took .whole) (ap reading (sym (w .took .behind)) ∙ u .2 ∙ ap (got (u .0)) k) in
-    let q : r ≡ read (t .0) (u .0) = cc (u .3) in
-    (took-then s at (4 * length zs) 4 (g .0) refl, q ∙ ap₂ read (w .are) (g .1))
+  finds-counted : (at : ℕ) → Finds s (rows zs) at (at + 4 + wordAt s at * (4 * length zs + 4)) (λ rs. rs ≡ rowsAt s (length zs) (wordAt s at) (at + 4))
+  finds-counted at = finds-then (finds-field s 0 1025 5 at) (λ n e. rw (← e) (finds-rows n (at + 4)))
 
-rows-read : (s zs : List ℕ) (n at : ℕ) {rows : List (Row Total)} {rest : List ℕ} → at ≤ length s → many n (row zs) (drop at s) ≡ got rows rest
-    → (length rows ≡ n) × (rows ≡ rowsAt s (length zs) n at) × (at + n * (4 * length zs + 4) ≤ length s)
-unfolding many rowsAt
-rows-read s zs zero at {rows} h e = let p : rows ≡ [] = cc in (ap length p, p, omega arith)
-rows-read s zs (suc n) at {rows} h e =
-    let t = cons-forth (λ x. many n (row zs)) (row zs (drop at s)) e in
-    let f = row-read s zs at h (t .3) in
-    let r = rows-read s zs n (at + (4 * length zs + 4)) (f .0 .whole) (ap (many n (row zs)) (sym (f .0 .behind)) ∙ t .4) in
-    let m = suc-mul n (4 * length zs + 4) in
-    (ap length (t .5) ∙ ap suc (r .0), t .5 ∙ ap₂ _∷_ (f .1) (r .1), omega (arith, r .2, m))
+length-rowsAt : (s : List ℕ) (d n at : ℕ) → length (rowsAt s d n at) ≡ n
+unfolding rowsAt
+length-rowsAt s d zero at = refl
+length-rowsAt s d (suc n) at = ap suc (length-rowsAt s d n (at + (4 * d + 4)))
 
 -- what stands where in a table that was read
 pub record Placed (s : List ℕ) (t : Held) : Type 0 where
   pub dims : length (t .sizes) ≡ wordAt s 4
   pub some : 1 ≤ length (t .sizes)
+  pub sizes : t .sizes ≡ wordsAt s (length (t .sizes)) 8
   pub whole : 12 + 4 * length (t .sizes) ≤ length s
   pub count : length (t .rows) ≡ wordAt s (8 + 4 * length (t .sizes))
   pub rows : t .rows ≡ rowsAt s (length (t .sizes)) (length (t .rows)) (12 + 4 * length (t .sizes))
   pub inside : 12 + 4 * length (t .sizes) + length (t .rows) * (4 * length (t .sizes) + 4) ≤ length s
 
 pub placed : (s : List ℕ) (t : Held) {rest : List ℕ} → readTable s ≡ got t rest → Placed s t
-unfolding readTable body
-placed s t {rest} e =
-    let h = through (header FACT s) (body s) e in
-    let zs = h .0 in
+placed s t e =
+    let c = closed-got (pair held (header FACT) rows) s (sym (table-as s) ∙ e) in
+    let u = through-pair held (header FACT s) rows (c .1) in
+    let zs = u .0 in
     let d = length zs in
-    let p = header-read s FACT (h .2) in
-    let n = through (field 0 1025 5 (h .1)) (counted s zs) (h .3) in
+    let p = header-read s FACT (u .3) in
     let at : 8 + 4 * wordAt s 4 ≡ 8 + 4 * d = omega (arith, p .dims) in
-    let l : h .1 ≡ drop (8 + 4 * d) s = p .behind ∙ ap (λ (k : ℕ). drop k s) at in
-    let f = field-read s 0 1025 5 (8 + 4 * d) (omega (arith, p .whole, p .dims)) (ap (field 0 1025 5) (sym l) ∙ n .2) in
+    let l : u .2 ≡ drop (8 + 4 * d) s = p .behind ∙ ap (λ (k : ℕ). drop k s) at in
+    let w = finds-counted s zs (8 + 4 * d) .found (u .1) (c .0) (omega (arith, p .whole, p .dims)) (ap (rows zs) (sym l) ∙ u .4) in
+    let n : length (u .1) ≡ wordAt s (8 + 4 * d) = ap length (w .2) ∙ length-rowsAt s d (wordAt s (8 + 4 * d)) (8 + 4 * d + 4) in
     let q : 8 + 4 * d + 4 ≡ 12 + 4 * d = omega arith in
-    let m : n .1 ≡ drop (12 + 4 * d) s = f .1 ∙ ap (λ (k : ℕ). drop k s) q in
-    let r = through (many (n .0) (row zs) (n .1)) (rowed s zs) (n .3) in
-    let w = rows-read s zs (n .0) (12 + 4 * d) (omega (arith, f .0 .whole)) (ap (many (n .0) (row zs)) (sym m) ∙ r .2) in
-    let c = through (close s (r .1)) (λ u rest′. got (record { sizes = zs; rows = r .0 }) rest′) (r .3) in
-    let all : record { sizes = zs; rows = r .0 } ≡ t = cc (c .3) in
-    subst (Placed s) all (record {
+    subst (Placed s) (u .5) (record {
       dims = p .dims;
       some = omega (arith, p .some, p .dims);
-      whole = omega (arith, f .0 .whole);
-      count = w .0 ∙ f .0 .value;
-      rows = w .1 ∙ ap (λ (k : ℕ). rowsAt s d k (12 + 4 * d)) (sym (w .0));
-      inside = subst (λ (k : ℕ). 12 + 4 * d + k * (4 * d + 4) ≤ length s) (sym (w .0)) (w .2);
+      sizes = p .are ∙ ap (λ (k : ℕ). wordsAt s k 8) (sym (p .dims));
+      whole = omega (arith, w .0);
+      count = n;
+      rows = w .2 ∙ ap₂ (rowsAt s d) (sym n) q;
+      inside = rw (← q, n) (w .0);
     })
 
 -- rows within the limits can be totalled

@@ -14,17 +14,17 @@ use Rattle.fields.specs.Words.{wordAt}
 use Rattle.fields.specs.Twos.{sumAt}
 use Rattle.walk.specs.declared.Walk.{Walk}
 use Rattle.walk.specs.declared.Walk.the-variants.{Stop, At}
-use Rattle.walk.specs.Parsed.{Parsed, stop, got, andThen, many}
+use Rattle.walk.specs.Parsed.{stop, got, andThen, many}
 use Rattle.walk.specs.Fields.{room, word, sum}
 use Rattle.walk.specs.Walked.{Says, Walked}
-use Rattle.walk.proofs.Steps.{then-on, then-off, room-short, room-whole, room-got}
+use Rattle.walk.proofs.Steps.{Reader, then-on, then-off, room-short, room-whole, room-got}
 
 -- what is read is so many bytes, of any value
-pub record Any {A : Type 0} (f : List ℕ → Parsed A) (width : ℕ) : Type 0 where
+pub record Any {A : Type 0} (f : Reader A) (width : ℕ) : Type 0 where
   pub short : (l : List ℕ) → length l < width → f l ≡ stop 2
   pub whole : (l : List ℕ) → width ≤ length l → (v : A) × (f l ≡ got v (drop width l))
 
-pub any-as : {A : Type 0} {f : List ℕ → Parsed A} {v w : ℕ} → v ≡ w → Any f v → Any f w
+pub any-as : {A : Type 0} {f : Reader A} {v w : ℕ} → v ≡ w → Any f v → Any f w
 any-as {f = f} e a = subst (Any f) e a
 
 -- no bytes; one value; one thing after another
@@ -37,7 +37,7 @@ any-value width value = record {
   whole = λ l h. (value l, then-on (λ u rest. got (value l) rest) (room-whole width l h));
 }
 
-pub any-then : {A B : Type 0} {f : List ℕ → Parsed A} {g : A → List ℕ → Parsed B} {v w : ℕ} → Any f v → ((x : A) → Any (g x) w) → Any (λ l. andThen (f l) g) (v + w)
+pub any-then : {A B : Type 0} {f : Reader A} {g : A → Reader B} {v w : ℕ} → Any f v → ((x : A) → Any (g x) w) → Any (λ l. andThen (f l) g) (v + w)
 any-then {A} {B} {f} {g} {v} {w} a b = record { short = short; whole = whole }
   where
     short : (l : List ℕ) → length l < v + w → andThen (f l) g ≡ stop 2
@@ -60,14 +60,14 @@ pub any-sum : Any sum 8
 unfolding sum
 any-sum = any-value 8 (λ l. sumAt l 0)
 
-pub any-many : {A : Type 0} {f : List ℕ → Parsed A} {w : ℕ} (n : ℕ) → Any f w → Any (many n f) (n * w)
+pub any-many : {A : Type 0} {f : Reader A} {w : ℕ} (n : ℕ) → Any f w → Any (many n f) (n * w)
 unfolding many
 any-many zero a = any-as (sym (zero-mul _)) (any-none [])
 any-many {w = w} (suc n) a =
     let e : w + (n * w + 0) ≡ suc n * w = rw suc-mul (omega arith) in
     any-as e (any-then a (λ x. any-then (any-many n a) (λ xs. any-none (x ∷ xs))))
 
-module _ {A : Type 0} {f : List ℕ → Parsed A} {w : ℕ} (a : Any f w) where
+module _ {A : Type 0} {f : Reader A} {w : ℕ} (a : Any f w) where
   -- what was read had the bytes
   pub any-got : (l : List ℕ) {v : A} {rest : List ℕ} → f l ≡ got v rest → (w ≤ length l) × (rest ≡ drop w l)
   any-got l e = cases (truth (leb w (length l)))

@@ -1,61 +1,48 @@
 -- The header and the check word as bytes.
-use mathlib.Core.Path.{_≡_, refl, sym, ap, ap₂, _∙_, subst}
+use mathlib.Core.Path.{_≡_, refl, sym, ap, ap₂, _∙_}
 use mathlib.Core.List.{List, [], _++_, append-assoc, append-nil}
-use Prim.Native.Nat.{ℕ, _-_, _^_, _≤_, _<_}
+use Prim.Native.Nat.{ℕ, _-_, _^_, _≤_}
 use native.Mathlib.Omega.{arith}
 use lib.Dec.{eqb}
 use lib.ListN.{length, take, drop, length-append}
 use lib.Seq.{drop-at, take-at}
 use borrow.Author.Tests.{eqb-true, eq-eqb}
 use Rattle.lists.specs.Lists.{_∈_}
-use Rattle.fields.specs.Words.{wordBytes, wordsBytes}
+use Rattle.fields.specs.Words.{wordBytes}
 use Rattle.fields.specs.Opening.{startsWith}
 use Rattle.fields.specs.OpeningLaws.{starts-append, starts-is}
 use Rattle.fields.specs.Check.{checkOf, checked}
 use Rattle.fields.specs.CheckLaws.{check-lt}
 use Rattle.lists.proofs.Pigeonhole.{no-more}
 use Rattle.walk.specs.Parsed.{got, andThen, stopUnless}
-use Rattle.walk.specs.Fields.{word, field, sizes, header, headerBytes, ended, close}
+use Rattle.walk.specs.Fields.{word, header, headerBytes, ended, close}
 use Rattle.walk.specs.Limits.{Sized, Bytes}
-use Rattle.walk.proofs.Steps.{then-on, through, passed}
-use Rattle.walk.proofs.Fields.{header-on}
-use Rattle.walk.proofs.Codecs.{Codec, bytes-behind, word-codec, field-codec, words-codec}
+use Rattle.walk.proofs.Steps.{Reader, then-on, through, through-map, passed}
+use Rattle.walk.proofs.Codec.{Codec, bytes-behind, append-behind, codec-rest, codec-as, codec-count}
+use Rattle.walk.proofs.Many.{words-codec}
+use Rattle.walk.proofs.Codecs.{word-codec, field-codec}
 
-size-codec : Codec (field 1 65536 4) wordBytes (λ z. (1 ≤ z) × (z < 65536))
-size-codec = field-codec 1 65536 4 (omega arith)
-
-dims-codec : Codec (field 1 9 3) wordBytes (λ d. (1 ≤ d) × (d < 9))
-dims-codec = field-codec 1 9 3 (omega arith)
-
-header-forth : (opening : List ℕ) → length opening ≡ 4 → (zs l rest : List ℕ) → Bytes l → header opening l ≡ got zs rest → Sized zs × (l ≡ headerBytes opening zs ++ rest)
-unfolding header
-header-forth opening four zs l rest b e =
-    let o = passed (startsWith l opening) (andThen (field 1 9 3 (drop 4 l)) sizes) 1 e in
-    let i : l ≡ opening ++ drop 4 l = starts-is l opening (o .0) ∙ ap (λ k. opening ++ drop k l) four in
-    let t = through (field 1 9 3 (drop 4 l)) sizes (o .1) in
-    let d = dims-codec .forth (t .0) (drop 4 l) (t .1) (bytes-behind opening (drop 4 l) (subst Bytes i b)) (t .2) in
-    let j : l ≡ opening ++ (wordBytes (t .0) ++ t .1) = i ∙ ap (λ (k : List ℕ). opening ++ k) (d .1) in
-    let c : Bytes (t .1) = bytes-behind (wordBytes (t .0)) (t .1) (bytes-behind opening (wordBytes (t .0) ++ t .1) (subst Bytes j b)) in
-    let z = words-codec size-codec (t .0) .forth zs (t .1) rest c (t .3) in
-    let n : length zs ≡ t .0 = z .0 .0 in
-    let k : l ≡ opening ++ (wordBytes (length zs) ++ (wordsBytes zs ++ rest))
-    = j ∙ ap₂ (λ (m : ℕ) (k : List ℕ). opening ++ (wordBytes m ++ k)) (sym n) (z .1) in (
-      record { some = omega (arith, d .0 .0); few = omega (arith, d .0 .1); each = λ y m. (z .0 .1 y m .0, omega (arith, z .0 .1 y m .1)) },
-      k ∙ sym (append-assoc opening (wordBytes (length zs) ++ wordsBytes zs) rest),
-    )
+-- an opening in front
+codec-opening : {A : Type 0} {f : Reader A} {bytes : A → List ℕ} {P : A → Type 0} (opening : List ℕ) {k : ℕ} (n : ℕ) → length opening ≡ k → Codec f bytes P
+    → Codec (λ l. stopUnless (startsWith l opening) n (f (drop k l))) (λ x. opening ++ bytes x) P
+codec-opening {f = f} {bytes} opening {k} n long c = record {
+  back = λ x l p.
+      rw (append-assoc opening (bytes x) l, starts-append opening (bytes x ++ l), drop-at opening (bytes x ++ l) k long) (c .back x l p);
+  forth = λ x l rest b e.
+      let o = passed (startsWith l opening) (f (drop k l)) n e in
+      let i : l ≡ opening ++ drop k l = starts-is l opening (o .0) ∙ ap (λ j. opening ++ drop j l) long in
+      let r = c .forth x (drop k l) rest (bytes-behind opening (drop k l) i b) (o .1) in
+      (r .0, append-behind opening (bytes x) rest i (r .1));
+}
 
 pub header-codec : (opening : List ℕ) → length opening ≡ 4 → Codec (header opening) (headerBytes opening) Sized
-header-codec opening four = record {
-  back = λ zs l h.
-      let rest : List ℕ = wordBytes (length zs) ++ (wordsBytes zs ++ l) in
-      let e : headerBytes opening zs ++ l ≡ opening ++ rest = append-assoc opening (wordBytes (length zs) ++ wordsBytes zs) l in
-      ap (header opening) e
-      ∙ header-on (opening ++ rest) opening (starts-append opening rest)
-      ∙ ap (λ (k : List ℕ). andThen (field 1 9 3 k) sizes) (drop-at opening rest 4 four)
-      ∙ then-on sizes (dims-codec .back (length zs) (wordsBytes zs ++ l) (h .some, omega (arith, h .few)))
-      ∙ words-codec size-codec (length zs) .back zs l (refl, λ z m. (h .each z m .0, omega (arith, h .each z m .1)));
-  forth = header-forth opening four;
-}
+unfolding header
+header-codec opening four =
+    codec-as (λ zs. (
+      λ p. record { some = p .0 .0; few = omega (arith, p .0 .1); each = λ z m. (p .1 z m .0, omega (arith, p .1 z m .1)) },
+      λ s. ((s .some, omega (arith, s .few)), λ z m. (s .each z m .0, omega (arith, s .each z m .1))),
+    ))
+    (codec-opening opening 1 four (codec-count (field-codec 1 9 3 (omega arith)) (words-codec (field-codec 1 65536 4 (omega arith)))))
 
 -- sizes are words
 pub sizes-words : {zs : List ℕ} → Sized zs → (z : ℕ) → z ∈ zs → z ≤ 2 ^ 32
@@ -73,7 +60,7 @@ module _ (body l : List ℕ) where
   unfolding close
   close-is = ap (λ b. andThen (word l) (ended b)) body-of
 
-  pub close-forth : {u : Unit {0}} {rest : List ℕ} → Bytes l → close (body ++ l) l ≡ got u rest → (l ≡ wordBytes (checkOf body)) × (rest ≡ [])
+  close-forth : {u : Unit {0}} {rest : List ℕ} → Bytes l → close (body ++ l) l ≡ got u rest → (l ≡ wordBytes (checkOf body)) × (rest ≡ [])
   close-forth {u} {rest} b e =
       let t = through (word l) (ended body) (sym close-is ∙ e) in
       let f = word-codec .forth (t .0) l (t .1) b (t .2) in
@@ -84,8 +71,35 @@ module _ (body l : List ℕ) where
       let r : t .1 ≡ rest = cc (q .1) in
       (f .1 ∙ ap₂ (λ (v : ℕ) (k : List ℕ). wordBytes v ++ k) w n, sym r ∙ n)
 
-pub close-back : (body : List ℕ) → close (checked body) (wordBytes (checkOf body)) ≡ got tt []
+close-back : (body : List ℕ) → close (checked body) (wordBytes (checkOf body)) ≡ got tt []
 close-back body =
     close-is body (wordBytes (checkOf body))
     ∙ then-on (ended body) (ap word (sym (append-nil (wordBytes (checkOf body)))) ∙ word-codec .back (checkOf body) [] (check-lt body))
     ∙ rw (eq-eqb (checkOf body) (checkOf body) refl)
+
+-- a body with its check word straight after it, which ends the bytes
+module _ {A : Type 0} where
+  abbrev pub closing : List ℕ → A → Reader A
+  closing s x rest = andThen (close s rest) (λ u rest′. got x rest′)
+
+  abbrev pub closed : Reader A → Reader A
+  closed f s = andThen (f s) (closing s)
+
+  pub closed-got : (f : Reader A) (s : List ℕ) {x : A} {rest : List ℕ} → closed f s ≡ got x rest → (end : List ℕ) × (f s ≡ got x end) × (close s end ≡ got tt rest)
+  closed-got f s e =
+      let t = through (f s) (closing s) e in
+      let u = through-map (λ u. t .0) (close s (t .1)) (t .3) in
+      (t .1, t .2 ∙ ap (λ (y : A). got y (t .1)) (u .2), u .1)
+
+  module _ {f : Reader A} {bytes : A → List ℕ} {P : A → Type 0} (c : Codec f bytes P) where
+    pub closed-back : (x : A) → P x → closed f (checked (bytes x)) ≡ got x []
+    closed-back x p =
+        then-on (closing (checked (bytes x))) (c .back x (wordBytes (checkOf (bytes x))) p)
+        ∙ then-on (λ u rest′. got x rest′) (close-back (bytes x))
+
+    pub closed-forth : (s : List ℕ) (x : A) (rest : List ℕ) → Bytes s → closed f s ≡ got x rest → P x × (s ≡ checked (bytes x)) × (rest ≡ [])
+    closed-forth s x rest b e =
+        let t = closed-got f s e in
+        let r = c .forth x s (t .0) b (t .1) in
+        let d = close-forth (bytes x) (t .0) (codec-rest c b (t .1)) (ap (λ (w : List ℕ). close w (t .0)) (sym (r .1)) ∙ t .2) in
+        (r .0, r .1 ∙ ap (λ (k : List ℕ). bytes x ++ k) (d .0), d .1)

@@ -1,29 +1,35 @@
--- The ends of a field whose value is tested, of codes, of the header and of the check word.
-use mathlib.Core.Path.{_≡_, ap, _∙_, subst}
+-- The ends of a field whose value is tested, of the header and of the check word.
+use mathlib.Core.Path.{_≡_, _∙_}
 use mathlib.Core.Bool.{true, false, _&&_, and-false}
+use mathlib.Core.Logic.{_↔_}
 use mathlib.Core.List.{List}
 use Prim.Native.Nat.{ℕ, _+_, _-_, _≤_, _<_}
 use native.Mathlib.Nat.{add-zero}
 use native.Mathlib.Omega.{arith}
 use lib.Dec.{eqb, leb, ltb}
-use lib.ListN.{length, getD, take, drop, length-drop, drop-of-length-le}
-use lib.Seq.{drop-cons, drop-drop}
-use native.Mathlib.Numerals.{add-one}
+use lib.ListN.{length, take, drop, length-drop}
 use borrow.Author.Tests.{le-leb, lt-leb, lt-ltb, le-ltb, leb-true, ltb-true, eq-eqb, ne-eqb}
-use Rattle.lists.proofs.Tests.{both}
+use Rattle.lists.proofs.Tests.{both, both-of}
 use Rattle.fields.specs.Words.{wordAt}
 use Rattle.fields.specs.WordsLaws.{wordAt-drop}
 use Rattle.fields.specs.Opening.{startsWith}
 use Rattle.fields.specs.Check.{checkOf}
 use Rattle.walk.specs.declared.Walk.the-variants.{At}
-use Rattle.walk.specs.Parsed.{Parsed, stop, got, andThen, stopUnless, consed}
-use Rattle.walk.specs.Fields.{room, word, field, codes, sizes, header, ended, close}
+use Rattle.walk.specs.Parsed.{Parsed, stop, got, andThen, stopUnless}
+use Rattle.walk.specs.Fields.{room, word, field, sizes, header, ended, close}
 use Rattle.walk.specs.Walked.{Says}
-use Rattle.walk.proofs.Steps.{then-on, then-off, through, passed, room-got, Follows, step-on, step-off, step-done}
+use Rattle.walk.proofs.Steps.{then-on, then-off, through-test, place-is, value-rest}
 
 -- a word at a place
 pub word-at-place : (s : List ℕ) (at : ℕ) → wordAt (drop at s) 0 ≡ wordAt s at
 word-at-place s at = wordAt-drop s at 0 ∙ rw add-zero
+
+pub word-rest : (s : List ℕ) (at : ℕ) {v : ℕ} {rest : List ℕ} → at ≤ length s → word (drop at s) ≡ got v rest
+    → (at + 4 ≤ length s) × (rest ≡ drop (at + 4) s) × (v ≡ wordAt s at)
+unfolding word
+word-rest s at h e =
+    let r = value-rest s at 4 h (λ l. wordAt l 0) e in
+    (r .0, r .1, r .2 ∙ word-at-place s at)
 
 pub word-on : (l : List ℕ) {u : Unit {0}} {rest : List ℕ} → room 4 l ≡ got u rest → word l ≡ got (wordAt l 0) rest
 unfolding word
@@ -34,6 +40,12 @@ unfolding word
 word-off l e = then-off (λ u rest. got (wordAt l 0) rest) e
 
 -- ---- a field whose value is tested
+
+pub within : (low limit w : ℕ) → (leb low w && ltb w limit ≡ true) ↔ ((low ≤ w) × (w < limit))
+within low limit w = (
+  λ e. let b = both (leb low w) (ltb w limit) e in (leb-true low w (b .0), ltb-true w limit (b .1)),
+  λ p. both-of (le-leb low w (p .0)) (lt-ltb w limit (p .1)),
+)
 
 module _ (low limit n : ℕ) (l : List ℕ) where
   abbrev tested : ℕ → List ℕ → Parsed ℕ
@@ -57,31 +69,15 @@ module _ (low limit n : ℕ) (l : List ℕ) where
     pub field-in : low ≤ wordAt l 0 → wordAt l 0 < limit → field low limit n l ≡ got (wordAt l 0) rest
     field-in h k = field-on ∙ rw (le-leb low (wordAt l 0) h, lt-ltb (wordAt l 0) limit k)
 
--- the value of a field that was read
-pub tested-in : (low limit n : ℕ) (l : List ℕ) {v : ℕ} {rest : List ℕ} → field low limit n l ≡ got v rest → (low ≤ v) × (v < limit)
+-- a field that was read is a word within its limits
+pub field-got : (low limit n : ℕ) (l : List ℕ) {v : ℕ} {rest : List ℕ} → field low limit n l ≡ got v rest → (word l ≡ got v rest) × (low ≤ v) × (v < limit)
 unfolding field
-tested-in low limit n l {v} e =
-    let t = through (word l) (tested low limit n l) e in
-    let p = passed (leb low (t .0) && ltb (t .0) limit) (got (t .0) (t .1)) n (t .3) in
-    let b = both (leb low (t .0)) (ltb (t .0) limit) (p .0) in
-    let w : t .0 ≡ v = cc (p .1) in
-    (subst (λ x. low ≤ x) w (leb-true low (t .0) (b .0)), subst (λ x. x < limit) w (ltb-true (t .0) limit (b .1)))
+field-got low limit n l {v} e =
+    let t = through-test (λ w. leb low w && ltb w limit) n (word l) e in
+    let b = within low limit v .0 (t .1) in
+    (t .0, b .0, b .1)
 
--- a field that was read from a place on
-pub field-rest : (s : List ℕ) (low limit n at : ℕ) {v : ℕ} {rest : List ℕ} → at ≤ length s → field low limit n (drop at s) ≡ got v rest
-    → (at + 4 ≤ length s) × (v ≡ wordAt s at) × (rest ≡ drop (at + 4) s)
-unfolding field word
-field-rest s low limit n at {v} {rest} h e =
-    let t = through (andThen (room 4 (drop at s)) (λ u rest. got (wordAt (drop at s) 0) rest)) (tested low limit n (drop at s)) e in
-    let r = through (room 4 (drop at s)) (λ u rest. got (wordAt (drop at s) 0) rest) (t .2) in
-    let p = passed (leb low (t .0) && ltb (t .0) limit) (got (t .0) (t .1)) n (t .3) in
-    let g = room-got 4 (drop at s) (r .2) in
-    let q : rest ≡ r .1 = cc (p .1, r .3) in
-    let w : v ≡ wordAt (drop at s) 0 = cc (p .1, r .3) in
-    let k : 4 ≤ length s - at = rw length-drop at (g .0) in
-    (omega arith, w ∙ word-at-place s at, q ∙ g .1 ∙ rw drop-drop)
-
--- the same where the place behind it is known
+-- where the place behind it is known
 pub record Field (s : List ℕ) (low limit at v k : ℕ) : Type 0 where
   pub whole : at + 4 ≤ length s
   pub end : k ≡ at + 4
@@ -90,28 +86,10 @@ pub record Field (s : List ℕ) (low limit at v k : ℕ) : Type 0 where
   pub below : v < limit
 
 pub field-at : (s : List ℕ) (low limit n at : ℕ) {v k : ℕ} → at ≤ length s → field low limit n (drop at s) ≡ got v (drop k s) → k ≤ length s → Field s low limit at v k
-field-at s low limit n at {v} {k} h e l =
-    let f = field-rest s low limit n at h e in
-    let b = tested-in low limit n (drop at s) e in
-    let j : length s - k ≡ length s - (at + 4) = rw (length-drop, length-drop) at (ap length (f .2)) in
-    record { whole = f .0; end = omega (arith, f .0); value = f .1; least = b .0; below = b .1 }
-
--- ---- codes, each below its size
-
-module _ {s : List ℕ} (zs : List ℕ) (at i : ℕ) {whole : Parsed (List ℕ)} (v : Follows s (codes (drop i zs) (drop at s)) whole) where
-  left : i < length zs → codes (drop i zs) (drop at s) ≡ consed (field 0 (getD zs i 0) 6 (drop at s)) (λ a. codes (drop (i + 1) zs))
-  unfolding codes
-  left h = rw (add-one, drop-cons zs i 0 h)
-
-  pub codes-on : {x : ℕ} {rest : List ℕ} → i < length zs → field 0 (getD zs i 0) 6 (drop at s) ≡ got x rest → Follows s (codes (drop (i + 1) zs) rest) whole
-  codes-on h e = step-on v (λ a. codes (drop (i + 1) zs)) (left h) e
-
-  pub codes-off : {k : ℕ} → i < length zs → field 0 (getD zs i 0) 6 (drop at s) ≡ stop k → whole ≡ stop k
-  codes-off h e = step-off v (λ a. codes (drop (i + 1) zs)) (left h) e
-
-  pub codes-done : length zs ≤ i → at ≤ length s → Says s whole (At at)
-  unfolding codes
-  codes-done h l = step-done v (ap (λ (k : List ℕ). codes k (drop at s)) (drop-of-length-le zs h)) l
+field-at s low limit n at h e l =
+    let f = field-got low limit n (drop at s) e in
+    let w = word-rest s at h (f .0) in
+    record { whole = w .0; end = place-is s (w .1) l (w .0); value = w .2; least = f .1; below = f .2 }
 
 -- ---- the header
 

@@ -2,18 +2,21 @@
 -- ends as what is read from the start.
 use mathlib.Core.Path.{_≡_, refl}
 use mathlib.Core.Logic.{_⊎_, inl, inr}
-use mathlib.Core.List.{[]}
-use Prim.Native.Nat.{_+_, _-_, _*_, _≤_}
+use mathlib.Core.List.{List, []}
+use Prim.Native.Nat.{ℕ, _+_, _-_, _*_, _≤_}
 use native.Mathlib.Omega.{arith}
 use native.Mathlib.Nat.{sub-zero}
 use borrow.Author.Needs.{needs}
 use lib.ListN.{length, drop}
 use denote.Ref.{now}
-use Rattle.fields.specs.Words.{wordAt, wordsAt}
-use Rattle.walk.proofs.Steps.{seen, Follows, follows-self}
+use Rattle.fields.specs.Words.{wordsAt}
+use Rattle.walk.specs.declared.Walk.the-variants.{At}
+use Rattle.walk.specs.Walked.{Says}
+use Rattle.walk.proofs.Steps.{seen}
+use Rattle.walk.proofs.Loops.{Follows, follows-self}
 use Rattle.cube.specs.Bounds.{most}
-use Rattle.entries.specs.Reading.{entries}
-use Rattle.entries.proofs.Entry.{entry-read}
+use Rattle.entries.specs.Reading.{entry, entries}
+use Rattle.entries.proofs.Entry.{Entry, entry-read}
 use Rattle.entries.proofs.Entries.{entries-on, entries-off, entries-done}
 use Rattle.entries.proofs.check_entries.Statement.{statement}
 use Rattle.entries.proofs.check_entries.Tie as tie
@@ -40,44 +43,53 @@ returns c =
     record { says = entries-off (now (a .sizes)) (wordsAt (now (a .s)) (l .n) (l .p)) (l .total) (l .at) (l .i) (a .count) (l .inv .2) (search needs) (seen (c .before .k .given .1) (c .before .before .before .check-entry .ensures)) }
 
 -- the entry that was passed is there, and its count is within the bound
-inside : (c : tie.After-known-told2 Inv-loop μ-loop) → c .before .before .before .before .before .loop .at + (4 * length (now (c .before .before .before .before .before .before .before .before .args .sizes)) + 16) ≤ length (now (c .before .before .before .before .before .before .before .before .args .s))
-inside c =
-    let l = c .before .before .before .before .before .loop in
-    let a = c .before .before .before .before .before .before .before .before .args in
-    let e = entry-read (now (a .s)) (now (a .sizes)) (wordsAt (now (a .s)) (l .n) (l .p)) (l .total) (l .at) (l .inv .1) (seen (c .before .next .given .1) (c .before .before .before .check-entry .ensures) .1) in
-    omega (arith, e .took .whole)
+module _ (c : tie.After-known-told2 Inv-loop μ-loop) where
+  abbrev s : List ℕ
+  s = now (c .before .before .before .before .before .before .before .before .args .s)
 
-few : (c : tie.After-known-told2 Inv-loop μ-loop) → (let l = c .before .before .before .before .before .loop in let a = c .before .before .before .before .before .before .before .before .args in l .total + wordAt (now (a .s)) (l .at + 4 * length (now (a .sizes)) + 8) ≤ most)
-few c =
-    let l = c .before .before .before .before .before .loop in
-    let a = c .before .before .before .before .before .before .before .before .args in
-    entry-read (now (a .s)) (now (a .sizes)) (wordsAt (now (a .s)) (l .n) (l .p)) (l .total) (l .at) (l .inv .1) (seen (c .before .next .given .1) (c .before .before .before .check-entry .ensures) .1) .few
+  abbrev zs : List ℕ
+  zs = now (c .before .before .before .before .before .before .before .before .args .sizes)
+
+  abbrev before : List ℕ
+  before = let l = c .before .before .before .before .before .loop in wordsAt s (l .n) (l .p)
+
+  abbrev total : ℕ
+  total = c .before .before .before .before .before .loop .total
+
+  abbrev at : ℕ
+  at = c .before .before .before .before .before .loop .at
+
+  read : Says s (entry zs before total (drop at s)) (At (c .before .next .given .0 .0))
+  read = seen (c .before .next .given .1) (c .before .before .before .check-entry .ensures)
+
+  there : Entry s (length zs) total at (read .0 .row) (drop (c .before .next .given .0 .0) s)
+  there = entry-read s zs before total at (c .before .before .before .before .before .loop .inv .1) (read .1)
 
 mul-word-at : tie.Need-mul-word-at Inv-loop μ-loop
-mul-word-at c = omega (arith, inside c)
+mul-word-at c = omega (arith, there c .whole)
 
 add-word-at : tie.Need-add-word-at Inv-loop μ-loop
-add-word-at c = omega (arith, inside c)
+add-word-at c = omega (arith, there c .whole)
 
 add-word-at-2 : tie.Need-add-word-at-2 Inv-loop μ-loop
-add-word-at-2 c = omega (arith, inside c)
+add-word-at-2 c = omega (arith, there c .whole)
 
 word-at-requires : tie.Need-word-at-requires Inv-loop μ-loop
-word-at-requires c κs = omega (arith, inside c)
+word-at-requires c κs = omega (arith, there c .whole)
 
 add-total : tie.Need-add-total Inv-loop μ-loop
-add-total c = omega (arith, few (c .before), c .word-at .ensures)
+add-total c = omega (arith, there (c .before) .few, c .word-at .ensures)
 
 loop-again : tie.Need-loop-again Inv-loop μ-loop
 loop-again c =
-    let l = c .before .before .before .before .before .before .loop in
-    let a = c .before .before .before .before .before .before .before .before .before .args in
-    let g = seen (c .before .before .next .given .1) (c .before .before .before .before .check-entry .ensures) in (
+    let w = c .before in
+    let l = w .before .before .before .before .before .loop in
+    let a = w .before .before .before .before .before .before .before .before .args in (
       omega arith,
-      g .2,
-      entries-on (now (a .sizes)) (wordsAt (now (a .s)) (l .n) (l .p)) (l .total) (l .at) (l .i) (a .count) (l .inv .2) (omega arith) (l .inv .1) (g .1) (c .word-at .ensures),
-      omega (arith, few (c .before), c .word-at .ensures),
-      omega (arith, inside (c .before)),
+      read w .2,
+      entries-on (zs w) (before w) (total w) (at w) (l .i) (a .count) (l .inv .2) (omega arith) (l .inv .1) (read w .1) (c .word-at .ensures),
+      omega (arith, there w .few, c .word-at .ensures),
+      omega (arith, there w .whole),
       inr refl,
     )
 

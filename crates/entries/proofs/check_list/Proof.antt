@@ -4,7 +4,7 @@ use borrow.Author.Needs.{needs}
 use denote.Ref.{now}
 use Rattle.walk.proofs.Steps.{seen}
 use Rattle.walk.proofs.Fields.{field-at}
-use Rattle.entries.proofs.Entry.{list-off, list-on}
+use Rattle.entries.proofs.Parts.{list-off, list-on}
 use Rattle.entries.proofs.check_list.Statement.{statement}
 use Rattle.entries.proofs.check_list.Tie as tie
 

@@ -1,15 +1,17 @@
 -- `entries::check_rising` meets its contract: the codes, then the test against those before.
 use mathlib.Core.Path.{_≡_, sym, _∙_, ap}
-use Prim.Native.Nat.{ℕ}
+use Prim.Native.Nat.{ℕ, _≤_}
 use lib.ListN.{length}
 use borrow.Author.Needs.{needs}
 use denote.Ref.{now}
 use Rattle.lists.specs.Order.{earlier}
 use Rattle.lists.proofs.Tests.{cases}
+use Rattle.lists.proofs.Order.{earlier-none}
 use Rattle.fields.specs.Words.{wordsAt}
+use Rattle.fields.specs.WordsLaws.{length-wordsAt}
 use Rattle.walk.proofs.Steps.{seen}
-use Rattle.walk.proofs.Places.{codes-read}
-use Rattle.entries.proofs.Entry.{rising-off, rising-on, rising-not, earlier-none}
+use Rattle.walk.proofs.Found.{finds-codes}
+use Rattle.entries.proofs.Parts.{rising-off, rising-on, rising-not}
 use Rattle.entries.proofs.check_rising.Statement.{statement}
 use Rattle.entries.proofs.check_rising.Tie as tie
 
@@ -21,14 +23,16 @@ returns : tie.Need-returns
 returns c =
     let a = c .before .before .before .before .before .before .before .args in
     let g = seen (c .before .before .next .given .1) (c .before .before .before .before .check-codes .ensures) in
-    let e = ap (λ (n : ℕ). earlier (wordsAt (now (a .s)) n (a .p)) (wordsAt (now (a .s)) (length (now (a .sizes))) (a .at))) (c .if1 .taken) in
-    record { says = rising-on (now (a .s)) (now (a .sizes)) (wordsAt (now (a .s)) (a .n) (a .p)) (a .at) (search needs) g (e ∙ earlier-none (now (a .s)) (a .p) (length (now (a .sizes))) (a .at) (search needs)) }
+    let before = wordsAt (now (a .s)) (a .n) (a .p) in
+    let mine = wordsAt (now (a .s)) (length (now (a .sizes))) (a .at) in
+    let some : 1 ≤ length mine = rw length-wordsAt (search needs) in
+    record { says = rising-on (now (a .s)) (now (a .sizes)) before (a .at) (search needs) g (earlier-none before mine (length-wordsAt (now (a .s)) (a .n) (a .p) ∙ c .if1 .taken) some) }
 
 is-after-requires : tie.Need-is-after-requires
 is-after-requires c κs =
     let a = c .before .before .before .before .before .before .before .args in
     let g = seen (c .before .before .next .given .1) (c .before .before .before .before .check-codes .ensures) in
-    let w = codes-read (now (a .s)) (now (a .sizes)) (a .at) (search needs) (g .1) .took .whole in
+    let w = finds-codes (now (a .s)) (now (a .sizes)) (a .at) .found _ _ (search needs) (g .1) .0 in
     rw (wide c) (search needs, rw (wide c) at (c .before .before .before .before .before .before .before .pre .1 .0), w)
 
 returns-2 : tie.Need-returns-2

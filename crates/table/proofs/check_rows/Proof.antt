@@ -6,7 +6,8 @@ use borrow.Author.Needs.{needs}
 use denote.Ref.{now}
 use lib.ListN.{length, drop}
 use Rattle.walk.specs.Parsed.{many}
-use Rattle.walk.proofs.Steps.{seen, Follows, follows-self, many-on, many-off, many-done}
+use Rattle.walk.proofs.Steps.{seen}
+use Rattle.walk.proofs.Loops.{Follows, follows-self, many-on, many-off, many-done}
 use Rattle.table.specs.Reading.{row}
 use Rattle.table.proofs.check_rows.Statement.{statement}
 use Rattle.table.proofs.check_rows.Tie as tie

@@ -5,8 +5,8 @@ use borrow.Author.Needs.{needs}
 use lib.ListN.{length, drop}
 use denote.Ref.{now}
 use Rattle.walk.specs.Fields.{codes}
-use Rattle.walk.proofs.Steps.{seen, Follows, follows-self}
-use Rattle.walk.proofs.Fields.{codes-on, codes-off, codes-done}
+use Rattle.walk.proofs.Steps.{seen}
+use Rattle.walk.proofs.Loops.{Follows, follows-self, codes-on, codes-off, codes-done}
 use Rattle.walk.proofs.check_codes.Statement.{statement}
 use Rattle.walk.proofs.check_codes.Tie as tie
 

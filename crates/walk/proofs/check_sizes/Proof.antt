@@ -5,7 +5,8 @@ use native.Mathlib.Nat.{sub-zero}
 use borrow.Author.Needs.{needs}
 use lib.ListN.{length, drop}
 use Rattle.walk.specs.Fields.{field, sizes}
-use Rattle.walk.proofs.Steps.{seen, Follows, follows-self, many-on, many-off, many-done}
+use Rattle.walk.proofs.Steps.{seen}
+use Rattle.walk.proofs.Loops.{Follows, follows-self, many-on, many-off, many-done}
 use Rattle.walk.proofs.check_sizes.Statement.{statement}
 use Rattle.walk.proofs.check_sizes.Tie as tie
 
