@@ -3,6 +3,8 @@ pub mod Lists
 pub mod Open
 pub mod Noted
 pub mod Kept
+pub mod Growing
 pub mod Partly
-pub mod Grown
+pub mod Judged
+pub mod Listing
 pub mod Shared

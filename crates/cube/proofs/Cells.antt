@@ -1,5 +1,5 @@
 -- The cells of a node, the rows that fall in a cell, and the cell's total.
-use mathlib.Core.Path.{_≡_, sym, _∙_}
+use mathlib.Core.Path.{_≡_, sym, ap, _∙_}
 use mathlib.Core.Logic.{_≢_}
 use mathlib.Core.Bool.{true, false}
 use mathlib.Core.List.{List, [], _∷_, map, Memᴰ·cast, Memᴰ·map, Memᴰ·of-map}
@@ -52,6 +52,10 @@ module _ (L : Lattice) where
       let q = one-long (within L xs c) h in
       let k = keep-in (L .falls c) xs (q .1) in
       (q .0, k .0, k .1)
+
+-- the cell of a node in which codes fall is theirs
+pub falls-node : (L : Lattice) (W : Laws L) {s : ℕ} {c x : List ℕ} → L .valid x → L .node-of c ≡ s → L .falls c x ≡ true → c ≡ L .cell s x
+falls-node L W {c = c} {x = x} v e f = W .cell-of c x v f .1 ∙ ap (λ (n : ℕ). L .cell n x) e
 
 module _ (L : Lattice) (W : Laws L) (xs : List (List ℕ)) (v : (x : List ℕ) → x ∈ xs → L .valid x) where
   pub falls-own : {s : ℕ} {x : List ℕ} → s ∈ L .nodes → x ∈ xs → L .falls (L .cell s x) x ≡ true

@@ -7,10 +7,11 @@ use Prim.Native.Nat.{ℕ, zero, suc, _/_, _%_, _^_, _<_, _≤_}
 use native.Mathlib.Omega.{arith}
 use lib.Dec.{eqb}
 use lib.ListN.{length}
-use borrow.Author.Tests.{eqb-true, eq-eqb, ne-eqb}
+use borrow.Author.Tests.{eqb-true, ne-eqb}
 use Rattle.lists.specs.Order.{same}
-use Rattle.lists.proofs.Tests.{cases, truth, both, both-of}
+use Rattle.lists.proofs.Tests.{cases, truth, refuted, both, both-of}
 use Rattle.lists.proofs.Pairwise.{pairwise-imp}
+use Rattle.lists.proofs.Order.{same-eq, same-refl}
 use Rattle.lattice.specs.Sets.{before, full, sets, holds}
 use Rattle.lattice.proofs.Sets.{before-is, by-lattice, full-suc, full-lt, holds-full, holds-refl, holds-suc, holds-trans, holds-le, sets-in, sets-of, sets-rising}
 use Rattle.cube.specs.Lattice.{Laws}
@@ -38,40 +39,6 @@ falls-same (suc d) [] y k = absurd k
 falls-same (suc d) (a ∷ x) [] k = refl
 falls-same (suc d) (a ∷ x) (b ∷ y) k = rw (ne-eqb a ALL (omega (arith, k .0)), falls-same d x y (k .1))
 
-alike-refl : (n a : ℕ) → alike n a a ≡ true
-alike-refl zero a = refl
-alike-refl (suc n) a = eq-eqb a a refl
-
-pub agree-refl : (s : ℕ) (x : List ℕ) → agree s x x ≡ true
-agree-refl s [] = refl
-agree-refl s (a ∷ x) = both-of (alike-refl (s % 2) a) (agree-refl (s / 2) x)
-
-shown-alike : (n a b : ℕ) → alike n a b ≡ true → shown n a ≡ shown n b
-shown-alike zero a b e = refl
-shown-alike (suc n) a b e = eqb-true a b e
-
-pub agree-cell : (s : ℕ) (x y : List ℕ) → agree s x y ≡ true → cell s x ≡ cell s y
-agree-cell s [] [] e = refl
-agree-cell s [] (b ∷ y) e = absurd (false≢true e)
-agree-cell s (a ∷ x) [] e = absurd (false≢true e)
-agree-cell s (a ∷ x) (b ∷ y) e =
-    let r = both (alike (s % 2) a b) (agree (s / 2) x y) e in
-    ap₂ _∷_ (shown-alike (s % 2) a b (r .0)) (agree-cell (s / 2) x y (r .1))
-
--- codes shown the same are alike, and rows of one cell agree
-alike-shown : (n a b : ℕ) → shown n a ≡ shown n b → alike n a b ≡ true
-alike-shown zero a b e = refl
-alike-shown (suc n) a b e = eq-eqb a b e
-
-pub cell-agree : (s : ℕ) (x y : List ℕ) → cell s x ≡ cell s y → agree s x y ≡ true
-cell-agree s [] [] e = refl
-cell-agree s [] (b ∷ y) e = cc
-cell-agree s (a ∷ x) [] e = cc
-cell-agree s (a ∷ x) (b ∷ y) e =
-    let p : shown (s % 2) a ≡ shown (s % 2) b = cc in
-    let q : cell (s / 2) x ≡ cell (s / 2) y = cc in
-    both-of (alike-shown (s % 2) a b p) (cell-agree (s / 2) x y q)
-
 -- rows agree on a set just where their cells are the same
 alike-eqb : (n a b : ℕ) → alike n a b ≡ eqb (shown n a) (shown n b)
 alike-eqb zero a b = refl
@@ -82,6 +49,12 @@ agree-same s [] [] = refl
 agree-same s [] (b ∷ y) = refl
 agree-same s (a ∷ x) [] = refl
 agree-same s (a ∷ x) (b ∷ y) = ap₂ _&&_ (alike-eqb (s % 2) a b) (agree-same (s / 2) x y)
+
+pub agree-refl : (s : ℕ) (x : List ℕ) → agree s x x ≡ true
+agree-refl s x = agree-same s x x ∙ same-refl (cell s x)
+
+pub agree-cell : (s : ℕ) (x y : List ℕ) → agree s x y ≡ true → cell s x ≡ cell s y
+agree-cell s x y e = same-eq (cell s x) (cell s y) (sym (agree-same s x y) ∙ e)
 
 pub length-cell : (s : ℕ) (x : List ℕ) → length (cell s x) ≡ length x
 length-cell s [] = refl
@@ -157,10 +130,7 @@ plain-laws d = record {
   order = pairwise-imp (λ e s. before e s ≡ true) (λ e s. (e ≢ s) × (holds d e s ≡ false)) (sets d)
       (λ e s i j h. (
         λ q. by-lattice .irrefl s (rw q at h),
-        cases (truth (holds d e s))
-            (λ f. let b = holds-le d e s (sets-in d j) f in
-            absurd (cases (before-is e s h) (λ k. omega (arith, b .1)) (λ k. omega (arith, b .0))))
-            (λ f. f),
+        refuted (λ f. let b = holds-le d e s (sets-in d j) f in cases (before-is e s h) (λ k. omega (arith, b .1)) (λ k. omega (arith, b .0))),
       ))
       (sets-rising d);
   holds-refl = holds-refl d;

@@ -12,7 +12,7 @@ use Rattle.cube.specs.Measure.{Measure, Row, codesOf}
 use Rattle.cube.specs.Lattice.{Lattice, Laws}
 use Rattle.cube.specs.Cube.{Exists, cuboid, total, filled, grouped, complete}
 use Rattle.cube.specs.Condensed.{Entry, amount, Base, stands, Condensed, answered, expand, expansion}
-use Rattle.cube.proofs.Cells.{cuboid-in, cuboid-of, cuboid-rising, cell-exists}
+use Rattle.cube.proofs.Cells.{cuboid-in, cuboid-of, cuboid-rising, falls-node, cell-exists}
 use Rattle.cube.proofs.Questions.{lookup-found}
 
 module _ (L : Lattice) (W : Laws L) {A : Type 0} (M : Measure A) (rows : List (Row A)) (b : Base L (codesOf rows)) {es : List (Entry A)} (z : Condensed L M rows es) where
@@ -25,8 +25,7 @@ module _ (L : Lattice) (W : Laws L) {A : Type 0} (M : Measure A) (rows : List (R
       let k = keep-in (λ c. eqb (L .node-of c) s) (flatMap (stands L) es) (sort-in earlier (stood s) m) in
       let f = flat-in (stands L) es (k .0) in
       let x = z .exact (f .0) (f .1) c (f .2) .0 in
-      let e : c ≡ L .cell s (x .0) = W .cell-of c (x .0) (b .valid (x .0) (x .1)) (x .2) .1 ∙ ap (λ (t : ℕ). L .cell t (x .0)) (eqb-true (L .node-of c) s (k .1)) in
-      Memᴰ·cast e (cuboid-of L s (x .1))
+      Memᴰ·cast (falls-node L W (b .valid (x .0) (x .1)) (eqb-true (L .node-of c) s (k .1)) (x .2)) (cuboid-of L s (x .1))
 
   stood-of : (s : ℕ) → s ∈ L .nodes → (c : List ℕ) → c ∈ cuboid L (codesOf rows) s → c ∈ sort earlier (stood s)
   stood-of s h c m =

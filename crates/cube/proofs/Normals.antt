@@ -106,11 +106,11 @@ module _ (L : Lattice) (W : Laws L) (xs : List (List ℕ)) (b : Base L xs) where
       (λ m. absurd (omega (arith, ap length w, normals-in m)))
 
 -- There are not many: at most one of a node for each row.
-shared-length : (L : Lattice) (xs : List (List ℕ)) (s : ℕ) → length (shared L xs s) ≤ length xs
+pub shared-few : (L : Lattice) (xs : List (List ℕ)) (s : ℕ) → length (shared L xs s) ≤ length xs
 unfolding shared
-shared-length L xs s = omega (arith, keep-length (λ c. leb 2 (length (within L xs c))) (cuboid L xs s), cuboid-few L xs s)
+shared-few L xs s = le-trans (keep-length (λ c. leb 2 (length (within L xs c))) (cuboid L xs s)) (cuboid-few L xs s)
 
 pub normals-length : (L : Lattice) (xs : List (List ℕ)) → length (normals L xs) ≤ length (L .nodes) * length xs
 unfolding normals proper
-normals-length L xs = le-trans (flat-length (shared L xs) (length xs) (proper L) (λ s m. shared-length L xs s))
+normals-length L xs = le-trans (flat-length (shared L xs) (length xs) (proper L) (λ s m. shared-few L xs s))
     (mul-le-mul-right (length xs) (keep-length (λ s. not (eqb s (L .finest))) (L .nodes)))

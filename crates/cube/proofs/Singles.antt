@@ -1,19 +1,16 @@
 -- Base rows that are single on a node; lemma 2.1 of source document 004.
-use mathlib.Core.Path.{_≡_, refl, sym, _∙_}
+use mathlib.Core.Path.{_≡_, sym, _∙_}
 use mathlib.Core.Logic.{_≢_}
 use mathlib.Core.Bool.{Bool, true, false, not, _||_, false≢true, or-true}
 use mathlib.Core.List.{List}
 use Prim.Native.Nat.{ℕ}
+use borrow.Author.Tests.{not-false}
 use Rattle.lists.specs.Lists.{_∈_}
 use Rattle.lists.specs.Order.{same}
-use Rattle.lists.proofs.Tests.{cases, truth, every-in, every-of, every-not}
+use Rattle.lists.proofs.Tests.{cases, truth, neither, every-in, every-of, every-not}
 use Rattle.lists.proofs.Order.{same-eq, same-refl}
 use Rattle.cube.specs.Lattice.{Lattice, Laws}
 use Rattle.cube.specs.Condensed.{single}
-
-failed : (a b : Bool) → not a || b ≡ false → (a ≡ true) × (b ≡ false)
-failed true b e = (refl, e)
-failed false b e = absurd (false≢true (sym e))
 
 module _ (L : Lattice) (xs : List (List ℕ)) (s : ℕ) (x : List ℕ) where
   abbrev test : List ℕ → Bool
@@ -35,8 +32,8 @@ module _ (L : Lattice) (xs : List (List ℕ)) (s : ℕ) (x : List ℕ) where
   unfolding single
   single-not e =
       let r = every-not test xs e in
-      let t = failed (L .agree s x (r .0)) (same x (r .0)) (r .2) in
-      (r .0, r .1, t .0, λ h. false≢true (sym (t .1) ∙ (rw (← h) (same-refl x))))
+      let t = neither (not (L .agree s x (r .0))) (same x (r .0)) (r .2) in
+      (r .0, r .1, not-false (L .agree s x (r .0)) (t .0), λ h. false≢true (sym (t .1) ∙ (rw (← h) (same-refl x))))
 
 -- A row single on a node is single on every node that holds it.
 pub single-up : (L : Lattice) (W : Laws L) (xs : List (List ℕ)) (s t : ℕ) (x : List ℕ) → L .valid x → L .holds s t ≡ true → single L xs t x ≡ true → single L xs s x ≡ true

@@ -3,7 +3,9 @@ use mathlib.Core.Path.{_≡_, refl, sym, _∙_}
 use mathlib.Core.Logic.{_≢_, _⊎_, inl, inr, _↔_}
 use mathlib.Core.Bool.{Bool, true, false, not, _&&_, false≢true}
 use mathlib.Core.List.{List, [], _∷_, _++_, List·Memᴰ·head, List·Memᴰ·tail, List·Memᴰ·not-nil, List·Memᴰ·append-cases, Memᴰ·cast, Memᴰ·append-left, Memᴰ·append-right}
-use Prim.Native.Nat.{ℕ}
+use Prim.Native.Nat.{ℕ, _≤_}
+use native.Mathlib.Omega.{arith}
+use lib.ListN.{length, length-append}
 use borrow.Author.Tests.{not-true}
 use Rattle.lists.specs.Lists.{_∈_, some, only, Pairwise, Distinct}
 use Rattle.lists.proofs.Tests.{cases, truth, both, some-in, some-not}
@@ -12,6 +14,17 @@ use Rattle.lists.proofs.Pairwise.{pairwise-append, pairwise-imp, pairwise-eithe
 use Rattle.cube.specs.Lattice.{Lattice, Laws}
 use Rattle.cube.specs.Condensed.{proper, single, smallest, listed}
 use Rattle.cube.proofs.Nodes.{Before, proper-in, proper-order, holds-antisym}
+
+-- the smallest of some nodes, then of others
+pub smallest-append : (L : Lattice) (p : ℕ → Bool) (l m acc : List ℕ) → smallest L p (l ++ m) acc ≡ smallest L p m (smallest L p l acc)
+smallest-append L p [] m acc = refl
+smallest-append L p (s ∷ l) m acc = smallest-append L p l m (acc ++ only (p s && not (some (L .holds s) acc)) s [])
+
+pub smallest-length : (L : Lattice) (p : ℕ → Bool) (l acc : List ℕ) → length acc ≤ length (smallest L p l acc)
+smallest-length L p [] acc = omega arith
+smallest-length L p (s ∷ l) acc =
+    let more = only (p s && not (some (L .holds s) acc)) s [] in
+    omega (arith, smallest-length L p l (acc ++ more), length-append acc more)
 
 module _ (L : Lattice) (W : Laws L) where
   module _ (p : ℕ → Bool) where
@@ -24,7 +37,7 @@ module _ (L : Lattice) (W : Laws L) where
         (λ k. let r = both (p s) (not (some (L .holds s) acc)) (k .1) in (k .0, r .0, not-true (some (L .holds s) acc) (r .1)))
         (λ k. absurd (List·Memᴰ·not-nil k))
 
-    smallest-in : {m : ℕ} (l acc : List ℕ) → m ∈ smallest L p l acc → (m ∈ acc) ⊎ ((m ∈ l) × (p m ≡ true))
+    pub smallest-in : {m : ℕ} (l acc : List ℕ) → m ∈ smallest L p l acc → (m ∈ acc) ⊎ ((m ∈ l) × (p m ≡ true))
     smallest-in [] acc h = inl h
     smallest-in (s ∷ l) acc h = cases (smallest-in l (acc ++ only (taken s acc) s []) h)
         (λ k. cases (List·Memᴰ·append-cases acc k) inl (λ i. let t = taken-in s acc i in inr (List·Memᴰ·head (t .0), rw (t .0) (t .1))))

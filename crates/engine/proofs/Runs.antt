@@ -31,25 +31,19 @@ module _ (key : ℕ → List ℕ) where
   unfolding runs
   runs-first y l = attach-first y (runs key l)
 
-  runs-next : (x : ℕ) (l : List ℕ) → runs key (x ∷ l) ≡ attach key x (runs key l)
-  unfolding runs
-  runs-next x l = refl
-
   runs-one : (x : ℕ) → runs key (x ∷ []) ≡ record { first = x; more = [] } ∷ runs key []
   unfolding runs
   runs-one x = refl
 
-  runs-one-in : (x : ℕ) {r : Run} → r ∈ runs key (x ∷ []) → r ≡ record { first = x; more = [] }
-  unfolding runs
-  runs-one-in x m = List·Memᴰ·eq-of-singleton m
-
   -- the next row starts a run of its own, or is of the same run
   runs-part : (x y : ℕ) (l : List ℕ) → earlier (key x) (key y) ≡ true → runs key (x ∷ y ∷ l) ≡ record { first = x; more = [] } ∷ runs key (y ∷ l)
-  runs-part x y l e = runs-next x (y ∷ l) ∙ rw (runs-first y l .2, e)
+  unfolding runs
+  runs-part x y l e = rw (attach-first y (runs key l) .2, e)
 
   runs-join : (x y : ℕ) (l m : List ℕ) (qs : List Run) → earlier (key x) (key y) ≡ false → runs key (y ∷ l) ≡ record { first = y; more = m } ∷ qs
       → runs key (x ∷ y ∷ l) ≡ record { first = x; more = y ∷ m } ∷ qs
-  runs-join x y l m qs e q = runs-next x (y ∷ l) ∙ rw (q, e)
+  unfolding runs
+  runs-join x y l m qs e q = rw (q, e)
 
   -- a run by its places: no row of it comes after the first, and the row behind it does
   run-at : (l : List ℕ) (k from r : ℕ) → Ordered key l → from + suc k ≡ r → r ≤ length l
@@ -117,9 +111,9 @@ module _ (key : ℕ → List ℕ) where
   whole-more x l r e w = rw (not-same (key x) (cellOf r) e) w
 
   pub runs-whole : {r : Run} (l : List ℕ) → Ordered key l → r ∈ runs key l → Whole l r
+  unfolding runs
   runs-whole [] o m = absurd (List·Memᴰ·not-nil (runs-in [] m))
-  runs-whole {r} (x ∷ []) o m =
-      rw (runs-one-in x m, same-refl (key x))
+  runs-whole {r} (x ∷ []) o m = rw (List·Memᴰ·eq-of-singleton m, same-refl (key x))
   runs-whole {r} (x ∷ y ∷ l) o m =
       let f = runs-first y l in
       cases (truth (earlier (key x) (key y)))

@@ -1,7 +1,7 @@
 -- Members of the lists that tests, functions and bounds make.
 use mathlib.Core.Path.{_≡_, refl, sym, ap, ap₂, _∙_}
 use mathlib.Core.Logic.{_≢_, _⊎_, inl, inr}
-use mathlib.Core.Bool.{Bool, true, false}
+use mathlib.Core.Bool.{Bool, true, false, false≢true}
 use mathlib.Core.List.{List, [], _∷_, _++_, map, flatMap, List·Memᴰ·head, List·Memᴰ·tail, List·Memᴰ·not-nil, append-assoc, List·Memᴰ·append-cases, Memᴰ·append-left, Memᴰ·append-right}
 use Prim.Native.Nat.{ℕ, zero, suc, _*_, _≤_, _<_}
 use native.Mathlib.Omega.{arith}
@@ -64,6 +64,15 @@ module _ {A : Type 0} where
   keep-same p q [] h = refl
   keep-same p q (x ∷ l) h = ap₂ (λ (b : Bool) (k : List A). only b x k) (h x (List·Memᴰ·head refl)) (keep-same p q l (λ y m. h y (List·Memᴰ·tail m)))
 
+  -- a part that has all which pass a test
+  pub keep-part : (p q : A → Bool) (l : List A) → ((x : A) → x ∈ l → p x ≡ true → q x ≡ true) → keep p (keep q l) ≡ keep p l
+  keep-part p q [] f = refl
+  keep-part p q (x ∷ l) f =
+      let rest = keep-part p q l (λ y m. f y (List·Memᴰ·tail m)) in
+      cases (truth (q x))
+      (λ e. rw (e, rest))
+      (λ e. cases (truth (p x)) (λ g. absurd (false≢true (sym e ∙ f x (List·Memᴰ·head refl) g))) (λ g. rw (e, g, rest)))
+
 module _ {A B : Type 0} where
   pub flat-in : (f : A → List B) {y : B} (l : List A) → y ∈ flatMap f l → (x : A) × (x ∈ l) × (y ∈ f x)
   unfolding flatMap
@@ -92,13 +101,13 @@ module _ {A B : Type 0} where
   keep-map p f [] = refl
   keep-map p f (x ∷ l) = cases (truth (p (f x))) (λ e. rw (e, keep-map p f l)) (λ e. rw (e, keep-map p f l))
 
--- lists of at most n members each
 -- what a list gives, then what another gives
 pub flat-append : {A B : Type 0} (f : A → List B) (l m : List A) → flatMap f (l ++ m) ≡ flatMap f l ++ flatMap f m
 unfolding flatMap
 flat-append f [] m = refl
 flat-append f (x ∷ l) m = ap (λ (r : List _). f x ++ r) (flat-append f l m) ∙ sym (append-assoc (f x) (flatMap f l) (flatMap f m))
 
+-- lists of at most n members each
 pub flat-length : {A B : Type 0} (f : A → List B) (n : ℕ) (l : List A) → ((x : A) → x ∈ l → length (f x) ≤ n) → length (flatMap f l) ≤ length l * n
 unfolding flatMap
 flat-length f n [] h = omega arith

@@ -1,17 +1,18 @@
 -- Laws of the order of lists of numbers, and of lists that rise strictly.
 use mathlib.Core.Path.{_≡_, refl, sym, _∙_, ap₂}
 use mathlib.Core.Logic.{_≢_, _⊎_, inl, inr}
-use mathlib.Core.Bool.{Bool, true, false, _&&_, false≢true, or-true}
+use mathlib.Core.Bool.{Bool, true, false, _&&_, false≢true}
 use mathlib.Core.List.{List, [], _∷_, List·Memᴰ·head, List·Memᴰ·tail, List·Memᴰ·not-nil, List·Memᴰ·cases-cons}
 use Prim.Native.Nat.{ℕ, suc, _≤_, _<_}
 use native.Mathlib.Omega.{arith}
 use lib.Dec.{eqb, ltb}
 use lib.ListN.{length}
 use borrow.Author.Tests.{ltb-true, ltb-false, eqb-true, lt-ltb, le-ltb, eq-eqb, ne-eqb}
-use Rattle.lists.specs.Lists.{_∈_, Distinct}
-use Rattle.lists.specs.Order.{earlier, same, Strict, Rising, place, insert, sort}
-use Rattle.lists.proofs.Tests.{cases, both, both-of, either, truth, refuted}
-use Rattle.lists.proofs.Pairwise.{pairwise-imp}
+use Rattle.lists.specs.Lists.{_∈_, keep, Distinct}
+use Rattle.lists.specs.Order.{earlier, same, Strict, Rising, insert, sort}
+use Rattle.lists.proofs.Tests.{cases, both, both-of, either, neither, truth, refuted}
+use Rattle.lists.proofs.Members.{keep-in, keep-of}
+use Rattle.lists.proofs.Pairwise.{pairwise-imp, pairwise-keep}
 
 pub same-eq : (x y : List ℕ) → same x y ≡ true → x ≡ y
 same-eq [] [] e = refl
@@ -31,12 +32,12 @@ earlier-cons a b x y e = cases (either (ltb a b) (eqb a b && earlier x y) e)
 pub earlier-lt : (a b : ℕ) (x y : List ℕ) → a < b → earlier (a ∷ x) (b ∷ y) ≡ true
 earlier-lt a b x y h = rw (lt-ltb a b h)
 
-pub earlier-eq : (a b : ℕ) (x y : List ℕ) → a ≡ b → earlier x y ≡ true → earlier (a ∷ x) (b ∷ y) ≡ true
-earlier-eq a b x y h e = rw (eq-eqb a b h, e, or-true)
-
 -- the same first number decides nothing, a lower one at once
 pub earlier-skip : (a b : ℕ) (x y : List ℕ) → a ≡ b → earlier (a ∷ x) (b ∷ y) ≡ earlier x y
 earlier-skip a b x y e = rw (le-ltb a b (omega arith), eq-eqb a b e)
+
+pub earlier-eq : (a b : ℕ) (x y : List ℕ) → a ≡ b → earlier x y ≡ true → earlier (a ∷ x) (b ∷ y) ≡ true
+earlier-eq a b x y h e = earlier-skip a b x y h ∙ e
 
 pub earlier-gt : (a b : ℕ) (x y : List ℕ) → b < a → earlier (a ∷ x) (b ∷ y) ≡ false
 earlier-gt a b x y h = rw (le-ltb a b (omega arith), ne-eqb a b (omega arith))
@@ -46,9 +47,6 @@ pub earlier-none : (x y : List ℕ) → length x ≡ 0 → 1 ≤ length y → ea
 earlier-none [] [] e h = absurd (omega arith)
 earlier-none [] (b ∷ y) e h = refl
 earlier-none (a ∷ x) y e h = absurd (omega arith)
-
-earlier-rest : (a b : ℕ) (x y : List ℕ) → a ≡ b → earlier (a ∷ x) (b ∷ y) ≡ false → earlier x y ≡ false
-earlier-rest a b x y q e = refuted (λ t. false≢true (sym e ∙ earlier-eq a b x y q t))
 
 earlier-trans : (x y z : List ℕ) → earlier x y ≡ true → earlier y z ≡ true → earlier x z ≡ true
 earlier-trans [] [] z e f = f
@@ -68,22 +66,17 @@ earlier-total : (x y : List ℕ) → earlier x y ≡ false → earlier y x ≡ f
 earlier-total [] [] e f = refl
 earlier-total [] (b ∷ y) e f = absurd (false≢true (sym e))
 earlier-total (a ∷ x) [] e f = absurd (false≢true (sym f))
-earlier-total (a ∷ x) (b ∷ y) e f = cases (truth (ltb a b))
-    (λ h. absurd (false≢true (sym e ∙ earlier-lt a b x y (ltb-true a b h))))
-    (λ h. cases (truth (ltb b a))
-    (λ k. absurd (false≢true (sym f ∙ earlier-lt b a y x (ltb-true b a k))))
-    (λ k. let q : a ≡ b = omega (arith, ltb-false a b h, ltb-false b a k) in
-    ap₂ _∷_ q (earlier-total x y (earlier-rest a b x y q e) (earlier-rest b a y x (sym q) f))))
+earlier-total (a ∷ x) (b ∷ y) e f =
+    let h = neither (ltb a b) (eqb a b && earlier x y) e in
+    let k = neither (ltb b a) (eqb b a && earlier y x) f in
+    let q : a ≡ b = omega (arith, ltb-false a b (h .0), ltb-false b a (k .0)) in
+    ap₂ _∷_ q (earlier-total x y (sym (earlier-skip a b x y q) ∙ e) (sym (earlier-skip b a y x (sym q)) ∙ f))
 
 pub by-codes : Strict earlier
 by-codes = record { trans = earlier-trans; total = earlier-total; irrefl = earlier-irrefl }
 
-module _ {A : Type 0} {less : A → A → Bool} (o : Strict less) where
-  pub strict-self : (x : A) → less x x ≡ false
-  strict-self x = refuted (o .irrefl x)
-
-  pub strict-turned : (x y : A) → less x y ≡ true → less y x ≡ false
-  strict-turned x y e = refuted (λ f. o .irrefl x (o .trans x y x e f))
+pub strict-turned : {A : Type 0} {less : A → A → Bool} (o : Strict less) (x y : A) → less x y ≡ true → less y x ≡ false
+strict-turned o x y e = refuted (λ f. o .irrefl x (o .trans x y x e f))
 
 -- x comes before y, and z does not: x comes before z
 pub before-cut : (x y z : List ℕ) → earlier x y ≡ true → earlier z y ≡ false → earlier x z ≡ true
@@ -108,31 +101,32 @@ module _ {A : Type 0} (less : A → A → Bool) where
 
   insert-in : (x : A) {z : A} (l : List A) → z ∈ insert less x l → (z ≡ x) ⊎ (z ∈ l)
   insert-in x [] m = List·Memᴰ·cases-cons m
-  insert-in x {z} (y ∷ l) m = go (less x y) (less y x) (insert-in x l) m
-    where
-      go : (a b : Bool) → (z ∈ insert less x l → (z ≡ x) ⊎ (z ∈ l)) → z ∈ place a b x y l (insert less x l) → (z ≡ x) ⊎ (z ∈ y ∷ l)
-      go true b f n = List·Memᴰ·cases-cons n
-      go false true f n = cases (List·Memᴰ·cases-cons n) (λ e. inr (List·Memᴰ·head e)) (λ i. cases (f i) inl (λ j. inr (List·Memᴰ·tail j)))
-      go false false f n = inr n
+  insert-in x (y ∷ l) m = cases (truth (less x y))
+      (λ p. List·Memᴰ·cases-cons (rw p at m))
+      (λ p. cases (truth (less y x))
+      (λ q. cases (List·Memᴰ·cases-cons (rw (p, q) at m)) (λ e. inr (List·Memᴰ·head e)) (λ i. cases (insert-in x l i) inl (λ j. inr (List·Memᴰ·tail j))))
+      (λ q. inr (rw (p, q) at m)))
+
+  pub sort-in : {z : A} (l : List A) → z ∈ sort less l → z ∈ l
+  sort-in [] m = m
+  sort-in (x ∷ l) m = cases (insert-in x (sort less l) m) List·Memᴰ·head (λ i. List·Memᴰ·tail (sort-in l i))
 
   module _ (o : Strict less) where
     insert-of : (x : A) {z : A} (l : List A) → (z ≡ x) ⊎ (z ∈ l) → z ∈ insert less x l
     insert-of x [] m = cases m List·Memᴰ·head List·Memᴰ·tail
-    insert-of x {z} (y ∷ l) m = go (less x y) (less y x) refl refl (insert-of x l) m
-      where
-        go : (a b : Bool) → less x y ≡ a → less y x ≡ b → ((z ≡ x) ⊎ (z ∈ l) → z ∈ insert less x l) → (z ≡ x) ⊎ (z ∈ y ∷ l) → z ∈ place a b x y l (insert less x l)
-        go true b p q f n = cases n List·Memᴰ·head List·Memᴰ·tail
-        go false true p q f n = cases n (λ e. List·Memᴰ·tail (f (inl e))) (λ i. cases (List·Memᴰ·cases-cons i) List·Memᴰ·head (λ j. List·Memᴰ·tail (f (inr j))))
-        go false false p q f n = cases n (λ e. List·Memᴰ·head (e ∙ o .total x y p q)) (λ i. i)
+    insert-of x (y ∷ l) m = cases (truth (less x y))
+        (λ p. rw p (cases m List·Memᴰ·head List·Memᴰ·tail))
+        (λ p. cases (truth (less y x))
+        (λ q. rw (p, q) (cases m (λ e. List·Memᴰ·tail (insert-of x l (inl e))) (λ i. cases (List·Memᴰ·cases-cons i) List·Memᴰ·head (λ j. List·Memᴰ·tail (insert-of x l (inr j))))))
+        (λ q. rw (p, q) (cases m (λ e. List·Memᴰ·head (e ∙ o .total x y p q)) (λ i. i))))
 
     insert-rising : (x : A) (l : List A) → Rising less l → Rising less (insert less x l)
     insert-rising x [] r = rising-one x
-    insert-rising x (y ∷ l) r = go (less x y) (less y x) refl refl (insert-rising x l (r .1))
-      where
-        go : (a b : Bool) → less x y ≡ a → less y x ≡ b → Rising less (insert less x l) → Rising less (place a b x y l (insert less x l))
-        go true b p q f = rising-cons o x y l p r
-        go false true p q f = (λ z m. cases (insert-in x l m) (λ e. rw e q) (r .0 z), f)
-        go false false p q f = r
+    insert-rising x (y ∷ l) r = cases (truth (less x y))
+        (λ p. rw p (rising-cons o x y l p r))
+        (λ p. cases (truth (less y x))
+        (λ q. rw (p, q) (λ z m. cases (insert-in x l m) (λ e. rw e q) (r .0 z), insert-rising x l (r .1)))
+        (λ q. rw (p, q) r))
 
     pub sort-rising : (l : List A) → Rising less (sort less l)
     sort-rising [] = tt
@@ -158,6 +152,13 @@ module _ {A : Type 0} (less : A → A → Bool) where
         (λ j. absurd (o .irrefl x (o .trans x y x (r .0 y j) (t .0 x i))))) in
         ap₂ _∷_ e (rising-unique l m (r .1) (t .1) (rest-in e r f) (rest-in (sym e) t g))
 
+    -- what a test keeps is sorted alike before and after
+    pub keep-sort : (p : A → Bool) (l : List A) → keep p (sort less l) ≡ sort less (keep p l)
+    keep-sort p l = rising-unique (keep p (sort less l)) (sort less (keep p l))
+        (pairwise-keep (λ x y. less x y ≡ true) p (sort less l) (sort-rising l)) (sort-rising (keep p l))
+        (λ z m. let r = keep-in p (sort less l) m in sort-of (keep-of p (sort-in l (r .0)) (r .1)))
+        (λ z m. let r = keep-in p l (sort-in (keep p l) m) in keep-of p (sort-of (r .0)) (r .1))
+
     -- no element of a rising list occurs twice
     pub rising-distinct : (l : List A) → Rising less l → Distinct l
     rising-distinct l r = pairwise-imp (λ x y. less x y ≡ true) _≢_ l (λ x y m n p e. o .irrefl y (rw e at p)) r
@@ -165,17 +166,10 @@ module _ {A : Type 0} (less : A → A → Bool) where
   -- sorting may drop repeated members
   insert-length : (x : A) (l : List A) → length (insert less x l) ≤ suc (length l)
   insert-length x [] = omega arith
-  insert-length x (y ∷ l) = go (less x y) (less y x) (insert-length x l)
-    where
-      go : (a b : Bool) → length (insert less x l) ≤ suc (length l) → length (place a b x y l (insert less x l)) ≤ suc (suc (length l))
-      go true b h = omega arith
-      go false true h = omega (arith, h)
-      go false false h = omega arith
+  insert-length x (y ∷ l) = cases (truth (less x y))
+      (λ p. rw p (omega arith))
+      (λ p. cases (truth (less y x)) (λ q. rw (p, q) (omega (arith, insert-length x l))) (λ q. rw (p, q) (omega arith)))
 
   pub sort-length : (l : List A) → length (sort less l) ≤ length l
   sort-length [] = omega arith
   sort-length (x ∷ l) = omega (arith, insert-length x (sort less l), sort-length l)
-
-  pub sort-in : {z : A} (l : List A) → z ∈ sort less l → z ∈ l
-  sort-in [] m = m
-  sort-in (x ∷ l) m = cases (insert-in x (sort less l) m) List·Memᴰ·head (λ i. List·Memᴰ·tail (sort-in l i))

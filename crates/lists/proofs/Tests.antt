@@ -1,6 +1,6 @@
 -- Tests that passed or failed, of two parts and of all members of a list.
-use mathlib.Core.Path.{_≡_, refl, sym, _∙_, ap}
-use mathlib.Core.Logic.{_⊎_, inl, inr}
+use mathlib.Core.Path.{_≡_, refl, sym, _∙_, ap, ap₂}
+use mathlib.Core.Logic.{_≢_, _⊎_, inl, inr}
 use mathlib.Core.Bool.{Bool, true, false, _&&_, _||_, false≢true, or-true, and-assoc}
 use mathlib.Core.List.{List, [], _∷_, _++_, List·Memᴰ·head, List·Memᴰ·tail}
 use Rattle.lists.specs.Lists.{_∈_, every, some}
@@ -10,7 +10,7 @@ abbrev pub cases : {A B C : Type 0} → A ⊎ B → (A → C) → (B → C) → 
 cases (inl a) f g = f a
 cases (inr b) f g = g b
 
--- the two sides of a conjunction, and of a disjunction, that passed
+-- the two sides of a conjunction that passed, and of a disjunction that passed or failed
 pub both : (a b : Bool) → a && b ≡ true → (a ≡ true) × (b ≡ true)
 both true b e = (refl, e)
 both false b e = absurd (false≢true e)
@@ -22,15 +22,19 @@ pub either : (a b : Bool) → a || b ≡ true → (a ≡ true) ⊎ (b ≡ true)
 either true b e = inl e
 either false b e = inr e
 
+pub neither : (a b : Bool) → a || b ≡ false → (a ≡ false) × (b ≡ false)
+neither true b e = absurd (false≢true (sym e))
+neither false b e = (refl, e)
+
 -- a test passed or failed
 pub truth : (b : Bool) → (b ≡ true) ⊎ (b ≡ false)
 truth true = inl refl
 truth false = inr refl
 
 -- a test that cannot pass failed
-pub refuted : {b : Bool} → (b ≡ true → ⊥) → b ≡ false
-refuted {b = true} h = absurd (h refl)
-refuted {b = false} h = refl
+pub refuted : {b : Bool} → b ≢ true → b ≡ false
+refuted {b = true} n = absurd (n refl)
+refuted {b = false} n = refl
 
 module _ {A : Type 0} where
   pub every-in : (p : A → Bool) {x : A} {l : List A} → every p l ≡ true → x ∈ l → p x ≡ true
@@ -52,7 +56,12 @@ module _ {A : Type 0} where
   some-of p {l = y ∷ l} (List·Memᴰ·tail m) e = let t : some p l ≡ true = some-of p m e in rw (t, or-true)
 
   pub some-not : (p : A → Bool) {x : A} {l : List A} → some p l ≡ false → x ∈ l → p x ≡ false
-  some-not p {x} e m = cases (truth (p x)) (λ h. absurd (false≢true (sym e ∙ some-of p m h))) (λ h. h)
+  some-not p e m = refuted (λ h. false≢true (sym e ∙ some-of p m h))
+
+  -- tests that agree on the members
+  pub some-same : (p q : A → Bool) (l : List A) → ((x : A) → x ∈ l → p x ≡ q x) → some p l ≡ some q l
+  some-same p q [] f = refl
+  some-same p q (x ∷ l) f = ap₂ _||_ (f x (List·Memᴰ·head refl)) (some-same p q l (λ y m. f y (List·Memᴰ·tail m)))
 
   -- some element fails where not all pass
   pub every-not : (p : A → Bool) (l : List A) → every p l ≡ false → (x : A) × (x ∈ l) × (p x ≡ false)

@@ -10,25 +10,24 @@ use lib.Dec.{leb}
 use lib.ListN.{length, take, length-map}
 use lib.Seq.{length-take-le}
 use Rattle.lists.specs.Lists.{_∈_, keep}
-use Rattle.lists.specs.Order.{earlier}
-use Rattle.lists.proofs.Members.{keep-in, keep-length, flat-append}
-use Rattle.lists.proofs.Order.{sort-length}
-use Rattle.lattice.specs.Sets.{full, setsFrom}
+use Rattle.lists.proofs.Members.{keep-in, flat-append}
+use Rattle.lattice.specs.Sets.{full}
+use Rattle.lattice.proofs.Turns.{from-full}
 use Rattle.cube.specs.declared.Total.{Total}
 use Rattle.cube.specs.Measure.{Row, sums as measure, codesOf}
-use Rattle.cube.specs.Codes.{cell, plain}
+use Rattle.cube.specs.Codes.{plain}
 use Rattle.cube.specs.Cube.{within, cuboid, filled}
 use Rattle.cube.specs.Condensed.{proper, shared, normals}
 use Rattle.cube.specs.Table.{Table}
 use Rattle.cube.proofs.Codes.{coded-length, length-cell}
 use Rattle.cube.proofs.Cells.{cuboid-in}
+use Rattle.cube.proofs.Normals.{shared-few}
 use Rattle.rows.specs.Rows.{rowsOf}
 use Rattle.walk.proofs.Lengths.{length-flat}
 use Rattle.entries.specs.Layout.{cellBytes}
 use Rattle.entries.proofs.Lengths.{cell-length}
 use Rattle.singles.proofs.Ready.{rows-front}
 use Rattle.condense.specs.Shared.{sharedRows, normalRows}
-use Rattle.condense.proofs.Partly.{proper-first}
 use Rattle.writing.proofs.Cells.{cells-length}
 use Rattle.writing.proofs.Turns.{turns}
 use Rattle.normals.specs.Normals.{sharedBytes, normalBytes}
@@ -47,8 +46,8 @@ sets-flat d rows (s ∷ ss) =
     ∙ ap (λ (k : List ℕ). flatMap cellBytes (map fill (cells s)) ++ k) (sets-flat d rows ss)
 
 pub turns-start : (d : ℕ) (rows : List (Row Total)) → d ≤ 8 → turns (sharedBytes d rows) (full d) 0 ≡ normalBytes d rows
-unfolding turns setsFrom normalBytes normalRows normals
-turns-start d rows h = ap (flatMap (sharedBytes d rows)) (sym (proper-first d h)) ∙ sym (sets-flat d rows (proper (plain d)))
+unfolding turns normalBytes normalRows normals proper
+turns-start d rows h = ap (flatMap (sharedBytes d rows)) (from-full d h) ∙ sym (sets-flat d rows (proper (plain d)))
 
 -- ---- lengths
 
@@ -70,24 +69,16 @@ module _ (d s : ℕ) (rows : List (Row Total)) (t : Table d rows) where
       let o = Memᴰ·of-map (λ z. z .codes) rows (p .1) in
       cell-length d r (sym (ap (λ (z : Row Total). length (z .codes)) (q .2)) ∙ ap length (p .2) ∙ length-cell s (p .0) ∙ sym (ap length (o .2)) ∙ coded-length d (o .0 .codes) (t (o .0) (o .1)))
 
-  shared-few : length (sharedRows d rows s) ≤ length rows
-  unfolding sharedRows shared cuboid
-  shared-few =
-      let many : List ℕ → Bool = λ c. leb 2 (length (within (plain d) (codesOf rows) c)) in
-      let xs = map (cell s) (codesOf rows) in
-      omega (
-        arith,
-        length-map (keep many (cuboid (plain d) (codesOf rows) s)) (filled (plain d) measure rows),
-        keep-length many (cuboid (plain d) (codesOf rows) s),
-        sort-length earlier xs,
-        length-map (codesOf rows) (cell s),
-        length-map rows (λ r. r .codes),
-      )
+  rows-few : length (sharedRows d rows s) ≤ length rows
+  unfolding sharedRows
+  rows-few =
+      let cells = shared (plain d) (codesOf rows) s in
+      omega (arith, length-map cells (filled (plain d) measure rows), shared-few (plain d) (codesOf rows) s, length-map rows (λ r. r .codes))
 
   pub shared-room : d ≤ 8 → length rows ≤ 1024 → length (sharedBytes d rows s) ≤ 45056
   unfolding sharedBytes
   shared-room h k =
-      let few : length (sharedRows d rows s) ≤ 1024 = omega (arith, shared-few, k) in
+      let few : length (sharedRows d rows s) ≤ 1024 = omega (arith, rows-few, k) in
       let wide : 4 * d + 12 ≤ 44 = omega (arith, h) in
       let m = mul-le-mul few wide in
       omega (arith, m, length-flat cellBytes (4 * d + 12) (sharedRows d rows s) shared-long)

@@ -1,31 +1,20 @@
--- `condense::list_rows` meets its contract: before the set at place k the lists are ours for the first k sets, and so many shared cells have been counted as these have.
-use mathlib.Core.Path.{_≡_, refl, sym, ap, ap₂, subst, _∙_}
-use mathlib.Core.List.{List}
-use Prim.Native.Nat.{ℕ, _+_, _-_, _≤_, _<_}
+-- `condense::list_rows` meets its contract: before the set at place k the lists are ours for the sets that had a turn, and so many shared cells have been counted as
+-- these have.
+use mathlib.Core.Path.{_≡_, refl, _∙_}
+use Prim.Native.Nat.{_+_, _-_, _<_}
 use native.Mathlib.Omega.{arith}
 use lib.Pow.{pow-pos}
 use lib.ListN.{length}
 use denote.Ref.{now}
 use Rattle.lattice.specs.Sets.{full}
 use Rattle.lattice.proofs.Sets.{full-lt}
-use Rattle.cube.specs.Codes.{plain}
-use Rattle.cube.specs.Condensed.{shared}
-use Rattle.rows.specs.Rows.{cut}
-use Rattle.rows.proofs.Rows.{cut-length}
-use Rattle.singles.specs.Marks.{picked}
-use Rattle.singles.proofs.Ready.{ready-base}
-use Rattle.condense.specs.Lists.{listsOf, Short, Fit, opens, grown}
-use Rattle.condense.proofs.Partly.{partly, partly-none, partly-skip, partly-all, partly-fit}
-use Rattle.condense.proofs.Grown.{grown-partly, grown-shared}
-use Rattle.condense.proofs.Shared.{crowds, crowds-none, crowds-more, crowds-skip, crowds-all, crowds-few}
+use Rattle.condense.proofs.Listing.{Listing, listing-start, listing-skip, listing-fit, listing-more, listing-few, listing-done}
 use borrow.Author.Needs.{needs}
 use Rattle.condense.proofs.list_rows.Statement.{statement}
 use Rattle.condense.proofs.list_rows.Tie as tie
 
 abbrev Inv-loop : tie.InvT-loop
-Inv-loop codes sums counts rows dims sets₀ lens₀ all cells₀ k₀ sets lens cells k =
-    (k ≤ 256) × (length sets ≡ length sets₀) × (length lens ≡ rows) × Short rows lens
-    × (listsOf rows sets lens ≡ partly dims (cut dims rows codes) k) × (cells ≡ crowds dims (cut dims rows codes) k)
+Inv-loop codes sums counts rows dims sets₀ lens₀ all cells₀ k₀ sets lens cells k = (length sets ≡ length sets₀) × Listing dims rows codes sets lens cells k
 
 abbrev μ-loop : tie.MeasureT-loop
 μ-loop codes sums counts rows dims sets₀ lens₀ all cells₀ k₀ sets lens cells k = 256 - k
@@ -41,90 +30,49 @@ sub-all c = omega (arith, c .sets-of .ensures, pow-pos (c .before .before .befor
 
 loop-holds : tie.Need-loop-holds Inv-loop μ-loop
 loop-holds c =
-    let a = c .before .before .before .before .before .before .before .before .before .args in
-    let p = c .before .before .before .before .before .before .before .before .before .pre in
-    let none = c .before .before .before .clear .ensures in (
-      search needs,
-      refl,
-      none .0 ∙ p .2,
-      λ i h. omega (arith, none .1 i (omega (arith, h, p .2))),
-      partly-none (a .dims) (cut (a .dims) (a .rows) (now (a .codes))) (now (a .sets)) _ (cut-length (a .dims) (a .rows) (now (a .codes))) (λ i h. none .1 i (omega (arith, h, p .2))),
-      sym (crowds-none (a .dims) (cut (a .dims) (a .rows) (now (a .codes)))),
-    )
+    let s = c .before .before .before .before .before .before .before .before .before in
+    let none = c .before .before .before .clear .ensures in
+    (refl, listing-start (s .pre .0) (now (s .args .sets)) _ (none .0 ∙ s .pre .2) (λ i h. none .1 i (omega (arith, h, s .pre .2))))
 
--- a set that is not below the full one changes nothing
 loop-again : tie.Need-loop-again Inv-loop μ-loop
 loop-again c =
-    let a = c .before .before .before .before .before .before .before .before .before .before .before .before .before .args in
     let l = c .before .before .before .loop in
-    let xs = cut (a .dims) (a .rows) (now (a .codes)) in
-    let h : full (a .dims) ≤ c .before .set-at .result = omega (arith, c .if1 .taken, c .before .before .before .before .sets-of .ensures) in (
-      search needs,
-      l .inv .1,
-      l .inv .2,
-      l .inv .3,
-      l .inv .4 ∙ sym (partly-skip (a .dims) xs (l .k) (c .before .before .loop-test .taken) (c .before .set-at .ensures) h),
-      l .inv .5 ∙ sym (crowds-skip (a .dims) xs (l .k) (c .before .before .loop-test .taken) (c .before .set-at .ensures) h),
-    )
+    (l .inv .0, listing-skip (c .before .before .before .before .before .before .before .before .before .before .before .before .before .pre .0) (l .inv .1) (c .before .before .loop-test .taken) (c .before .set-at .ensures) (omega (arith, c .if1 .taken, c .before .before .before .before .sets-of .ensures)))
 
--- the codes of the rows, and what a set below the full one adds
-abbrev codes-of : tie.After-list-set-arg2 Inv-loop μ-loop → List (List ℕ)
-codes-of c = cut (c .before .before .before .before .before .before .before .before .before .before .before .before .before .before .before .args .dims) (c .before .before .before .before .before .before .before .before .before .before .before .before .before .before .before .args .rows) (now (c .before .before .before .before .before .before .before .before .before .before .before .before .before .before .before .args .codes))
-
-below : (c : tie.After-list-set-arg2 Inv-loop μ-loop) → c .before .before .before .set-at .result < full (c .before .before .before .before .before .before .before .before .before .before .before .before .before .before .before .args .dims)
-below c = omega (arith, c .before .before .if1 .left, c .before .before .before .before .before .before .sets-of .ensures)
-
-next : (c : tie.After-list-set-arg2 Inv-loop μ-loop) → let a = c .before .before .before .before .before .before .before .before .before .before .before .before .before .before .before .args in
-    grown (a .dims) (codes-of c) (c .before .before .before .set-at .result) (listsOf (a .rows) (c .before .before .before .before .before .loop .sets) (c .before .before .before .before .before .loop .lens)) ≡ partly (a .dims) (codes-of c) (c .before .before .before .before .before .loop .k + 1)
-next c =
-    let p = c .before .before .before .before .before .before .before .before .before .before .before .before .before .before .before .pre .0 in
-    let l = c .before .before .before .before .before .loop in
-    ap (grown (c .before .before .before .before .before .before .before .before .before .before .before .before .before .before .before .args .dims) (codes-of c) (c .before .before .before .set-at .result)) (l .inv .4) ∙ grown-partly (c .before .before .before .before .before .before .before .before .before .before .before .before .before .before .before .args .dims) (p .dims) (codes-of c) (ready-base p) (l .k) (c .before .before .before .before .loop-test .taken) (c .before .before .before .set-at .ensures) (below c)
+-- the set has its turn
+below : (c : tie.Else1 Inv-loop μ-loop) → c .before .set-at .result < full (c .before .before .before .before .before .before .before .before .before .before .before .before .before .args .dims)
+below c = omega (arith, c .if1 .left, c .before .before .before .before .sets-of .ensures)
 
 list-set-requires : tie.Need-list-set-requires Inv-loop μ-loop
 list-set-requires c κs =
-    let a = c .before .before .before .before .before .before .before .before .before .before .before .before .before .before .before .args in
-    let p = c .before .before .before .before .before .before .before .before .before .before .before .before .before .before .before .pre in
-    let l = c .before .before .before .before .before .loop in (
-      (p .0, omega (arith, p .1, l .inv .1), l .inv .2, l .inv .3),
-      (omega (arith, below c, full-lt (a .dims)), subst Fit (sym (next c)) (partly-fit (a .dims) (codes-of c) (p .0 .dims) (l .k + 1))),
+    let e = c .before .before in
+    let p = e .before .before .before .before .before .before .before .before .before .before .before .before .before .pre in
+    let v = e .before .before .before .loop .inv in (
+      (p .0, omega (arith, p .1, v .0), v .1 .size, v .1 .short),
+      (omega (arith, below e, full-lt (e .before .before .before .before .before .before .before .before .before .before .before .before .before .args .dims)), listing-fit (p .0) (v .1) (e .before .before .loop-test .taken) (e .before .set-at .ensures) (below e)),
     )
 
-counted : (c : tie.After-slice-known5 Inv-loop μ-loop) → c .before .before .before .before .before .before .before .before .before .before .loop .cells + c .before .before .before .before .list-set .result ≡ crowds (c .before .before .before .before .before .before .before .before .before .before .before .before .before .before .before .before .before .before .before .before .args .dims) (codes-of (c .before .before .before .before .before)) (c .before .before .before .before .before .before .before .before .before .before .loop .k + 1)
-counted c =
-    let d = c .before .before .before .before .before .before .before .before .before .before .before .before .before .before .before .before .before .before .before .before .args .dims in
-    let p = c .before .before .before .before .before .before .before .before .before .before .before .before .before .before .before .before .before .before .before .before .pre .0 in
+-- one set more
+next : (c : tie.After-slice-known5 Inv-loop μ-loop) → let a = c .before .before .before .before .before .before .before .before .before .before .before .before .before .before .before .before .before .before .before .before .args in
     let l = c .before .before .before .before .before .before .before .before .before .before .loop in
-    let s = c .before .before .before .before .before .before .before .before .set-at .result in
-    let xs = codes-of (c .before .before .before .before .before) in
-    let k = c .before .before .before .before .before .before .before .before .before .loop-test .taken in
-    let e = c .before .before .before .before .before .before .before .before .set-at .ensures in
-    ap₂ _+_ (l .inv .5) (c .before .before .before .before .list-set .ensures .1
-    ∙ ap (λ (ls : List (List ℕ)). length (shared (plain d) (picked (opens 32 s ls) xs) s)) (l .inv .4)
-    ∙ ap length (grown-shared d (p .dims) xs (ready-base p) (l .k) k e (below (c .before .before .before .before .before))))
-    ∙ sym (crowds-more d xs (l .k) k e (below (c .before .before .before .before .before)))
+    let r = c .before .before .before .before .list-set in
+    Listing (a .dims) (a .rows) (now (a .codes)) (r .last .1 .1 .1 .1 .1 .1 .0) (r .last .1 .1 .1 .1 .1 .1 .1 .0) (l .cells + r .result) (l .k + 1)
+next c =
+    let e = c .before .before .before .before .before .before .before in
+    let r = c .before .before .before .before .list-set .ensures in
+    listing-more (e .before .before .before .before .before .before .before .before .before .before .before .before .before .pre .0) (e .before .before .before .loop .inv .1) (e .before .before .loop-test .taken) (e .before .set-at .ensures) (below e) (r .0) (search needs) (r .1)
 
 add-cells : tie.Need-add-cells Inv-loop μ-loop
-add-cells c =
-    let p = c .before .before .before .before .before .before .before .before .before .before .before .before .before .before .before .before .before .before .before .before .pre .0 in
-    let xs = codes-of (c .before .before .before .before .before) in
-    omega (arith, counted c, crowds-few (c .before .before .before .before .before .before .before .before .before .before .before .before .before .before .before .before .before .before .before .before .args .dims) xs (p .dims) (c .before .before .before .before .before .before .before .before .before .before .loop .k + 1) (omega (arith, p .few, cut-length (c .before .before .before .before .before .before .before .before .before .before .before .before .before .before .before .before .before .before .before .before .args .dims) (c .before .before .before .before .before .before .before .before .before .before .before .before .before .before .before .before .before .before .before .before .args .rows) (now (c .before .before .before .before .before .before .before .before .before .before .before .before .before .before .before .before .before .before .before .before .args .codes)))))
+add-cells c = omega (arith, listing-few (c .before .before .before .before .before .before .before .before .before .before .before .before .before .before .before .before .before .before .before .before .pre .0) (next c))
 
 loop-again-2 : tie.Need-loop-again-2 Inv-loop μ-loop
-loop-again-2 c =
-    let r = c .before .before .before .before .list-set .ensures .0 in
-    (search needs, search needs, search needs, r .1, r .0 ∙ next (c .before .before .before .before .before), counted c)
+loop-again-2 c = (search needs, next c)
 
 returns : tie.Need-returns Inv-loop μ-loop
 returns c =
-    let a = c .before .before .before .before .before .before .before .before .before .before .before .args in
-    let p = c .before .before .before .before .before .before .before .before .before .before .before .pre in
-    let l = c .before .loop in
-    let xs = cut (a .dims) (a .rows) (now (a .codes)) in
-    let e : l .k ≡ 256 = omega (arith, c .loop-test .left, l .inv .0) in (
-      (l .inv .4 ∙ ap (partly (a .dims) xs) e ∙ partly-all (a .dims) xs (p .0 .dims), l .inv .3),
-      l .inv .5 ∙ ap (crowds (a .dims) xs) e ∙ crowds-all (a .dims) xs (p .0 .dims),
-    )
+    let m = c .before .loop .inv .1 in
+    let r = listing-done (c .before .before .before .before .before .before .before .before .before .before .before .pre .0) m (c .loop-test .left) in
+    ((r .0, m .short), r .1)
 
 pub list-rows-spec : {M : Type 1} → statement M
 list-rows-spec =

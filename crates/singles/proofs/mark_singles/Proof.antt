@@ -14,31 +14,31 @@ abbrev μ-loop : tie.MeasureT-loop
 μ-loop codes rows dims set index marks₀ crowds₀ from₀ marks crowds from = rows - from
 
 order-rows-requires : tie.Need-order-rows-requires Inv-loop μ-loop
-order-rows-requires c κs =
-    let p = c .before .before .before .before .pre .0 in
-    (p .0, p .1, omega (arith, p .3))
+order-rows-requires c κs = let p = c .before .before .before .before .pre .0 in (p .0, p .1, omega (arith, p .3))
 
 loop-holds : tie.Need-loop-holds Inv-loop μ-loop
-loop-holds c = marking-start (c .before .before .order-rows .ensures) (c .before .before .before .before .before .before .before .pre .1) (now (c .before .before .before .before .before .before .before .args .marks)) (c .before .before .before .before .before .before .before .pre .0 .2)
+loop-holds c = let s = c .before .before .before .before .before .before .before in marking-start (c .before .before .order-rows .ensures) (s .pre .1) (now (s .args .marks)) (s .pre .0 .2)
 
 run-end-requires : tie.Need-run-end-requires Inv-loop μ-loop
 run-end-requires c κs = (c .before .before .before .before .before .order-rows .ensures, c .before .loop-test .taken)
 
 mark-run-requires : tie.Need-mark-run-requires Inv-loop μ-loop
-mark-run-requires c κs = let e = c .before .before .before .run-end .ensures in (e .within, marking-named (c .before .before .before .before .before .before .before .before .before .order-rows .ensures) (c .before .before .before .before .before .before .loop .inv) e)
+mark-run-requires c κs = let r = c .before .before .before in (r .run-end .ensures .within, marking-named (r .before .before .before .before .before .before .order-rows .ensures) (r .before .before .before .loop .inv) (r .run-end .ensures))
 
 mark-run-requires-2 : tie.Need-mark-run-requires-2 Inv-loop μ-loop
-mark-run-requires-2 c κs = let e = c .before .before .before .run-end .ensures in (e .within, marking-named (c .before .before .before .before .before .before .before .before .before .order-rows .ensures) (c .before .before .before .before .before .before .loop .inv) e)
+mark-run-requires-2 c κs = let r = c .before .before .before in (r .run-end .ensures .within, marking-named (r .before .before .before .before .before .before .order-rows .ensures) (r .before .before .before .loop .inv) (r .run-end .ensures))
 
 loop-again : tie.Need-loop-again Inv-loop μ-loop
 loop-again c =
-    let s = c .before .before .before .before .before .before .before .before .before .before .before .before .before .before .before .before .before in
-    rw (c .before .before .mark-run .ensures) (marking-single (c .before .before .before .before .before .before .before .before .before .before .before .before .order-rows .ensures) (s .pre .1) (s .pre .0 .4) (c .before .before .before .before .before .before .before .before .before .loop .inv) (c .before .before .before .before .before .before .run-end .ensures) (c .before .before .before .before .before .if1 .taken))
+    let r = c .before .before .before .before .before .before in
+    let p = r .before .before .before .before .before .before .before .before .before .before .before .pre in
+    rw (c .before .before .mark-run .ensures) (marking-single (r .before .before .before .before .before .before .order-rows .ensures) (p .1) (p .0 .4) (r .before .before .before .loop .inv) (r .run-end .ensures) (c .before .before .before .before .before .if1 .taken))
 
 loop-again-2 : tie.Need-loop-again-2 Inv-loop μ-loop
 loop-again-2 c =
-    let s = c .before .before .before .before .before .before .before .before .before .before .before .before .before .before .before .before .before in
-    rw (c .before .before .mark-run2 .ensures) (marking-crowd (c .before .before .before .before .before .before .before .before .before .before .before .before .order-rows .ensures) (s .pre .1) (s .pre .0 .4) (c .before .before .before .before .before .before .before .before .before .loop .inv) (c .before .before .before .before .before .before .run-end .ensures) (c .before .before .before .before .before .if1 .left))
+    let r = c .before .before .before .before .before .before in
+    let p = r .before .before .before .before .before .before .before .before .before .before .before .pre in
+    rw (c .before .before .mark-run2 .ensures) (marking-crowd (r .before .before .before .before .before .before .order-rows .ensures) (p .1) (p .0 .4) (r .before .before .before .loop .inv) (r .run-end .ensures) (c .before .before .before .before .before .if1 .left))
 
 returns : tie.Need-returns Inv-loop μ-loop
 returns c =

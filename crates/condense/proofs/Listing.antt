@@ -1,0 +1,113 @@
+-- Our lists of all rows in a loop over the 256 sets: those for the sets that had a turn, and how many cells rows share on these.
+use mathlib.Core.Path.{_≡_, refl, sym, ap, subst, _∙_}
+use mathlib.Core.List.{List, [], _∷_, _++_, flatMap, append-nil}
+use Prim.Native.Nat.{ℕ, _+_, _*_, _≤_, _<_}
+use native.Mathlib.Nat.{le-trans, mul-le-mul}
+use native.Mathlib.Omega.{arith}
+use lib.IntN.{ℤ}
+use lib.Pow.{pow-mono}
+use lib.ListN.{length, getD, length-append}
+use lib.Seq.{append-snoc}
+use Rattle.lists.specs.Lists.{_∈_}
+use Rattle.lists.proofs.Members.{flat-append}
+use Rattle.lattice.specs.Sets.{full, sets, setsFrom}
+use Rattle.lattice.proofs.Sets.{sets-of, sets-length, full-lt}
+use Rattle.lattice.proofs.Turns.{from-full, from-on, from-off, from-done}
+use Rattle.cube.specs.Codes.{plain}
+use Rattle.cube.specs.Condensed.{proper, shared, normals}
+use Rattle.cube.proofs.Normals.{normals-length}
+use Rattle.rows.specs.Rows.{cut}
+use Rattle.rows.proofs.Rows.{cut-length}
+use Rattle.singles.specs.Marks.{picked}
+use Rattle.singles.specs.Ready.{Ready}
+use Rattle.singles.proofs.Ready.{ready-base}
+use Rattle.condense.specs.Lists.{listsOf, Short, Fit, opens, grown, ours}
+use Rattle.condense.proofs.Partly.{partly, partly-none, partly-all, partly-fit, partly-shared, partly-grown}
+
+pub record Listing (d n : ℕ) (codes store lens : List ℕ) (cells k : ℕ) : Type 0 where
+  pub below : k ≤ 256
+  pub size : length lens ≡ n
+  pub short : Short n lens
+  pub done : List ℕ
+  pub left : done ++ setsFrom (full d) k ≡ proper (plain d)
+  pub lists : listsOf n store lens ≡ partly d (cut d n codes) done
+  pub count : cells ≡ length (flatMap (shared (plain d) (cut d n codes)) done)
+
+module _ {d n : ℕ} {codes : List ℕ} {sums : List ℤ} {counts : List ℕ} (ready : Ready d n codes sums counts) where
+  abbrev xs : List (List ℕ)
+  xs = cut d n codes
+
+  pub listing-start : (store lens : List ℕ) → length lens ≡ n → ((i : ℕ) → i < n → getD lens i 0 ≡ 0) → Listing d n codes store lens 0 0
+  unfolding proper flatMap
+  listing-start store lens e f = record {
+    below = omega arith;
+    size = e;
+    short = λ i h. omega (arith, f i h);
+    done = [];
+    left = from-full d (ready .dims);
+    lists = partly-none d xs store lens (cut-length d n codes) f;
+    count = refl;
+  }
+
+  module _ {store lens : List ℕ} {cells k : ℕ} (m : Listing d n codes store lens cells k) where
+    -- no more cells than all rows share, of which there are not many
+    pub listing-few : cells ≤ 262144
+    unfolding normals
+    listing-few =
+        let f = shared (plain d) xs in
+        let all : length (normals (plain d) xs) ≡ length (flatMap f (m .done)) + length (flatMap f (setsFrom (full d) k)) =
+        ap (λ (l : List ℕ). length (flatMap f l)) (sym (m .left)) ∙ ap length (flat-append f (m .done) (setsFrom (full d) k)) ∙ length-append (flatMap f (m .done)) (flatMap f (setsFrom (full d) k)) in
+        let rows : length xs ≤ 1024 = rw cut-length (ready .few) in
+        let few : length (sets d) * length xs ≤ 256 * 1024 = mul-le-mul (le-trans (sets-length d) (pow-mono (ready .dims))) rows in
+        omega (arith, m .count, all, normals-length (plain d) xs)
+
+    pub listing-done : 256 ≤ k → (listsOf n store lens ≡ ours d xs) × (cells ≡ length (normals (plain d) xs))
+    unfolding normals
+    listing-done h =
+        let all : m .done ≡ proper (plain d) = sym (append-nil (m .done)) ∙ ap (λ (l : List ℕ). m .done ++ l) (sym (from-done (full d) k h)) ∙ m .left in
+        (m .lists ∙ ap (partly d xs) all ∙ partly-all d xs, m .count ∙ ap (λ (l : List ℕ). length (flatMap (shared (plain d) xs) l)) all)
+
+    module _ {s : ℕ} (h : k < 256) (e : s ≡ getD (sets 8) k 0) where
+      -- a set that is not below the full one has no turn
+      pub listing-skip : full d ≤ s → Listing d n codes store lens cells (k + 1)
+      listing-skip f = record {
+        below = omega arith;
+        size = m .size;
+        short = m .short;
+        done = m .done;
+        left = ap (λ (l : List ℕ). m .done ++ l) (sym (from-off (full d) k h (rw e at f))) ∙ m .left;
+        lists = m .lists;
+        count = m .count;
+      }
+
+      module _ (f : s < full d) where
+        node : s ∈ sets d
+        node = sets-of d (omega (arith, f, full-lt d))
+
+        joined : (m .done ++ s ∷ []) ++ setsFrom (full d) (k + 1) ≡ proper (plain d)
+        joined = rw e (append-snoc (m .done) (getD (sets 8) k 0) (setsFrom (full d) (k + 1)) ∙ ap (λ (l : List ℕ). m .done ++ l) (sym (from-on (full d) k h (rw e at f))) ∙ m .left)
+
+        lists-next : grown d xs s (listsOf n store lens) ≡ partly d xs (m .done ++ s ∷ [])
+        lists-next = ap (grown d xs s) (m .lists) ∙ partly-grown d xs (ready .dims) (m .done) (setsFrom (full d) k) (m .left) (ready-base ready) node
+
+        shared-next : shared (plain d) (picked (opens 32 s (listsOf n store lens)) xs) s ≡ shared (plain d) xs s
+        shared-next = rw (m .lists) (partly-shared d xs (ready .dims) (m .done) (setsFrom (full d) k) (m .left) (ready-base ready) node)
+
+        count-next : cells + length (shared (plain d) xs s) ≡ length (flatMap (shared (plain d) xs) (m .done ++ s ∷ []))
+        unfolding flatMap
+        count-next = rw (flat-append (shared (plain d) xs) (m .done) (s ∷ []), append-nil, m .count) (sym (length-append (flatMap (shared (plain d) xs) (m .done)) (shared (plain d) xs s)))
+
+        pub listing-fit : Fit (grown d xs s (listsOf n store lens))
+        listing-fit = subst Fit (sym lists-next) (partly-fit d xs (ready .dims) (m .done ++ s ∷ []) (setsFrom (full d) (k + 1)) joined)
+
+        pub listing-more : {sets' lens' : List ℕ} {r : ℕ} → (listsOf n sets' lens' ≡ grown d xs s (listsOf n store lens)) × Short n lens' → length lens' ≡ n
+            → r ≡ length (shared (plain d) (picked (opens 32 s (listsOf n store lens)) xs) s) → Listing d n codes sets' lens' (cells + r) (k + 1)
+        listing-more g l c = record {
+          below = omega arith;
+          size = l;
+          short = g .1;
+          done = m .done ++ s ∷ [];
+          left = joined;
+          lists = g .0 ∙ lists-next;
+          count = ap (λ (t : ℕ). cells + t) (c ∙ ap length shared-next) ∙ count-next;
+        }
