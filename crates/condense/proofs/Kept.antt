@@ -12,7 +12,8 @@ use Rattle.lists.specs.Order.{earlier, sort}
 use Rattle.lists.proofs.Tests.{cases, truth, refuted}
 use Rattle.lists.proofs.Members.{keep-in, keep-of, keep-map, keep-same, keep-part}
 use Rattle.lists.proofs.Pairwise.{pairwise-keep}
-use Rattle.lists.proofs.Order.{by-codes, keep-sort}
+use Rattle.lists.proofs.Order.{by-codes}
+use Rattle.lists.proofs.Sorted.{keep-sort}
 use Rattle.cube.specs.Lattice.{Lattice, Laws}
 use Rattle.cube.specs.Cube.{within, cuboid}
 use Rattle.cube.specs.Condensed.{single, shared, Base}

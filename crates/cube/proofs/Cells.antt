@@ -11,7 +11,8 @@ use Rattle.lists.specs.Order.{Rising, earlier}
 use Rattle.lists.proofs.Members.{keep-in, keep-of}
 use Rattle.lists.proofs.Pairwise.{keep-one, pairwise-imp}
 use Rattle.lists.proofs.Pigeonhole.{one-long, two-long}
-use Rattle.lists.proofs.Order.{by-codes, sort-in, sort-of, sort-rising, sort-length, rising-unique}
+use Rattle.lists.proofs.Order.{by-codes}
+use Rattle.lists.proofs.Sorted.{sort-in, sort-of, sort-rising, sort-length, rising-unique}
 use Rattle.cube.specs.Measure.{Measure, Row, codesOf}
 use Rattle.cube.specs.Lattice.{Lattice, Laws}
 use Rattle.cube.specs.Cube.{within, Exists, cuboid, filled, grouped}

@@ -7,7 +7,8 @@ use borrow.Author.Tests.{eqb-true, eq-eqb}
 use Rattle.lists.specs.Lists.{_∈_, keep}
 use Rattle.lists.specs.Order.{earlier, sort}
 use Rattle.lists.proofs.Members.{keep-in, keep-of, flat-in, flat-of, map-same, flat-same}
-use Rattle.lists.proofs.Order.{by-codes, sort-in, sort-of, sort-rising, rising-unique}
+use Rattle.lists.proofs.Order.{by-codes}
+use Rattle.lists.proofs.Sorted.{sort-in, sort-of, sort-rising, rising-unique}
 use Rattle.cube.specs.Measure.{Measure, Row, codesOf}
 use Rattle.cube.specs.Lattice.{Lattice, Laws}
 use Rattle.cube.specs.Cube.{Exists, cuboid, total, filled, grouped, complete}

@@ -7,7 +7,8 @@ use lib.ListN.{length}
 use Rattle.lists.specs.Lists.{_∈_, keep}
 use Rattle.lists.specs.Order.{Rising, earlier, same}
 use Rattle.lists.proofs.Members.{keep-same, map-same, flat-same}
-use Rattle.lists.proofs.Order.{by-codes, rising-distinct}
+use Rattle.lists.proofs.Order.{by-codes}
+use Rattle.lists.proofs.Sorted.{rising-distinct}
 use Rattle.lattice.specs.Sets.{full}
 use Rattle.cube.specs.Measure.{Measure, Adds, Row, totalOf, totalAt, codesOf}
 use Rattle.cube.specs.Lattice.{Lattice}

@@ -14,7 +14,8 @@ use Rattle.lists.specs.Order.{earlier}
 use Rattle.lists.proofs.Tests.{cases, truth}
 use Rattle.lists.proofs.Members.{keep-in, keep-of, keep-length, flat-in, flat-of, flat-length}
 use Rattle.lists.proofs.Pairwise.{pairwise-keep, pairwise-imp, pairwise-flat}
-use Rattle.lists.proofs.Order.{by-codes, rising-distinct}
+use Rattle.lists.proofs.Order.{by-codes}
+use Rattle.lists.proofs.Sorted.{rising-distinct}
 use Rattle.cube.specs.Lattice.{Lattice, Laws}
 use Rattle.cube.specs.Cube.{within, Exists, cuboid}
 use Rattle.cube.specs.Condensed.{proper, single, listed, reach, shared, normals, Base}

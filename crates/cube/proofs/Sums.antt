@@ -1,11 +1,10 @@
 -- Sums and counts are a measure, and stay within 64 bits.
-use mathlib.Core.Path.{_≡_}
+use mathlib.Core.Path.{_≡_, refl}
 use mathlib.Core.Bool.{Bool, true, false, cond, _&&_, false≢true}
 use mathlib.Core.List.{List, [], _∷_, _++_, foldl, List·Memᴰ·head, List·Memᴰ·tail}
 use Prim.Native.Nat.{ℕ, zero, suc, suc-le-suc, _+_, _-_, _*_, _≤_}
 use native.Mathlib.Omega.{arith}
 use borrow.Author.Tests.{ltb-true, leb-true}
-use mathlib.Core.Path.{refl}
 use lib.Dec.{leb, ltb}
 use native.Mathlib.Nat.{zero-add, add-comm, add-assoc}
 use lib.IntN.{ℤ, pos, negsuc, natAbs, negℤ, subℕ, _+ℤ_, _*ℤ_, +ℤ-idl, +ℤ-comm, +ℤ-assoc}
@@ -84,10 +83,6 @@ total-bounded L rows c s = totals-bounded nothing (keep (λ r. L .falls c (r .co
     (omega (arith, countOf-keep (λ r. L .falls c (r .codes)) rows, s .few))
 
 -- a sum that so many readings can make
-abs-neg : (k : ℕ) → natAbs (negℤ (pos k)) ≤ k
-abs-neg zero = omega arith
-abs-neg (suc k) = omega arith
-
 low-abs : (k m : ℕ) → leZ (negℤ (pos k)) (negsuc m) ≡ true → suc m ≤ k
 low-abs zero m h = absurd (false≢true h)
 low-abs (suc k) m h = suc-le-suc (leb-true m k h)

@@ -14,7 +14,8 @@ use Rattle.lists.specs.Order.{earlier, insert, sort, Rising}
 use Rattle.lists.proofs.Tests.{cases, truth}
 use Rattle.lists.proofs.Members.{keep-none}
 use Rattle.lists.proofs.Places.{pairwise-at}
-use Rattle.lists.proofs.Order.{by-codes, same-eq, same-refl, sort-rising, not-same}
+use Rattle.lists.proofs.Order.{by-codes, same-eq, same-refl, not-same}
+use Rattle.lists.proofs.Sorted.{sort-rising}
 use Rattle.engine.specs.Runs.{Run, runs, attach, Ends}
 use Rattle.engine.proofs.Arranged.{Ordered, alike, before-all}
 

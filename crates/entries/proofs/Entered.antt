@@ -8,7 +8,8 @@ use lib.ListN.{length-map}
 use Rattle.lists.specs.Lists.{_∈_}
 use Rattle.lists.specs.Order.{Rising, earlier}
 use Rattle.lists.proofs.Tests.{cases}
-use Rattle.lists.proofs.Order.{by-codes, rising-one, rising-cons}
+use Rattle.lists.proofs.Order.{by-codes}
+use Rattle.lists.proofs.Sorted.{rising-one, rising-cons}
 use Rattle.cube.specs.declared.Total.{Total}
 use Rattle.cube.specs.Measure.{Row, codesOf}
 use Rattle.cube.specs.Bounds.{most, canMake, countOf}

@@ -10,7 +10,8 @@ use lib.Pow.{pow-mono}
 use Rattle.lists.specs.Lists.{_∈_}
 use Rattle.lists.specs.Order.{Rising, earlier}
 use Rattle.lists.proofs.Tests.{cases}
-use Rattle.lists.proofs.Order.{by-codes, earlier-none, rising-distinct}
+use Rattle.lists.proofs.Order.{by-codes, earlier-none}
+use Rattle.lists.proofs.Sorted.{rising-distinct}
 use Rattle.lattice.specs.Sets.{sets}
 use Rattle.lattice.proofs.Sets.{sets-in, sets-length}
 use Rattle.walk.proofs.Limits.{below-coded}

@@ -15,7 +15,8 @@ use Rattle.lists.specs.Order.{Strict, Rising}
 use Rattle.lists.proofs.Tests.{cases, both, both-of}
 use Rattle.lists.proofs.Members.{keep-in, keep-of, below-in, below-of, below-length}
 use Rattle.lists.proofs.Pairwise.{pairwise-keep}
-use Rattle.lists.proofs.Order.{earlier-cons, by-codes, sort-in, sort-of, sort-rising, sort-length, rising-unique}
+use Rattle.lists.proofs.Order.{earlier-cons, by-codes}
+use Rattle.lists.proofs.Sorted.{sort-in, sort-of, sort-rising, sort-length, rising-unique}
 use Rattle.lattice.specs.Sets.{rank, before, full, sets, holds}
 
 -- ---- lattice order

@@ -13,7 +13,7 @@ use Rattle.lists.specs.Order.{Rising}
 use Rattle.lists.proofs.Tests.{both, every-in, some-in}
 use Rattle.lists.proofs.Members.{below-of, in-at}
 use Rattle.lists.proofs.Places.{pairwise-at}
-use Rattle.lists.proofs.Order.{rising-one, rising-cons, rising-unique}
+use Rattle.lists.proofs.Sorted.{rising-one, rising-cons, rising-unique}
 use Rattle.lattice.specs.Sets.{before, sets}
 use Rattle.lattice.proofs.Sets.{by-lattice, sets-in, sets-of, sets-rising}
 

@@ -7,3 +7,4 @@ pub mod Places
 pub mod Parts
 pub mod Pigeonhole
 pub mod Order
+pub mod Sorted
