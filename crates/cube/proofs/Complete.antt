@@ -4,6 +4,7 @@ use mathlib.Core.Logic.{_↔_}
 use mathlib.Core.Bool.{true}
 use mathlib.Core.List.{List, _∷_, Memᴰ·cast, Memᴰ·map, Memᴰ·of-map}
 use Prim.Native.Nat.{ℕ}
+use lib.ListN.{length}
 use Rattle.lists.specs.Lists.{_∈_}
 use Rattle.lists.specs.Order.{Rising, earlier}
 use Rattle.lists.proofs.Tests.{cases}
@@ -17,9 +18,15 @@ use Rattle.cube.specs.Lattice.{Lattice, Laws}
 use Rattle.cube.specs.Codes.{set-of, plain}
 use Rattle.cube.specs.Cube.{Exists, cuboid, total, filled, grouped, complete}
 use Rattle.cube.specs.Table.{Table, listed-before}
-use Rattle.cube.proofs.Codes.{set-cell}
+use Rattle.cube.proofs.Codes.{set-cell, coded-length, length-cell}
 use Rattle.cube.proofs.Cells.{cuboid-in, cuboid-of, cuboid-rising, cell-exists}
 use Rattle.cube.proofs.Folding.{coded}
+
+-- a cell of a set has a code, or ALL, for each dimension
+pub cuboid-wide : {A : Type 0} (d : ℕ) (rows : List (Row A)) → Table d rows → (s : ℕ) {c : List ℕ} → c ∈ cuboid (plain d) (codesOf rows) s → length c ≡ d
+cuboid-wide d rows t s m =
+    let p = cuboid-in (plain d) (codesOf rows) s m in
+    ap length (p .2) ∙ length-cell s (p .0) ∙ coded-length d (p .0) (coded d rows t (p .0) (p .1))
 
 module _ (L : Lattice) {A : Type 0} (M : Measure A) (rows : List (Row A)) where
   grouped-in : {r : Row A} (s : ℕ) → r ∈ grouped L M rows s → (r .codes ∈ cuboid L (codesOf rows) s) × (r .total ≡ total L M rows (r .codes))
@@ -49,7 +56,7 @@ module _ {A : Type 0} (M : Measure A) (d : ℕ) (rows : List (Row A)) (t : Table
   set-grouped : {r : Row A} {s : ℕ} → s ∈ sets d → r ∈ grouped (plain d) M rows s → set-of (r .codes) ≡ s
   set-grouped {r} {s} h m =
       let x = cuboid-in (plain d) (codesOf rows) s (grouped-in (plain d) M rows s m .0) in
-      rw (x .2) (set-cell d s (x .0) (coded M d rows t (x .0) (x .1)) (sets-in d h))
+      rw (x .2) (set-cell d s (x .0) (coded d rows t (x .0) (x .1)) (sets-in d h))
 
   -- two cells of one set go by their codes, others by their sets
   module _ (p q : Row A) where

@@ -29,10 +29,10 @@ pub folded-few : {A : Type 0} (M : Measure A) (d : ℕ) (rows : List (Row A)) �
 unfolding folded
 folded-few M d rows = grouped-few (plain d) M rows (full d)
 
-module _ {A : Type 0} (M : Measure A) (d : ℕ) (rows : List (Row A)) (t : Table d rows) where
-  pub coded : (x : List ℕ) → x ∈ codesOf rows → Coded d x
-  coded x m = let r = Memᴰ·of-map (λ q. q .codes) rows m in rw (← r .2) (t (r .0) (r .1))
+pub coded : {A : Type 0} (d : ℕ) (rows : List (Row A)) → Table d rows → (x : List ℕ) → x ∈ codesOf rows → Coded d x
+coded d rows t x m = let r = Memᴰ·of-map (λ q. q .codes) rows m in rw (← r .2) (t (r .0) (r .1))
 
+module _ {A : Type 0} (M : Measure A) (d : ℕ) (rows : List (Row A)) (t : Table d rows) where
   folded-codes : codesOf (folded M d rows) ≡ cuboid (plain d) (codesOf rows) (full d)
   unfolding folded grouped
   folded-codes = codes-filled (plain d) M rows (cuboid (plain d) (codesOf rows) (full d))
@@ -44,8 +44,8 @@ module _ {A : Type 0} (M : Measure A) (d : ℕ) (rows : List (Row A)) (t : Table
   -- and have just the codes that the table has;
   cuboid-full : (x : List ℕ) → (x ∈ cuboid (plain d) (codesOf rows) (full d)) ↔ (x ∈ codesOf rows)
   cuboid-full x = (
-    λ m. let r = cuboid-in (plain d) (codesOf rows) (full d) m in Memᴰ·cast (r .2 ∙ cell-full d (r .0) (coded (r .0) (r .1))) (r .1),
-    λ m. Memᴰ·cast (sym (cell-full d x (coded x m))) (cuboid-of (plain d) (full d) m),
+    λ m. let r = cuboid-in (plain d) (codesOf rows) (full d) m in Memᴰ·cast (r .2 ∙ cell-full d (r .0) (coded d rows t (r .0) (r .1))) (r .1),
+    λ m. Memᴰ·cast (sym (cell-full d x (coded d rows t x m))) (cuboid-of (plain d) (full d) m),
   )
 
   pub folded-in : (x : List ℕ) → (x ∈ codesOf (folded M d rows)) ↔ (x ∈ codesOf rows)
@@ -53,7 +53,7 @@ module _ {A : Type 0} (M : Measure A) (d : ℕ) (rows : List (Row A)) (t : Table
 
   pub folded-base : Base (plain d) (codesOf (folded M d rows))
   folded-base = record {
-    valid = λ x m. coded x (folded-in x .0 m);
+    valid = λ x m. coded d rows t x (folded-in x .0 m);
     distinct = rising-distinct earlier by-codes (codesOf (folded M d rows)) folded-rising;
   }
 
@@ -62,7 +62,7 @@ module _ {A : Type 0} (M : Measure A) (d : ℕ) (rows : List (Row A)) (t : Table
   unfolding total
   filled-sum x m =
       ap (λ (l : List (Row A)). record { codes = x; total = totalOf M l })
-      (keep-same (λ r. falls x (r .codes)) (λ r. same x (r .codes)) rows (λ r i. falls-same d x (r .codes) (coded x (cuboid-full x .0 m))))
+      (keep-same (λ r. falls x (r .codes)) (λ r. same x (r .codes)) rows (λ r i. falls-same d x (r .codes) (coded d rows t x (cuboid-full x .0 m))))
 
   folded-is : folded M d rows ≡ map (fill (totalAt M rows)) (cuboid (plain d) (codesOf rows) (full d))
   unfolding folded grouped

@@ -39,7 +39,7 @@ module _ (d : ℕ) (rows : List (Row Total)) (t : Table d rows) where
 
   -- One cell for each group that has a record, with its exact sum and count;
   pub complete-cells : (r : Row Total) → (r ∈ complete (plain d) sums rows) ↔ (Exists (plain d) (codesOf rows) (r .codes) × (r .total ≡ total (plain d) sums rows (r .codes)))
-  complete-cells = completes.complete-iff (plain d) (plain-laws d) sums rows (folding.coded sums d rows t)
+  complete-cells = completes.complete-iff (plain d) (plain-laws d) sums rows (folding.coded d rows t)
 
   -- each once, by the lattice order of their sets, then by codes.
   pub complete-order : Rising listed-before (complete (plain d) sums rows)

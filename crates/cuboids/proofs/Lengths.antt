@@ -12,22 +12,18 @@ use Rattle.cube.specs.Measure.{Row, sums, codesOf}
 use Rattle.cube.specs.Codes.{plain}
 use Rattle.cube.specs.Cube.{cuboid, filled, grouped}
 use Rattle.cube.specs.Table.{Table}
-use Rattle.cube.proofs.Codes.{coded-length, length-cell}
-use Rattle.cube.proofs.Cells.{cuboid-in}
+use Rattle.cube.proofs.Complete.{cuboid-wide}
 use Rattle.walk.proofs.Lengths.{length-flat}
 use Rattle.entries.specs.Layout.{cellBytes}
 use Rattle.entries.proofs.Lengths.{cell-length}
 use Rattle.writing.proofs.Turns.{turns}
 use Rattle.cuboids.specs.Cuboids.{cuboidBytes, expansionBytes}
 
--- a cell of a set has a code, or ALL, for each dimension
 group-length : (d : ℕ) (rows : List (Row Total)) (s : ℕ) → Table d rows → (r : Row Total) → r ∈ grouped (plain d) sums rows s → length (r .codes) ≡ d
 unfolding grouped
 group-length d rows s t r m =
     let q = Memᴰ·of-map (filled (plain d) sums rows) (cuboid (plain d) (codesOf rows) s) m in
-    let p = cuboid-in (plain d) (codesOf rows) s (q .1) in
-    let o = Memᴰ·of-map (λ z. z .codes) rows (p .1) in
-    sym (ap (λ (z : Row Total). length (z .codes)) (q .2)) ∙ ap length (p .2) ∙ length-cell s (p .0) ∙ sym (ap length (o .2)) ∙ coded-length d (o .0 .codes) (t (o .0) (o .1))
+    sym (ap (λ (z : Row Total). length (z .codes)) (q .2)) ∙ cuboid-wide d rows t s (q .1)
 
 pub cuboid-length : (d : ℕ) (rows : List (Row Total)) (s : ℕ) → Table d rows → length (cuboidBytes d rows s) ≡ 4 + length (grouped (plain d) sums rows s) * (4 * d + 12)
 unfolding cuboidBytes

@@ -7,13 +7,13 @@ use Prim.Native.Nat.{ℕ}
 use lib.ListN.{length}
 use Rattle.lists.specs.Order.{same}
 use Rattle.lists.proofs.Order.{same-eq, same-refl}
-use Rattle.walk.specs.Parsed.{Parsed, got, stopUnless}
+use Rattle.walk.specs.Parsed.{got}
 use Rattle.walk.specs.Limits.{Bytes}
 use Rattle.walk.proofs.Steps.{then-on, through-test}
 use Rattle.cube.specs.declared.Total.{Total}
 use Rattle.cube.specs.Measure.{Row}
 use Rattle.entries.specs.Layout.{Held, based, required, archiveBytes, Limits}
-use Rattle.entries.specs.Reading.{walkArchive, rowsIn, readArchive}
+use Rattle.entries.specs.Reading.{walkArchive, judged, rowsIn, readArchive}
 use Rattle.entries.proofs.Walkable.{walk-forth, walk-back}
 use Rattle.entries.proofs.Entered.{walkable-limits}
 use Rattle.entries.proofs.Limits.{limits-walkable}
@@ -26,10 +26,6 @@ required-rows zs rows = map-map (λ b. b .row) (based (length zs) rows) rows ∙
 pub required-sizes : (zs : List ℕ) (rows : List (Row Total)) → required zs rows .sizes ≡ zs
 unfolding required
 required-sizes zs rows = refl
-
--- stop 12
-abbrev judged : List ℕ → Held → List ℕ → Parsed Held
-judged s a rest = stopUnless (same s (archiveBytes (a .sizes) (rowsIn a))) 12 (got a rest)
 
 walked : (zs : List ℕ) (rows : List (Row Total)) → Limits zs rows → walkArchive (archiveBytes zs rows) ≡ got (required zs rows) []
 unfolding archiveBytes

@@ -1,19 +1,20 @@
 -- The normal entries: fields of any value behind their count.
 use mathlib.Core.Path.{_≡_, sym, ap, _∙_}
-use mathlib.Core.List.{List, []}
-use Prim.Native.Nat.{ℕ, zero, suc, _+_, _*_, _≤_}
+use mathlib.Core.List.{List}
+use Prim.Native.Nat.{ℕ, _+_, _*_, _≤_}
 use native.Mathlib.Omega.{arith}
 use lib.ListN.{length, drop}
 use Rattle.fields.specs.Words.{wordAt}
 use Rattle.walk.specs.declared.Walk.{Walk}
-use Rattle.walk.specs.Parsed.{Parsed, stop, got, many}
+use Rattle.walk.specs.Parsed.{stop, got, many}
 use Rattle.walk.specs.Fields.{room, word}
 use Rattle.walk.specs.Walked.{Walked}
-use Rattle.walk.proofs.Steps.{then-on, then-off, through, walked-as, cons-forth}
+use Rattle.walk.proofs.Steps.{then-on, then-off, through, walked-as}
 use Rattle.walk.proofs.Fields.{word-at-place, word-rest, word-on, word-off}
 use Rattle.cube.specs.declared.Total.{Total}
 use Rattle.cube.specs.Measure.{Row}
 use Rattle.entries.specs.Reading.{cell, cells}
+use Rattle.walk.proofs.Many.{many-length}
 use Rattle.walk.proofs.Any.{Any, any-as, any-none, any-then, any-word, any-sum, any-many, any-walked}
 
 -- a normal entry is so many bytes of any value
@@ -34,12 +35,6 @@ module _ (s : List ℕ) (d at : ℕ) where
   cells-on {n} {rest} e f h =
       let w : wordAt (drop at s) 0 ≡ n = word-at-place s at ∙ sym f in
       walked-as (then-on (λ n. many n (cell d)) (word-on (drop at s) e) ∙ ap (λ (k : ℕ). many k (cell d) rest) w) (any-walked (any-many n (any-cell d)) h)
-
--- as many things were read as there are
-many-length : {A : Type 0} (f : List ℕ → Parsed A) (n : ℕ) (l : List ℕ) {xs : List A} {rest : List ℕ} → many n f l ≡ got xs rest → length xs ≡ n
-unfolding many
-many-length f zero l {xs} e = let f : xs ≡ [] = cc in ap length f
-many-length f (suc n) l e = let t = cons-forth (λ x. many n f) (f l) e in ap length (t .5) ∙ ap suc (many-length f n (t .2) (t .4))
 
 pub cells-read : (s : List ℕ) (d at : ℕ) {cs : List (Row Total)} {rest : List ℕ} → at ≤ length s → cells d (drop at s) ≡ got cs rest
     → (at + 4 ≤ length s) × (length cs ≡ wordAt s at)

@@ -11,6 +11,7 @@
 --   ArchiveRead         what the walk over an archive answers: the enum of src/lib.rt
 --   answer p            the answer's number and values for what was read: the stop's number, or D, the base count and the normal count
 --   Stored p ..         the arrays have the base rows that were read
+--   judged s a rest     stop 12, unless s is the archive that the sizes and base rows of a require
 --   readArchive s       the sizes and base rows of s, or the first stop: 12 if the entries are not what the base rows require
 use mathlib.Core.Path.{_≡_}
 use mathlib.Core.Bool.{Bool, _&&_}
@@ -80,5 +81,8 @@ abbrev pub Stored : Parsed Held → List ℕ → List ℤ → List ℕ → Type 
 Stored (stop n) codes amounts counts = Unit {0}
 Stored (got a rest) codes amounts counts = rowsOf (length (a .sizes)) (length (a .bases)) codes amounts counts ≡ rowsIn a
 
+abbrev pub judged : List ℕ → Held → List ℕ → Parsed Held
+judged s a rest = stopUnless (same s (archiveBytes (a .sizes) (rowsIn a))) 12 (got a rest)
+
 unfoldable pub readArchive : List ℕ → Parsed Held
-readArchive s = andThen (walkArchive s) (λ a rest. stopUnless (same s (archiveBytes (a .sizes) (rowsIn a))) 12 (got a rest))
+readArchive s = andThen (walkArchive s) (judged s)

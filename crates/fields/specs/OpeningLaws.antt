@@ -9,6 +9,7 @@ use lib.Dec.{eqb}
 use lib.ListN.{length, drop, getD, length-append, drop-of-length-le}
 use lib.Seq.{drop-cons}
 use borrow.Author.Tests.{eq-eqb, eqb-true}
+use Rattle.lists.proofs.Tests.{both}
 use Rattle.fields.specs.Opening.{startsWith}
 
 -- a list begins with its front
@@ -21,12 +22,8 @@ pub starts-is : (s o : List ℕ) → startsWith s o ≡ true → s ≡ o ++ drop
 starts-is s [] e = refl
 starts-is [] (x ∷ o) e = absurd (false≢true e)
 starts-is (y ∷ s) (x ∷ o) e =
-    let r = and-true-parts (eqb y x) (startsWith s o) e in
+    let r = both (eqb y x) (startsWith s o) e in
     ap₂ _∷_ (eqb-true y x (r .0)) (starts-is s o (r .1))
-  where
-    and-true-parts : (a b : Bool) → a && b ≡ true → (a ≡ true) × (b ≡ true)
-    and-true-parts true b e = (refl, e)
-    and-true-parts false b e = absurd (false≢true e)
 
 -- which is no longer than the list
 pub starts-length : (s o : List ℕ) → startsWith s o ≡ true → length o ≤ length s

@@ -19,8 +19,7 @@ use Rattle.cube.specs.Codes.{plain}
 use Rattle.cube.specs.Cube.{within, cuboid, filled}
 use Rattle.cube.specs.Condensed.{proper, shared, normals}
 use Rattle.cube.specs.Table.{Table}
-use Rattle.cube.proofs.Codes.{coded-length, length-cell}
-use Rattle.cube.proofs.Cells.{cuboid-in}
+use Rattle.cube.proofs.Complete.{cuboid-wide}
 use Rattle.cube.proofs.Normals.{shared-few}
 use Rattle.rows.specs.Rows.{rowsOf}
 use Rattle.walk.proofs.Lengths.{length-flat}
@@ -65,9 +64,8 @@ module _ (d s : ℕ) (rows : List (Row Total)) (t : Table d rows) where
   shared-long r m =
       let many : List ℕ → Bool = λ c. leb 2 (length (within (plain d) (codesOf rows) c)) in
       let q = Memᴰ·of-map (filled (plain d) measure rows) (keep many (cuboid (plain d) (codesOf rows) s)) m in
-      let p = cuboid-in (plain d) (codesOf rows) s (keep-in many (cuboid (plain d) (codesOf rows) s) (q .1) .0) in
-      let o = Memᴰ·of-map (λ z. z .codes) rows (p .1) in
-      cell-length d r (sym (ap (λ (z : Row Total). length (z .codes)) (q .2)) ∙ ap length (p .2) ∙ length-cell s (p .0) ∙ sym (ap length (o .2)) ∙ coded-length d (o .0 .codes) (t (o .0) (o .1)))
+      let wide = cuboid-wide d rows t s (keep-in many (cuboid (plain d) (codesOf rows) s) (q .1) .0) in
+      cell-length d r (sym (ap (λ (z : Row Total). length (z .codes)) (q .2)) ∙ wide)
 
   rows-few : length (sharedRows d rows s) ≤ length rows
   unfolding sharedRows

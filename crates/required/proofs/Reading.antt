@@ -11,22 +11,19 @@ use lib.Seq.{length-take-le}
 use Rattle.lists.specs.Order.{same}
 use Rattle.lists.proofs.Tests.{cases, truth}
 use Rattle.fields.specs.Words.{wordsAt}
-use Rattle.walk.specs.Parsed.{Parsed, stop, got, andThen, stopUnless}
+use Rattle.walk.specs.Parsed.{Parsed, stop, got, andThen}
 use Rattle.walk.specs.Limits.{Bytes}
 use Rattle.cube.specs.declared.Total.{Total}
 use Rattle.cube.specs.Measure.{Row}
 use Rattle.rows.specs.Rows.{rowsOf}
 use Rattle.entries.specs.Layout.{Held, archiveBytes}
-use Rattle.entries.specs.Reading.{walkArchive, readArchive, rowsIn, answer, Stored}
+use Rattle.entries.specs.Reading.{walkArchive, judged, readArchive, rowsIn, answer, Stored}
 use Rattle.entries.specs.declared.ArchiveRead.the-variants as Answer
 use Rattle.entries.proofs.Fields.{Accepted, accepted}
 use Rattle.entries.proofs.Walkable.{walk-forth}
 use Rattle.singles.proofs.Ready.{rows-front}
 use Rattle.required.specs.Read.{Read}
 use Rattle.required.proofs.Judged.{sizes-at}
-
-abbrev pub judged : List ℕ → Held → List ℕ → Parsed Held
-judged s a rest = stopUnless (same s (archiveBytes (a .sizes) (rowsIn a))) 12 (got a rest)
 
 stored-walked : (p : Parsed Held) {a : Held} {rest : List ℕ} (c : List ℕ) (t : List ℤ) (k : List ℕ) → p ≡ got a rest → Stored p c t k → rowsOf (length (a .sizes)) (length (a .bases)) c t k ≡ rowsIn a
 stored-walked p c t k e h = subst (λ (q : Parsed Held). Stored q c t k) e h

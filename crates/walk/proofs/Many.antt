@@ -67,6 +67,12 @@ module _ {A : Type 0} {one : A → List ℕ} {all : List A → List ℕ} (flat :
         λ p. (p .1 x (List·Memᴰ·head refl), (omega (arith, p .0), λ y m. p .1 y (List·Memᴰ·tail m))),
       )
 
+-- as many things were read as there are
+pub many-length : {A : Type 0} (f : Reader A) (n : ℕ) (l : List ℕ) {xs : List A} {rest : List ℕ} → many n f l ≡ got xs rest → length xs ≡ n
+unfolding many
+many-length f zero l {xs} e = let p : xs ≡ [] = cc in ap length p
+many-length f (suc n) l e = let t = cons-forth (λ x. many n f) (f l) e in ap length (t .5) ∙ ap suc (many-length f n (t .2) (t .4))
+
 -- n things, and n words
 pub many-codec : {A : Type 0} {f : Reader A} {bytes : A → List ℕ} {P : A → Type 0} → Codec f bytes P → (n : ℕ)
     → Codec (many n f) (flatMap bytes) (λ xs. (length xs ≡ n) × ((x : A) → x ∈ xs → P x))
