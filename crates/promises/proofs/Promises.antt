@@ -3,7 +3,7 @@ use mathlib.Core.Path.{_≡_, refl, sym, ap, ap₂, subst, _∙_}
 use mathlib.Core.Logic.{_↔_}
 use mathlib.Core.Bool.{true}
 use mathlib.Core.Option.{some as just}
-use mathlib.Core.List.{List, [], map, flatMap, List·Permᴰ, Memᴰ·cast, Memᴰ·map, Memᴰ·of-map}
+use mathlib.Core.List.{List, [], _∷_, map, flatMap, List·Permᴰ, List·Memᴰ·eq-of-singleton, Memᴰ·cast, Memᴰ·map, Memᴰ·of-map}
 use Prim.Native.Nat.{ℕ, _+_, _^_, _<_, _≤_}
 use lib.ListN.{length, length-append, length-map, getElem?}
 use borrow.Author.Tests.{lt-ltb}
@@ -15,11 +15,13 @@ use Rattle.walk.specs.Limits.{Bytes}
 use Rattle.cube.specs.declared.Total.{Total}
 use Rattle.cube.specs.Measure.{sums, Row, codesOf}
 use Rattle.cube.specs.Codes.{plain}
-use Rattle.cube.specs.Cube.{Exists, total, grouped, complete}
-use Rattle.cube.specs.Condensed.{Entry, base, normal, Answer, no-record, found, lookup, normals, listed, reach, Base, own, stands, Condensed, ours}
+use Rattle.cube.proofs.Codes.{plain-laws}
+use Rattle.cube.proofs.Normals.{base-within}
+use Rattle.cube.specs.Cube.{within, Exists, total, grouped, complete}
+use Rattle.cube.specs.Condensed.{Entry, base, normal, Answer, no-record, found, lookup, normals, listed, reach, Base, own, stands, Permitted, Condensed, ours, expansion}
 use Rattle.cube.proofs.Sums.{sums-add}
 use Rattle.cube.proofs.Folding.{grouped-folded}
-use Rattle.cube.proofs.Promises.{base-rows, no-record-iff, answer, one-entry, fewest-entries, as-few, shortest-list}
+use Rattle.cube.proofs.Promises.{base-rows, any-expands, ours-condensed, no-record-iff, answer, one-entry, fewest-entries, as-few, shortest-list}
 use Rattle.table.specs.Layout.{Held as Table, Limits}
 use Rattle.table.specs.Reading.{readTable, baseRows}
 use Rattle.table.proofs.Accepted.{table-forth}
@@ -49,6 +51,15 @@ expanded-required zs rows = rw (required-sizes zs rows, required-rows zs rows)
 
 entries-length : (a : Held) → length (entriesIn a) ≡ length (a .bases) + length (a .cells)
 entries-length a = length-append (map (λ b. base (b .row) (b .list)) (a .bases)) (map normal (a .cells)) ∙ ap₂ _+_ (length-map (a .bases) _) (length-map (a .cells) _)
+
+-- an entry's own cell, or a base row that alone falls in the cell
+abbrev Alone : (d : ℕ) (rows : List (Row Total)) → Entry Total → List ℕ → Type 0
+Alone d rows (normal r) x = x ≡ r .codes
+Alone d rows (base r l) x = within (plain d) (codesOf rows) x ≡ r .codes ∷ []
+
+alone-by : (d : ℕ) (rows : List (Row Total)) → Base (plain d) (codesOf rows) → (f : Entry Total) (x : List ℕ) → Permitted (plain d) rows f → x ∈ stands (plain d) f → Alone d rows f x
+alone-by d rows b (normal r) x p i = List·Memᴰ·eq-of-singleton i
+alone-by d rows b (base r l) x p i = base-within (plain d) (plain-laws d) (codesOf rows) b l x (Memᴰ·map (λ q. q .codes) (p .0)) (p .1) i
 
 -- ---- Demand 2: a question to any accepted archive
 
@@ -147,10 +158,22 @@ module _ (s : List ℕ) (t : Table) (b : Bytes s) (e : readTable s ≡ got t [])
   pub built-entries : entriesIn held ≡ ours (plain D) sums (baseRows t)
   built-entries = entries-required (t .sizes) (baseRows t)
 
+  -- They are a condensed cube of the table.
+  pub built-condensed : Condensed (plain D) sums (baseRows t) (entriesIn held)
+  built-condensed = subst (λ (es : List (Entry Total)). Condensed (plain D) sums (baseRows t) es) (sym built-entries) (ours-condensed D (baseRows t) rows-of)
+
   -- Every condensed cube of the table, by any writer, has at least as many entries, and as many exactly when its entries lie at the cells of ours, one at each.
   module _ {es : List (Entry Total)} (c : Condensed (plain D) sums (baseRows t) es) where
     pub built-fewest : length (held .bases) + length (held .cells) ≤ length es
     built-fewest = rw (← entries-length held, built-entries) (fewest-entries D (baseRows t) rows-of c)
+
+    -- It stands for a cell other than an entry's own only by a base row, where no other base row falls in the cell.
+    pub stands-alone : (f : Entry Total) → f ∈ es → (x : List ℕ) → x ∈ stands (plain D) f → Alone D (baseRows t) f x
+    stands-alone f m x i = alone-by D (baseRows t) rows-of f x (c .permitted f m) i
+
+    -- and it expands to the complete cube of the table.
+    pub any-built-expands : expansion (plain D) sums es ≡ complete (plain D) sums (t .rows)
+    any-built-expands = any-expands D (t .rows) (table-rows t limits) c
 
     pub built-as-few : (length es ≡ length (held .bases) + length (held .cells)) ↔ List·Permᴰ (map (own (plain D)) es) (map (own (plain D)) (entriesIn held))
     built-as-few = rw (← entries-length held, built-entries) (as-few D (baseRows t) rows-of c)
