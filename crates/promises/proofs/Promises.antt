@@ -1,9 +1,11 @@
--- The front page: the user's demands 2 and 3 on bytes. Demand 1 is the contracts of the five calls (src/lib.rt), each an equation with its definition in specs/Calls.antt.
+-- The front page: the user's demands 2 and 3 on bytes. Demand 1 is the contracts of the five calls (src/lib.rt of crates build and archive), each an equation
+-- with its definition in crate calls, specs/Calls.antt. Beside this page: Room.antt (outputs that are always enough), Numbers.antt (the number that another language
+-- gets tells a stop from a success), Examples.antt (the worked examples of document 01).
 use mathlib.Core.Path.{_≡_, refl, sym, ap, ap₂, subst, _∙_}
 use mathlib.Core.Logic.{_↔_}
 use mathlib.Core.Bool.{true}
 use mathlib.Core.Option.{some as just}
-use mathlib.Core.List.{List, [], _∷_, map, flatMap, List·Permᴰ, List·Memᴰ·eq-of-singleton, Memᴰ·cast, Memᴰ·map, Memᴰ·of-map}
+use mathlib.Core.List.{List, [], map, flatMap, List·Permᴰ, List·Memᴰ·eq-of-singleton, Memᴰ·cast, Memᴰ·map, Memᴰ·of-map}
 use Prim.Native.Nat.{ℕ, _+_, _^_, _<_, _≤_}
 use lib.ListN.{length, length-append, length-map, getElem?}
 use borrow.Author.Tests.{lt-ltb}
@@ -17,12 +19,12 @@ use Rattle.cube.specs.Measure.{sums, Row, codesOf}
 use Rattle.cube.specs.Codes.{plain}
 use Rattle.cube.proofs.Codes.{plain-laws}
 use Rattle.cube.proofs.Normals.{base-within}
-use Rattle.cube.specs.Cube.{within, Exists, total, grouped, complete}
+use Rattle.cube.specs.Cube.{Exists, total, grouped, complete}
 use Rattle.cube.specs.Condensed.{Entry, base, normal, Answer, no-record, found, lookup, normals, listed, reach, Base, own, stands, Permitted, Condensed, ours, expansion}
 use Rattle.cube.proofs.Sums.{sums-add}
 use Rattle.cube.proofs.Folding.{grouped-folded}
 use Rattle.cube.proofs.Promises.{base-rows, any-expands, ours-condensed, no-record-iff, answer, one-entry, fewest-entries, as-few, shortest-list}
-use Rattle.table.specs.Layout.{Held as Table, Limits}
+use Rattle.table.specs.Layout.{Records, TableLimits}
 use Rattle.table.specs.Reading.{readTable, baseRows}
 use Rattle.table.proofs.Accepted.{table-forth}
 use Rattle.entries.specs.Layout.{Based, based, Held, section, cellBytes, required, archiveBytes}
@@ -37,6 +39,7 @@ use Rattle.calls.specs.Answers.{bytes}
 use Rattle.calls.specs.Calls.{outcome, builds, counted, checks, cuboidOf, listsCuboid, expanded, expands, entriesIn, told, looksUp}
 use Rattle.calls.proofs.Entries.{entries-required}
 use Rattle.build.proofs.Folded.{table-rows, folded-within}
+use Rattle.promises.specs.Alone.{Alone}
 
 told-none : (r : Answer Total) → told r ≡ Find.NoRecord → r ≡ no-record
 told-none no-record h = refl
@@ -51,11 +54,6 @@ expanded-required zs rows = rw (required-sizes zs rows, required-rows zs rows)
 
 entries-length : (a : Held) → length (entriesIn a) ≡ length (a .bases) + length (a .cells)
 entries-length a = length-append (map (λ b. base (b .row) (b .list)) (a .bases)) (map normal (a .cells)) ∙ ap₂ _+_ (length-map (a .bases) _) (length-map (a .cells) _)
-
--- an entry's own cell, or a base row that alone falls in the cell
-abbrev Alone : (d : ℕ) (rows : List (Row Total)) → Entry Total → List ℕ → Type 0
-Alone d rows (normal r) x = x ≡ r .codes
-Alone d rows (base r l) x = within (plain d) (codesOf rows) x ≡ r .codes ∷ []
 
 alone-by : (d : ℕ) (rows : List (Row Total)) → Base (plain d) (codesOf rows) → (f : Entry Total) (x : List ℕ) → Permitted (plain d) rows f → x ∈ stands (plain d) f → Alone d rows f x
 alone-by d rows b (normal r) x p i = List·Memᴰ·eq-of-singleton i
@@ -100,7 +98,7 @@ module _ (s : List ℕ) (a : Held) (b : Bytes s) (e : readArchive s ≡ got a []
 
 -- ---- Demands 2 and 3: what `build` writes for an accepted table
 
-module _ (s : List ℕ) (t : Table) (b : Bytes s) (e : readTable s ≡ got t []) where
+module _ (s : List ℕ) (t : Records) (b : Bytes s) (e : readTable s ≡ got t []) where
   -- its dimensions, its base rows, and the archive that is written for it
   abbrev D : ℕ
   D = length (t .sizes)
@@ -108,7 +106,7 @@ module _ (s : List ℕ) (t : Table) (b : Bytes s) (e : readTable s ≡ got t [])
   abbrev ourArchive : List ℕ
   ourArchive = archiveBytes (t .sizes) (baseRows t)
 
-  limits : Limits t
+  limits : TableLimits t
   limits = table-forth s t [] b e .0
 
   -- It is the archive of the table's base rows,

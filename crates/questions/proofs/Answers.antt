@@ -28,7 +28,7 @@ use Rattle.cube.proofs.Questions.{lookup-none}
 use Rattle.rows.specs.Rows.{rowAt}
 use Rattle.rows.proofs.Flat.{blank}
 use Rattle.entries.specs.Places.{rowThere}
-use Rattle.questions.specs.Questions.{First, Finds, Held}
+use Rattle.questions.specs.Questions.{First, Finds, NormalsAt}
 use Rattle.questions.proofs.Search.{liesAt}
 use Rattle.questions.proofs.Stored.{held-count, held-there}
 
@@ -70,7 +70,7 @@ module _ (d : ℕ) (rows : List (Row Total)) (b : Base (plain d) (codesOf rows))
         normal-cells d rows b c .1 (subst (λ (y : List ℕ). 2 ≤ length (within (plain d) xs y)) (sym (own .1)) (crowd-within (plain d) (plain-laws d) xs b (own .0) there e))
 
   -- the search among the normal entries finds the one at the cell
-  module _ {s : List ℕ} {at n k : ℕ} (held : Held s at n d rows) (m : Summable rows) (e : length c ≡ d) (g : Finds s at n c k) (i : c ∈ cells) where
+  module _ {s : List ℕ} {at n k : ℕ} (held : NormalsAt s at n d rows) (m : Summable rows) (e : length c ≡ d) (g : Finds s at n c k) (i : c ∈ cells) where
     lies : (j : ℕ) → j < n → liesAt s at c j ≡ same (getD cells j []) c
     lies j h = rw e (ap (λ (r : Row Total). same (r .codes) c) (held-there held b m j h))
 

@@ -1,11 +1,11 @@
 -- Questions to an archive (document 01: "A looked-up cell returns sum, count and the number of the entry that carries them").
 --
---   asks zs q           q is a question to an archive of these sizes: a code below its size, or ALL, for each dimension (number 13)
---   Look                'no record', or a cell's sum and count and its entry's number: the enum of src/lib.rt
---   looked a            the enum's case and values for an answer
---   First c xs r        r is the place of the first of the codes xs that fall in cell c, or how many there are
---   Finds s at n c r    r is the first of n entries from a place on that lies at cell c, or n
---   Held s at n d rows  the bytes s have the n normal entries of base rows from a place on
+--   asks zs q                 q is a question to an archive of these sizes: a code below its size, or ALL, for each dimension (number 13)
+--   Look                      'no record', or a cell's sum and count and its entry's number: the enum of src/lib.rt
+--   looked a                  the enum's case and values for an answer
+--   First c xs r              r is the place of the first of the codes xs that fall in cell c, or how many there are
+--   Finds s at n c r          r is the first of n entries from a place on that lies at cell c, or n
+--   NormalsAt s at n d rows   the bytes s have the n normal entries of base rows from a place on
 use mathlib.Core.Path.{_≡_}
 use mathlib.Core.Bool.{Bool, true, false, _&&_, _||_}
 use mathlib.Core.List.{List, [], _∷_, flatMap}
@@ -45,7 +45,7 @@ pub record Finds (s : List ℕ) (at n : ℕ) (c : List ℕ) (r : ℕ) : Type 0 w
   pub before : (k : ℕ) → k < r → same (wordsAt s (length c) (at + k * (4 * length c + 12))) c ≡ false
   pub here : r < n → same (wordsAt s (length c) (at + r * (4 * length c + 12))) c ≡ true
 
-pub record Held (s : List ℕ) (at n d : ℕ) (rows : List (Row Total)) : Type 0 where
+pub record NormalsAt (s : List ℕ) (at n d : ℕ) (rows : List (Row Total)) : Type 0 where
   pub within : at ≤ length s
   pub bytes : startsWith (drop at s) (flatMap cellBytes (normalRows d rows)) ≡ true
   pub count : n ≡ length (normalRows d rows)

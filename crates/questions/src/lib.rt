@@ -9,7 +9,7 @@ ghost use Rattle.cube.specs.Codes.{falls, set-of, plain};
 ghost use Rattle.cube.specs.Condensed.{ours, lookup};
 ghost use Rattle.rows.specs.Rows.{cut, rowsOf};
 ghost use Rattle.singles.specs.Ready.{Ready};
-ghost use Rattle.questions.specs.Questions.{asks, looked, First, Finds, Held};
+ghost use Rattle.questions.specs.Questions.{asks, looked, First, Finds, NormalsAt};
 
 // What a question is answered by: no entry, or the sum and the count that an entry carries, and its number.
 pub enum Look {
@@ -121,7 +121,7 @@ pub fn answer(
     cell: &[u32],
 ) -> Look
     requires { ⌜ Ready dims rows (now codes) (now sums) (now counts) × (length (now cell) ≡ dims) ⌝ }
-    requires { ⌜ Held (now s) at n dims (rowsOf dims rows (now codes) (now sums) (now counts)) ⌝ }
+    requires { ⌜ NormalsAt (now s) at n dims (rowsOf dims rows (now codes) (now sums) (now counts)) ⌝ }
     ensures { λ r. ⌜ r ≡ looked (lookup (plain dims) (now (cell .entry)) (ours (plain dims) measure (rowsOf dims rows (now (codes .entry)) (now (sums .entry)) (now (counts .entry))))) ⌝ }
 {
     let i = first_row(codes, rows, dims, cell);
