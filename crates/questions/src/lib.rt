@@ -88,9 +88,9 @@ fn cell_before(mine: &[u32], cell: &[u32]) -> bool
     let set = set_of(mine);
     let other = set_of(cell);
     let size = lattice::size_of_set(set);
-    let larger = lattice::size_of_set(other);
-    if size != larger {
-        return size < larger;
+    let other_size = lattice::size_of_set(other);
+    if size != other_size {
+        return size < other_size;
     }
     if set != other {
         return set < other;
