@@ -25,7 +25,8 @@
  * and the output last. A stop changes no byte that was lent. Otherwise the number
  * is what the function says, and bytes of the output beyond the result keep their
  * values. No function relies on an earlier check: each reads and checks its whole
- * input.
+ * input. That a number of 2^63 or more is a stop, and no other is, is proved
+ * (crates/promises/proofs/Numbers.antt).
  *
  * POINTERS. A length counts elements: bytes, or the codes of a question. No
  * pointer may be null; where the length is 0, any other pointer will do. Bytes

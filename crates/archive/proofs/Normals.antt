@@ -21,7 +21,7 @@ use Rattle.entries.proofs.Lengths.{cell-length}
 use Rattle.entries.proofs.Limits.{normals-wide}
 use Rattle.singles.proofs.Ready.{ready-base}
 use Rattle.condense.specs.Shared.{normalRows}
-use Rattle.questions.specs.Questions.{Held as Holds}
+use Rattle.questions.specs.Questions.{NormalsAt}
 use Rattle.bases.specs.Listed.{ourBases}
 use Rattle.required.specs.Read.{sections}
 use Rattle.required.proofs.Judged.{archive-sections}
@@ -78,7 +78,7 @@ module _ {s : List ℕ} {d n m : ℕ} {codes : List ℕ} {sums : List ℤ} {coun
   pub normals-room : width + 4 ≤ length s
   normals-room = omega (arith, parts-long)
 
-  pub normals-held : Holds s (length s - 4 - width) m d table
+  pub normals-held : NormalsAt s (length s - 4 - width) m d table
   normals-held =
       let at = length s - 4 - width in
       let e : length (header ++ bases) ≡ at = omega (arith, parts-long, length-append header bases, length-header CUBE (o .held .sizes), o .dims) in

@@ -11,7 +11,7 @@ use Rattle.walk.specs.Parsed.{Parsed, stop, got}
 use Rattle.walk.specs.Limits.{Bytes}
 use Rattle.rows.specs.Rows.{rowsOf}
 use Rattle.entries.specs.Layout.{Held, required, archiveBytes}
-use Rattle.entries.specs.Reading.{walkArchive, readArchive, rowsIn, answer, Stored}
+use Rattle.entries.specs.Reading.{walkArchive, readArchive, rowsIn, archiveAnswer, Stored}
 use Rattle.entries.specs.declared.ArchiveRead.the-variants as Read
 use Rattle.entries.proofs.Accepted.{read-forth, archive-forth}
 use Rattle.fields.specs.Words.{wordsAt}
@@ -35,7 +35,7 @@ pub record Opened (s : List ℕ) (d n m : ℕ) (codes : List ℕ) (sums : List �
 abbrev pub OpenedIn : (s : List ℕ) (d n m : ℕ) (codes : List ℕ) (sums : List ℤ) (counts : List ℕ) → Type 0
 OpenedIn s d n m codes sums counts = Opened s d n m (take (n * d) codes) (take n sums) (take n counts)
 
-told : (p : Parsed Held) {d n m : ℕ} → answer p ≡ Read.Entries d n m
+told : (p : Parsed Held) {d n m : ℕ} → archiveAnswer p ≡ Read.Entries d n m
     → (a : Held) × (rest : List ℕ) × (p ≡ got a rest) × (length (a .sizes) ≡ d) × (length (a .bases) ≡ n) × (length (a .cells) ≡ m)
 told (stop k) e = let z : false ≡ true = cc in absurd (false≢true z)
 told (got a rest) e = (a, rest, refl, cc e, cc e, cc e)
@@ -47,7 +47,7 @@ opened {s} {codes} {sums} {counts} {d} {n} {m} b x =
     let walked = read-forth s (t .2) .0 in
     let same-read : readArchive s ≡ walkArchive s = t .2 ∙ sym walked in
     let stored : Stored (walkArchive s) codes sums counts = subst (λ (p : Parsed Held). Stored p codes sums counts) same-read (x .stored) in
-    let r = read-of b (ap answer (sym same-read) ∙ x .told) codes sums counts (x .room) stored in
+    let r = read-of b (ap archiveAnswer (sym same-read) ∙ x .told) codes sums counts (x .room) stored in
     let e : got a (t .1) ≡ got (r .held) [] = sym walked ∙ r .walked in
     let same-held : r .held ≡ a = cc e in
     let done : t .1 ≡ [] = cc e in

@@ -11,7 +11,7 @@ use Rattle.cube.specs.declared.Total.{Total}
 use Rattle.cube.specs.Measure.{Row}
 use Rattle.rows.specs.Rows.{rowsOf}
 use Rattle.entries.specs.Layout.{Held}
-use Rattle.entries.specs.Reading.{readArchive, answer}
+use Rattle.entries.specs.Reading.{readArchive, archiveAnswer}
 use Rattle.entries.specs.declared.ArchiveRead.the-variants as Read
 use Rattle.cuboids.specs.Cuboids.{cuboidBytes, expansionBytes}
 use Rattle.calls.specs.declared.Checked.the-variants as Check
@@ -22,11 +22,11 @@ use Rattle.archive.proofs.Opened.{Opened}
 
 -- ---- refused
 
-module _ (s : List ℕ) {k : ℕ} (e : answer (readArchive s) ≡ Read.Stop k) where
+module _ (s : List ℕ) {k : ℕ} (e : archiveAnswer (readArchive s) ≡ Read.Stop k) where
   refused : readArchive s ≡ stop k
   refused = go (readArchive s) e
     where
-      go : (p : Parsed Held) → answer p ≡ Read.Stop k → p ≡ stop k
+      go : (p : Parsed Held) → archiveAnswer p ≡ Read.Stop k → p ≡ stop k
       go (stop n) f = let z : n ≡ k = cc in ap stop z
       go (got a rest) f = let z : false ≡ true = cc in absurd (false≢true z)
 
@@ -49,11 +49,11 @@ module _ (s : List ℕ) {k : ℕ} (e : answer (readArchive s) ≡ Read.Stop k) w
 -- ---- accepted
 
 -- a check needs the answer alone
-pub check-passed : (s : List ℕ) {d n m : ℕ} → answer (readArchive s) ≡ Read.Entries d n m → Check.Entries n m ≡ checks s
+pub check-passed : (s : List ℕ) {d n m : ℕ} → archiveAnswer (readArchive s) ≡ Read.Entries d n m → Check.Entries n m ≡ checks s
 unfolding checks
 check-passed s {d} {n} {m} e = go (readArchive s) e
   where
-    go : (p : Parsed Held) → answer p ≡ Read.Entries d n m → Check.Entries n m ≡ counted p
+    go : (p : Parsed Held) → archiveAnswer p ≡ Read.Entries d n m → Check.Entries n m ≡ counted p
     go (stop k) f = let z : false ≡ true = cc in absurd (false≢true z)
     go (got a rest) f =
         let p : length (a .bases) ≡ n = cc in

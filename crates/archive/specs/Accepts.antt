@@ -6,10 +6,10 @@ use mathlib.Core.List.{List}
 use Prim.Native.Nat.{ℕ, _≤_}
 use lib.IntN.{ℤ}
 use lib.ListN.{length}
-use Rattle.entries.specs.Reading.{readArchive, answer, Stored}
+use Rattle.entries.specs.Reading.{readArchive, archiveAnswer, Stored}
 use Rattle.entries.specs.declared.ArchiveRead.the-variants as Read
 
 pub record Accepts (s codes : List ℕ) (sums : List ℤ) (counts : List ℕ) (d n m : ℕ) : Type 0 where
-  pub told : answer (readArchive s) ≡ Read.Entries d n m
+  pub told : archiveAnswer (readArchive s) ≡ Read.Entries d n m
   pub room : (8192 ≤ length codes) × (1024 ≤ length sums) × (1024 ≤ length counts)
   pub stored : Stored (readArchive s) codes sums counts

@@ -15,7 +15,7 @@ use Rattle.cube.specs.Condensed.{listed}
 use Rattle.rows.specs.Rows.{cut, rowAt, rowsOf}
 use Rattle.rows.proofs.Rows.{cut-length, rows-codes, row-at, row-length}
 use Rattle.rows.proofs.Flat.{blank, rows-length, rows-at}
-use Rattle.condense.specs.Lists.{listsOf, ours}
+use Rattle.condense.specs.Lists.{listsOf, ourLists}
 use Rattle.condense.proofs.Lists.{list-length}
 use Rattle.entries.specs.Layout.{baseBytes, setsIn, based}
 use Rattle.entries.proofs.Lengths.{base-length}
@@ -44,7 +44,7 @@ module _ {d n : ℕ} {codes : List ℕ} {sums : List ℤ} {counts sets lens : Li
 
       -- the list of a row in the flat arrays is its list in its base entry
       list-at : getD (listsOf n sets lens) i [] ≡ ourBase d table i .list
-      unfolding ours ourBase
+      unfolding ourLists ourBase
       list-at =
           let xs = cut d n codes in
           ap (λ (ls : List (List ℕ)). getD ls i []) (rows .lists)

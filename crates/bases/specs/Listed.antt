@@ -12,7 +12,7 @@ use Rattle.cube.specs.declared.Total.{Total}
 use Rattle.cube.specs.Measure.{Row, nothing}
 use Rattle.rows.specs.Rows.{cut}
 use Rattle.singles.specs.Ready.{Ready}
-use Rattle.condense.specs.Lists.{listsOf, Short, ours}
+use Rattle.condense.specs.Lists.{listsOf, Short, ourLists}
 use Rattle.entries.specs.Layout.{Based, based}
 
 pub record Listed (d n : ℕ) (codes : List ℕ) (sums : List ℤ) (counts sets lens : List ℕ) : Type 0 where
@@ -20,7 +20,7 @@ pub record Listed (d n : ℕ) (codes : List ℕ) (sums : List ℤ) (counts sets 
   pub room : n * 70 ≤ length sets
   pub size : length lens ≡ n
   pub short : Short n lens
-  pub lists : listsOf n sets lens ≡ ours d (cut d n codes)
+  pub lists : listsOf n sets lens ≡ ourLists d (cut d n codes)
 
 unfoldable pub ourBase : ℕ → List (Row Total) → ℕ → Based
 ourBase d rows i = based d rows (getD rows i (record { codes = []; total = nothing }))

@@ -14,8 +14,8 @@ use Rattle.walk.specs.Limits.{Bytes}
 use Rattle.cube.specs.declared.Total.{Total}
 use Rattle.cube.specs.Measure.{Row}
 use Rattle.rows.specs.Rows.{rowsOf}
-use Rattle.table.specs.Layout.{Held}
-use Rattle.table.specs.Reading.{readTable, baseRows, answer, Stored}
+use Rattle.table.specs.Layout.{Records}
+use Rattle.table.specs.Reading.{readTable, baseRows, tableAnswer, Stored}
 use Rattle.table.specs.declared.TableRead.the-variants as Read
 use Rattle.table.proofs.Accepted.{table-forth}
 use Rattle.table.proofs.Rows.{placed}
@@ -45,15 +45,15 @@ module _ {o : Outcome} {xs l m : List ℕ} {n : ℕ} (e : o ≡ bytes xs) (f : F
 
 -- ---- a table that was read
 
-pub build-refused : (s : List ℕ) {k : ℕ} → answer (readTable s) ≡ Read.Stop k → builds s ≡ stopped k
+pub build-refused : (s : List ℕ) {k : ℕ} → tableAnswer (readTable s) ≡ Read.Stop k → builds s ≡ stopped k
 unfolding builds
 build-refused s {k} e = rw (go (readTable s) e)
   where
-    go : (p : Parsed Held) → answer p ≡ Read.Stop k → p ≡ stop k
+    go : (p : Parsed Records) → tableAnswer p ≡ Read.Stop k → p ≡ stop k
     go (stop n) f = let z : n ≡ k = cc in ap stop z
     go (got t rest) f = let z : false ≡ true = cc in absurd (false≢true z)
 
-told : (p : Parsed Held) {d n : ℕ} → answer p ≡ Read.Rows d n → (t : Held) × (rest : List ℕ) × (p ≡ got t rest) × (length (t .sizes) ≡ d) × (length (baseRows t) ≡ n)
+told : (p : Parsed Records) {d n : ℕ} → tableAnswer p ≡ Read.Rows d n → (t : Records) × (rest : List ℕ) × (p ≡ got t rest) × (length (t .sizes) ≡ d) × (length (baseRows t) ≡ n)
 told (stop k) e = let z : false ≡ true = cc in absurd (false≢true z)
 told (got t rest) e = (t, rest, refl, cc e, cc e)
 
@@ -65,7 +65,7 @@ pub record Tabled (s : List ℕ) (d n : ℕ) (codes : List ℕ) (sums : List ℤ
   pub limits : Limits (wordsAt s d 8) (rowsOf d n codes sums counts)
   pub built : builds s ≡ bytes (archiveBytes (wordsAt s d 8) (rowsOf d n codes sums counts))
 
-pub tabled : {s : List ℕ} {d n : ℕ} → Bytes s → answer (readTable s) ≡ Read.Rows d n → (codes : List ℕ) (sums : List ℤ) (counts : List ℕ)
+pub tabled : {s : List ℕ} {d n : ℕ} → Bytes s → tableAnswer (readTable s) ≡ Read.Rows d n → (codes : List ℕ) (sums : List ℤ) (counts : List ℕ)
     → (8192 ≤ length codes) × (1024 ≤ length sums) × (1024 ≤ length counts) → Stored (readTable s) codes sums counts → Tabled s d n (take (n * d) codes) (take n sums) (take n counts)
 unfolding builds
 tabled {s} {d} {n} b e codes sums counts room h =
@@ -76,7 +76,7 @@ tabled {s} {d} {n} b e codes sums counts room h =
     let dims : d ≤ 8 = omega (arith, l .sized .few, x .3) in
     let k = mul-le-mul few dims in
     let small : n * d ≤ 8192 = omega (arith, k) in
-    let stored : rowsOf (length (t .sizes)) (length (baseRows t)) codes sums counts ≡ baseRows t = subst (λ (p : Parsed Held). Stored p codes sums counts) (x .2) h in
+    let stored : rowsOf (length (t .sizes)) (length (baseRows t)) codes sums counts ≡ baseRows t = subst (λ (p : Parsed Records). Stored p codes sums counts) (x .2) h in
     let rows : rowsOf d n (take (n * d) codes) (take n sums) (take n counts) ≡ baseRows t
     = rows-front d n codes sums counts ∙ ap₂ (λ (i j : ℕ). rowsOf i j codes sums counts) (sym (x .3)) (sym (x .4)) ∙ stored in
     let at = placed s t (x .2) in

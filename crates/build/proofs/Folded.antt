@@ -20,9 +20,9 @@ use Rattle.cube.specs.Table.{Table}
 use Rattle.cube.proofs.Folding.{folded-few}
 use Rattle.cube.proofs.Promises.{base-order, base-codes, base-totals, base-rows, base-total}
 use Rattle.walk.proofs.Limits.{below-coded}
-use Rattle.table.specs.Layout.{Held, Reads, Limits}
+use Rattle.table.specs.Layout.{Records, Reads, TableLimits}
 use Rattle.table.specs.Reading.{baseRows}
-use Rattle.entries.specs.Layout.{Fair, Limits as Within}
+use Rattle.entries.specs.Layout.{Fair, Limits}
 use Rattle.build.proofs.Made.{readings-make}
 
 -- ---- the total of all rows, by the cell in which all fall
@@ -55,7 +55,7 @@ count-ones : (rows : List (Row Total)) → ((r : Row Total) → r ∈ rows → r
 count-ones [] h = refl
 count-ones (r ∷ rows) h = omega (arith, h r (List·Memᴰ·head refl), count-ones rows (λ q m. h q (List·Memᴰ·tail m)))
 
-module _ (t : Held) (l : Limits t) where
+module _ (t : Records) (l : TableLimits t) where
   abbrev d : ℕ
   d = length (t .sizes)
 
@@ -100,7 +100,7 @@ module _ (t : Held) (l : Limits t) where
           made = rw e (readings-make same-rows (λ q j. (reads q j .reading, reads q j .once)));
         }
 
-  pub folded-within : Within (t .sizes) (baseRows t)
+  pub folded-within : Limits (t .sizes) (baseRows t)
   folded-within = record {
     sized = l .sized;
     few = omega (arith, l .few, folded-few sums d (t .rows));

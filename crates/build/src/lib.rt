@@ -6,7 +6,7 @@ ghost use Prim.Native.Nat.{_+_, _*_, _≤_};
 ghost use lib.ListN.{length};
 ghost use Rattle.rows.specs.Rows.{rowsOf};
 ghost use Rattle.fields.specs.Words.{wordsAt};
-ghost use Rattle.table.specs.Reading.{readTable, answer, Stored};
+ghost use Rattle.table.specs.Reading.{readTable, tableAnswer, Stored};
 ghost use Rattle.entries.specs.Layout.{archiveBytes, Limits};
 ghost use Rattle.singles.specs.Ready.{Ready};
 ghost use Rattle.calls.specs.Answers.{bytes, Answered};
@@ -44,7 +44,7 @@ fn build_read(
     rows: u32,
     out: &mut [u8],
 ) -> Written
-    requires { ⌜ answer (readTable (now s)) ≡ TableRead.Rows dims rows ⌝ }
+    requires { ⌜ tableAnswer (readTable (now s)) ≡ TableRead.Rows dims rows ⌝ }
     requires { ⌜ (8192 ≤ length (now codes)) × (1024 ≤ length (now sums)) × (1024 ≤ length (now counts)) × Stored (readTable (now s)) (now codes) (now sums) (now counts) ⌝ }
     ensures { λ r. ⌜ Answered (builds (now (s .entry))) (now (out .entry)) (now (out .exit)) r ⌝ }
 {

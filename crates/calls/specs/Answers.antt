@@ -1,7 +1,7 @@
 -- What a call that writes an output returns and leaves there (document 01: "The question is looked at after the whole file, and the output last"; "A stop returns its number only; inputs and output keep every byte").
 --
 --   Outcome             what the input alone settles: a stop, or the bytes of the result
---   stopUnless b n o    stop n, unless the test b passed
+--   refuseUnless b n o  stop n, unless the test b passed
 --   within room o       stop 15 where the result is longer than the output that is lent
 --   Written             the length, or a stop's number: the enum of src/lib.rt
 --   answerOf o          the answer's number for an outcome
@@ -21,12 +21,12 @@ pub data Outcome : Type 0 where
   stop : ℕ → Outcome
   bytes : List ℕ → Outcome
 
-abbrev pub stopUnless : Bool → ℕ → Outcome → Outcome
-stopUnless b n o = cond b o (stop n)
+abbrev pub refuseUnless : Bool → ℕ → Outcome → Outcome
+refuseUnless b n o = cond b o (stop n)
 
 abbrev pub within : ℕ → Outcome → Outcome
 within room (stop n) = stop n
-within room (bytes xs) = stopUnless (leb (length xs) room) 15 (bytes xs)
+within room (bytes xs) = refuseUnless (leb (length xs) room) 15 (bytes xs)
 
 abbrev pub answerOf : Outcome → Written
 answerOf (stop n) = Stop n

@@ -17,7 +17,7 @@ use Rattle.walk.specs.Parsed.{Parsed, stop, got}
 use Rattle.cube.specs.declared.Total.{Total}
 use Rattle.cube.specs.Codes.{plain}
 use Rattle.cube.specs.Condensed.{Entry, base, normal, Answer, no-record, found, lookup}
-use Rattle.table.specs.Layout.{Held as Table}
+use Rattle.table.specs.Layout.{Records}
 use Rattle.table.specs.Reading.{readTable, baseRows}
 use Rattle.entries.specs.Layout.{Held, archiveBytes}
 use Rattle.entries.specs.Reading.{readArchive, rowsIn}
@@ -27,7 +27,7 @@ use Rattle.calls.specs.declared.Checked.{Checked}
 use Rattle.calls.specs.declared.Checked.the-variants as Check
 use Rattle.calls.specs.declared.Found.{Found}
 use Rattle.calls.specs.declared.Found.the-variants as Find
-use Rattle.calls.specs.Answers.{Outcome, stop as stopped, bytes, stopUnless}
+use Rattle.calls.specs.Answers.{Outcome, stop as stopped, bytes, refuseUnless}
 
 -- what was read settles the outcome
 abbrev pub outcome : {A : Type 0} → (A → Outcome) → Parsed A → Outcome
@@ -39,7 +39,7 @@ dims a = length (a .sizes)
 
 -- ---- build
 
-abbrev pub archived : Table → Outcome
+abbrev pub archived : Records → Outcome
 archived t = bytes (archiveBytes (t .sizes) (baseRows t))
 
 unfoldable pub builds : List ℕ → Outcome
@@ -57,7 +57,7 @@ checks s = counted (readArchive s)
 -- ---- list a cuboid, expand
 
 abbrev pub cuboidOf : ℕ → Held → Outcome
-cuboidOf set a = stopUnless (ltb set (2 ^ dims a)) 14 (bytes (cuboidBytes (dims a) (rowsIn a) set))
+cuboidOf set a = refuseUnless (ltb set (2 ^ dims a)) 14 (bytes (cuboidBytes (dims a) (rowsIn a) set))
 
 unfoldable pub listsCuboid : List ℕ → ℕ → Outcome
 listsCuboid s set = outcome (cuboidOf set) (readArchive s)

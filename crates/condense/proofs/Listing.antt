@@ -21,7 +21,7 @@ use Rattle.rows.proofs.Rows.{cut-length}
 use Rattle.singles.specs.Marks.{picked}
 use Rattle.singles.specs.Ready.{Ready}
 use Rattle.singles.proofs.Ready.{ready-base}
-use Rattle.condense.specs.Lists.{listsOf, Short, Fit, opens, grown, ours}
+use Rattle.condense.specs.Lists.{listsOf, Short, Fit, opens, grown, ourLists}
 use Rattle.condense.proofs.Partly.{partly, partly-none, partly-all, partly-fit, partly-shared, partly-grown}
 
 pub record Listing (d n : ℕ) (codes store lens : List ℕ) (cells k : ℕ) : Type 0 where
@@ -61,7 +61,7 @@ module _ {d n : ℕ} {codes : List ℕ} {sums : List ℤ} {counts : List ℕ} (r
         let few : length (sets d) * length xs ≤ 256 * 1024 = mul-le-mul (le-trans (sets-length d) (pow-mono (ready .dims))) rows in
         omega (arith, m .count, all, normals-length (plain d) xs)
 
-    pub listing-done : 256 ≤ k → (listsOf n store lens ≡ ours d xs) × (cells ≡ length (normals (plain d) xs))
+    pub listing-done : 256 ≤ k → (listsOf n store lens ≡ ourLists d xs) × (cells ≡ length (normals (plain d) xs))
     unfolding normals
     listing-done h =
         let all : m .done ≡ proper (plain d) = sym (append-nil (m .done)) ∙ ap (λ (l : List ℕ). m .done ++ l) (sym (from-done (full d) k h)) ∙ m .left in

@@ -17,7 +17,7 @@ use Rattle.cube.proofs.Nodes.{proper-in}
 use Rattle.cube.proofs.Promises.{at-most-70}
 use Rattle.singles.specs.Marks.{mark, picked, singles}
 use Rattle.singles.proofs.Picked.{picked-keep}
-use Rattle.condense.specs.Lists.{listsOf, Fit, isOpen, opens, grown, ours}
+use Rattle.condense.specs.Lists.{listsOf, Fit, isOpen, opens, grown, ourLists}
 use Rattle.condense.proofs.Lists.{lists-length, lists-at}
 use Rattle.condense.proofs.Open.{opens-map}
 use Rattle.condense.proofs.Noted.{noted-tests}
@@ -37,8 +37,8 @@ module _ (d : ℕ) (xs : List (List ℕ)) where
       (λ i l. let h : i < n = rw lists-length at l in
       lists-at n i sets lens h ∙ rw (f i h) (sym (List·getD-map (listedTo (plain d) xs []) xs i [])))
 
-  pub partly-all : partly d xs (proper (plain d)) ≡ ours d xs
-  unfolding partly listedTo ours listed
+  pub partly-all : partly d xs (proper (plain d)) ≡ ourLists d xs
+  unfolding partly listedTo ourLists listed
   partly-all = refl
 
   -- the sets so far are the first of those below the full one

@@ -7,7 +7,7 @@
 --   opens d s ls          for each list a mark, whether its row is open on set s
 --   noted s os ms ls      lists with set s behind each whose row is open (os) and single (ms has a mark for each open row)
 --   grown d xs s ls       lists of base rows with codes xs, with set s behind each whose row is open on it and single on it among the open rows
---   ours d xs             our lists of base rows with codes xs
+--   ourLists d xs         our lists of base rows with codes xs
 use mathlib.Core.Bool.{Bool, not, cond}
 use mathlib.Core.List.{List, [], _∷_, _++_, map}
 use Prim.Native.Nat.{ℕ, zero, suc, _≤_, _<_}
@@ -43,5 +43,5 @@ noted s (o ∷ os) ms (l ∷ ls) = cond (eqb o 1) ((l ++ only (eqb (getD ms 0 0)
 unfoldable pub grown : ℕ → List (List ℕ) → ℕ → List (List ℕ) → List (List ℕ)
 grown d xs s ls = noted s (opens 32 s ls) (singles d (picked (opens 32 s ls) xs) s) ls
 
-unfoldable pub ours : ℕ → List (List ℕ) → List (List ℕ)
-ours d xs = map (listed (plain d) xs) xs
+unfoldable pub ourLists : ℕ → List (List ℕ) → List (List ℕ)
+ourLists d xs = map (listed (plain d) xs) xs

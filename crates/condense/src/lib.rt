@@ -10,7 +10,7 @@ ghost use Rattle.cube.specs.Condensed.{shared, normals};
 ghost use Rattle.rows.specs.Rows.{cut, rowsOf};
 ghost use Rattle.singles.specs.Ready.{Ready};
 ghost use Rattle.singles.specs.Marks.{picked};
-ghost use Rattle.condense.specs.Lists.{listsOf, Short, Fit, opens, noted, grown, ours};
+ghost use Rattle.condense.specs.Lists.{listsOf, Short, Fit, opens, noted, grown, ourLists};
 ghost use Rattle.condense.specs.Shared.{sharedRows};
 
 // Whether a set holds one that is listed.
@@ -194,7 +194,7 @@ pub fn list_rows(
     lens: &mut [u32],
 ) -> usize
     requires { ⌜ Ready dims rows (now codes) (now sums) (now counts) × (rows * 70 ≤ length (now sets)) × (length (now lens) ≡ rows) ⌝ }
-    ensures { λ r. ⌜ (listsOf rows (now (sets .exit)) (now (lens .exit)) ≡ ours dims (cut dims rows (now (codes .entry)))) × Short rows (now (lens .exit)) ⌝ }
+    ensures { λ r. ⌜ (listsOf rows (now (sets .exit)) (now (lens .exit)) ≡ ourLists dims (cut dims rows (now (codes .entry)))) × Short rows (now (lens .exit)) ⌝ }
     ensures { λ r. ⌜ r ≡ length (normals (plain dims) (cut dims rows (now (codes .entry)))) ⌝ }
 {
     clear(lens);
@@ -225,7 +225,7 @@ pub fn shared_cells(
     tallies: &mut [u32],
 ) -> usize
     requires { ⌜ Ready dims rows (now codes) (now sums) (now counts) × (rows * 70 ≤ length (now sets)) × (length (now lens) ≡ rows) × Short rows (now lens) ⌝ }
-    requires { ⌜ (set < full dims) × (listsOf rows (now sets) (now lens) ≡ ours dims (cut dims rows (now codes))) ⌝ }
+    requires { ⌜ (set < full dims) × (listsOf rows (now sets) (now lens) ≡ ourLists dims (cut dims rows (now codes))) ⌝ }
     requires { ⌜ (rows * dims ≤ length (now cells)) × (rows ≤ length (now amounts)) × (rows ≤ length (now tallies)) ⌝ }
     ensures { λ r. ⌜ rowsOf dims r (now (cells .exit)) (now (amounts .exit)) (now (tallies .exit)) ≡ sharedRows dims (rowsOf dims rows (now (codes .entry)) (now (sums .entry)) (now (counts .entry))) set ⌝ }
     ensures { λ r. ⌜ r ≤ rows ⌝ }

@@ -1,18 +1,16 @@
 -- The complete cube has each cell that exists, once, with its total; the plain one goes by lattice order, then by codes.
-use mathlib.Core.Path.{_≡_, refl, sym, _∙_, ap}
+use mathlib.Core.Path.{_≡_, refl, _∙_, ap}
 use mathlib.Core.Logic.{_↔_}
 use mathlib.Core.Bool.{true}
-use mathlib.Core.List.{List, _∷_, Memᴰ·cast, Memᴰ·map, Memᴰ·of-map}
+use mathlib.Core.List.{List, Memᴰ·cast, Memᴰ·map, Memᴰ·of-map}
 use Prim.Native.Nat.{ℕ}
 use lib.ListN.{length}
 use Rattle.lists.specs.Lists.{_∈_}
 use Rattle.lists.specs.Order.{Rising, earlier}
-use Rattle.lists.proofs.Tests.{cases}
 use Rattle.lists.proofs.Members.{flat-in, flat-of}
-use Rattle.lists.proofs.Pairwise.{pairwise-flat, pairwise-map, pairwise-imp}
-use Rattle.lists.proofs.Order.{earlier-lt, earlier-eq}
-use Rattle.lattice.specs.Sets.{size, before, sets}
-use Rattle.lattice.proofs.Sets.{before-is, sets-in, sets-rising}
+use Rattle.lists.proofs.Pairwise.{pairwise-map}
+use Rattle.lattice.specs.Sets.{sets}
+use Rattle.lattice.proofs.Sets.{sets-in, sets-rising}
 use Rattle.cube.specs.Measure.{Measure, Row, codesOf}
 use Rattle.cube.specs.Lattice.{Lattice, Laws}
 use Rattle.cube.specs.Codes.{set-of, plain}
@@ -21,6 +19,7 @@ use Rattle.cube.specs.Table.{Table, listed-before}
 use Rattle.cube.proofs.Codes.{set-cell, coded-length, length-cell}
 use Rattle.cube.proofs.Cells.{cuboid-in, cuboid-of, cuboid-rising, cell-exists}
 use Rattle.cube.proofs.Folding.{coded}
+use Rattle.cube.proofs.Keys.{keys-rising}
 
 -- a cell of a set has a code, or ALL, for each dimension
 pub cuboid-wide : {A : Type 0} (d : ℕ) (rows : List (Row A)) → Table d rows → (s : ℕ) {c : List ℕ} → c ∈ cuboid (plain d) (codesOf rows) s → length c ≡ d
@@ -53,35 +52,11 @@ module _ (L : Lattice) (W : Laws L) {A : Type 0} (M : Measure A) (rows : List (R
   )
 
 module _ {A : Type 0} (M : Measure A) (d : ℕ) (rows : List (Row A)) (t : Table d rows) where
-  set-grouped : {r : Row A} {s : ℕ} → s ∈ sets d → r ∈ grouped (plain d) M rows s → set-of (r .codes) ≡ s
-  set-grouped {r} {s} h m =
+  set-grouped : (s : ℕ) (r : Row A) → s ∈ sets d → r ∈ grouped (plain d) M rows s → set-of (r .codes) ≡ s
+  set-grouped s r h m =
       let x = cuboid-in (plain d) (codesOf rows) s (grouped-in (plain d) M rows s m .0) in
       rw (x .2) (set-cell d s (x .0) (coded d rows t (x .0) (x .1)) (sets-in d h))
 
-  -- two cells of one set go by their codes, others by their sets
-  module _ (p q : Row A) where
-    abbrev s : ℕ
-    s = set-of (p .codes)
-
-    abbrev u : ℕ
-    u = set-of (q .codes)
-
-    one-set : s ≡ u → earlier (p .codes) (q .codes) ≡ true → listed-before p q ≡ true
-    one-set e h = earlier-eq (size s) (size u) (s ∷ p .codes) (u ∷ q .codes) (ap size e) (earlier-eq s u (p .codes) (q .codes) e h)
-
-    two-sets : before s u ≡ true → listed-before p q ≡ true
-    two-sets h = cases (before-is s u h)
-        (λ l. earlier-lt (size s) (size u) (s ∷ p .codes) (u ∷ q .codes) l)
-        (λ l. earlier-eq (size s) (size u) (s ∷ p .codes) (u ∷ q .codes) (l .0) (earlier-lt s u (p .codes) (q .codes) (l .1)))
-
-  grouped-rising : (s : ℕ) → s ∈ sets d → Rising listed-before (grouped (plain d) M rows s)
-  grouped-rising s h = pairwise-imp (λ p q. earlier (p .codes) (q .codes) ≡ true) (λ p q. listed-before p q ≡ true) (grouped (plain d) M rows s)
-      (λ p q i j e. one-set p q (set-grouped h i ∙ sym (set-grouped h j)) e)
-      (grouped-codes (plain d) M rows s)
-
   pub complete-rising : Rising listed-before (complete (plain d) M rows)
   unfolding complete
-  complete-rising = pairwise-flat (λ p q. listed-before p q ≡ true) (grouped (plain d) M rows) (sets d) grouped-rising
-      (pairwise-imp (λ s t. before s t ≡ true) (λ s t. (p q : Row A) → p ∈ grouped (plain d) M rows s → q ∈ grouped (plain d) M rows t → listed-before p q ≡ true) (sets d)
-      (λ s u i j h p q m n. two-sets p q (rw (set-grouped i m, set-grouped j n) h))
-      (sets-rising d))
+  complete-rising = keys-rising (λ r. r .codes) (grouped (plain d) M rows) (sets d) (sets-rising d) (λ s h. grouped-codes (plain d) M rows s) set-grouped

@@ -7,6 +7,7 @@ pub mod Smallest
 pub mod Reach
 pub mod Cells
 pub mod Normals
+pub mod Keys
 pub mod Counting
 pub mod Fewest
 pub mod Ours

@@ -6,7 +6,7 @@ ghost use mathlib.Core.Path.{_≡_};
 ghost use lib.ListN.{length};
 ghost use Rattle.calls.specs.Answers.{within, answerOf, leftOf};
 ghost use Rattle.calls.specs.Calls.{builds, checks, listsCuboid, expands, looksUp};
-ghost use Rattle.cube_archive.specs.Numbers.{writtenNumber, checkedNumber, foundNumber, sumLeft, countLeft, entryLeft};
+ghost use Rattle.calls.specs.Numbers.{writtenNumber, checkedNumber, foundNumber, sumLeft, countLeft, entryLeft};
 
 // The number of a call that writes an output.
 fn number(answer: Written) -> u64

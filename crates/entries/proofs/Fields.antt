@@ -12,7 +12,7 @@ use Rattle.walk.proofs.Steps.{through}
 use Rattle.rows.specs.Rows.{rowsOf}
 use Rattle.entries.specs.declared.ArchiveRead.the-variants as Answer
 use Rattle.entries.specs.Layout.{CUBE, Based, Held}
-use Rattle.entries.specs.Reading.{entries, bases, cells, walkArchive, rowsIn, answer, Stored}
+use Rattle.entries.specs.Reading.{entries, bases, cells, walkArchive, rowsIn, archiveAnswer, Stored}
 use Rattle.walk.proofs.Places.{header-read}
 use Rattle.entries.proofs.Entries.{bases-read}
 use Rattle.entries.proofs.Walking.{closed, celled, based}
@@ -30,7 +30,7 @@ pub record Accepted (s : List ℕ) (d n : ℕ) : Type 0 where
   pub read : entries (held .sizes) n [] 0 (drop (12 + 4 * d) s) ≡ got (held .bases) end
 
 -- the answer's numbers are those of what was read
-told : (p : Parsed Held) {d n m : ℕ} → answer p ≡ Answer.Entries d n m → (a : Held) × (rest : List ℕ) × (p ≡ got a rest) × (length (a .sizes) ≡ d) × (length (a .bases) ≡ n)
+told : (p : Parsed Held) {d n m : ℕ} → archiveAnswer p ≡ Answer.Entries d n m → (a : Held) × (rest : List ℕ) × (p ≡ got a rest) × (length (a .sizes) ≡ d) × (length (a .bases) ≡ n)
 told (stop k) e = let z : false ≡ true = cc in absurd (false≢true z)
 told (got a rest) e = (a, rest, refl, cc, cc)
 
@@ -68,7 +68,7 @@ parts s {a} {rest} w =
     let q : u .0 ≡ a .bases = ap (λ b. b .bases) e in
     (t .1, u .1, t .2 ∙ ap (λ (y : List ℕ). got y (t .1)) p, ap (λ (y : List ℕ). bases y (t .1)) (sym p) ∙ u .2 ∙ ap (λ (y : List Based). got y (u .1)) q)
 
-pub accepted : (s : List ℕ) (d n : ℕ) {m : ℕ} → answer (walkArchive s) ≡ Answer.Entries d n m → Accepted s d n
+pub accepted : (s : List ℕ) (d n : ℕ) {m : ℕ} → archiveAnswer (walkArchive s) ≡ Answer.Entries d n m → Accepted s d n
 accepted s d n e =
     let t = told (walkArchive s) e in
     let p = parts s (t .2) in
@@ -79,6 +79,6 @@ pub accepted-stored : (s : List ℕ) (d n : ℕ) (a : Accepted s d n) (c : List 
 accepted-stored s d n a c t k e = rw (a .walked, a .dims, a .count) e
 
 -- nothing is asked of the arrays where the walk stopped
-pub stopped-stored : (p : Parsed Held) {n : ℕ} (c : List ℕ) (t : List ℤ) (k : List ℕ) → answer p ≡ Answer.Stop n → Stored p c t k
+pub stopped-stored : (p : Parsed Held) {n : ℕ} (c : List ℕ) (t : List ℤ) (k : List ℕ) → archiveAnswer p ≡ Answer.Stop n → Stored p c t k
 stopped-stored (stop n) c t k e = tt
 stopped-stored (got a rest) c t k e = let z : false ≡ true = cc in absurd (false≢true z)

@@ -15,7 +15,7 @@ use Rattle.cube.specs.declared.Total.{Total}
 use Rattle.cube.specs.Measure.{Row}
 use Rattle.entries.specs.declared.ArchiveRead.the-variants as Answer
 use Rattle.entries.specs.Layout.{CUBE, Based, Held}
-use Rattle.entries.specs.Reading.{bases, cells, walkArchive, answer}
+use Rattle.entries.specs.Reading.{bases, cells, walkArchive, archiveAnswer}
 use Rattle.walk.proofs.Places.{header-read}
 use Rattle.entries.proofs.Entries.{bases-read}
 use Rattle.entries.proofs.Cells.{cells-read}
@@ -49,9 +49,9 @@ module _ (s : List ℕ) where
   abbrev pub based : List ℕ → List ℕ → Parsed Held
   based zs l = andThen (bases zs l) (celled zs)
 
-  pub header-stop : {n : ℕ} → header CUBE s ≡ stop n → Answer.Stop n ≡ answer (walkArchive s)
+  pub header-stop : {n : ℕ} → header CUBE s ≡ stop n → Answer.Stop n ≡ archiveAnswer (walkArchive s)
   unfolding walkArchive
-  header-stop e = sym (ap answer (then-off based e))
+  header-stop e = sym (ap archiveAnswer (then-off based e))
 
   module _ {d at : ℕ} (o : Opened s d at) where
     abbrev zs : List ℕ
@@ -61,28 +61,28 @@ module _ (s : List ℕ) where
     unfolding walkArchive
     behind-header = then-on based (o .read)
 
-    pub bases-stop : {n : ℕ} → bases zs (drop at s) ≡ stop n → Answer.Stop n ≡ answer (walkArchive s)
-    bases-stop e = sym (ap answer (behind-header ∙ then-off (celled zs) e))
+    pub bases-stop : {n : ℕ} → bases zs (drop at s) ≡ stop n → Answer.Stop n ≡ archiveAnswer (walkArchive s)
+    bases-stop e = sym (ap archiveAnswer (behind-header ∙ then-off (celled zs) e))
 
     module _ {next : ℕ} (f : Says s (bases zs (drop at s)) (At next)) where
       behind-bases : walkArchive s ≡ andThen (cells d (drop next s)) (closed zs (f .0))
       behind-bases = behind-header ∙ then-on (celled zs) (f .1) ∙ ap (λ (n : ℕ). andThen (cells n (drop next s)) (closed zs (f .0))) (length-wordsAt s d 8)
 
-      pub cells-stop : {n : ℕ} → cells d (drop next s) ≡ stop n → Answer.Stop n ≡ answer (walkArchive s)
-      cells-stop e = sym (ap answer (behind-bases ∙ then-off (closed zs (f .0)) e))
+      pub cells-stop : {n : ℕ} → cells d (drop next s) ≡ stop n → Answer.Stop n ≡ archiveAnswer (walkArchive s)
+      cells-stop e = sym (ap archiveAnswer (behind-bases ∙ then-off (closed zs (f .0)) e))
 
       module _ {end : ℕ} (g : Says s (cells d (drop next s)) (At end)) where
         behind-cells : walkArchive s ≡ closed zs (f .0) (g .0) (drop end s)
         behind-cells = behind-bases ∙ then-on (closed zs (f .0)) (g .1)
 
-        pub close-stop : {n : ℕ} → close s (drop end s) ≡ stop n → Answer.Stop n ≡ answer (walkArchive s)
-        close-stop e = sym (ap answer (behind-cells ∙ then-off (λ u rest. got (record { sizes = zs; bases = f .0; cells = g .0 }) rest) e))
+        pub close-stop : {n : ℕ} → close s (drop end s) ≡ stop n → Answer.Stop n ≡ archiveAnswer (walkArchive s)
+        close-stop e = sym (ap archiveAnswer (behind-cells ∙ then-off (λ u rest. got (record { sizes = zs; bases = f .0; cells = g .0 }) rest) e))
 
         -- D, the base count and the normal count stand where the walk passed them
         pub entries-told : {u : Unit {0}} {rest : List ℕ} {b c : ℕ} → close s (drop end s) ≡ got u rest → b ≡ wordAt s at → c ≡ wordAt s next
-            → Answer.Entries d b c ≡ answer (walkArchive s)
+            → Answer.Entries d b c ≡ archiveAnswer (walkArchive s)
         entries-told e p q =
             let n : length zs ≡ d = length-wordsAt s d 8 in
             let m : length (f .0) ≡ _ = bases-read s zs at (o .inside) (f .1) .count ∙ sym p in
             let k : length (g .0) ≡ _ = cells-read s d next (f .2) (g .1) .1 ∙ sym q in
-            sym (ap answer (behind-cells ∙ then-on (λ u rest. got (record { sizes = zs; bases = f .0; cells = g .0 }) rest) e) ∙ rw (n, m, k))
+            sym (ap archiveAnswer (behind-cells ∙ then-on (λ u rest. got (record { sizes = zs; bases = f .0; cells = g .0 }) rest) e) ∙ rw (n, m, k))

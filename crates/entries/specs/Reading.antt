@@ -9,7 +9,7 @@
 --   cell d, cells d     a normal entry, and the normal count with the normal entries: fields of any value
 --   walkArchive s       what the fields of s hold, or the first of the stops 1 to 11
 --   ArchiveRead         what the walk over an archive answers: the enum of src/lib.rt
---   answer p            the answer's number and values for what was read: the stop's number, or D, the base count and the normal count
+--   archiveAnswer p     the answer's number and values for what was read: the stop's number, or D, the base count and the normal count
 --   Stored p ..         the arrays have the base rows that were read
 --   judged s a rest     stop 12, unless s is the archive that the sizes and base rows of a require
 --   readArchive s       the sizes and base rows of s, or the first stop: 12 if the entries are not what the base rows require
@@ -73,9 +73,9 @@ walkArchive s =
 abbrev pub rowsIn : Held → List (Row Total)
 rowsIn a = map (λ b. b .row) (a .bases)
 
-abbrev pub answer : Parsed Held → ArchiveRead
-answer (stop n) = Answer.Stop n
-answer (got a rest) = Answer.Entries (length (a .sizes)) (length (a .bases)) (length (a .cells))
+abbrev pub archiveAnswer : Parsed Held → ArchiveRead
+archiveAnswer (stop n) = Answer.Stop n
+archiveAnswer (got a rest) = Answer.Entries (length (a .sizes)) (length (a .bases)) (length (a .cells))
 
 abbrev pub Stored : Parsed Held → List ℕ → List ℤ → List ℕ → Type 0
 Stored (stop n) codes amounts counts = Unit {0}

@@ -12,7 +12,10 @@ ghost use Rattle.walk.specs.Walked.{Walked};
 ghost use Rattle.cube.specs.Bounds.{most, canMake};
 ghost use Rattle.rows.specs.Rows.{rowsOf};
 ghost use Rattle.entries.specs.Places.{rowThere};
-ghost use Rattle.entries.specs.Reading.{rising, amount, list, entry, entries, bases, cells, walkArchive, answer, Stored};
+ghost use Rattle.entries.specs.Reading.{rising, amount, list, entry, entries, bases, cells, walkArchive, archiveAnswer, Stored};
+
+// The opening bytes of an archive, 43 55 42 45.
+pub const CUBE: [u8; 4] = *b"CUBE";
 
 // What the walk over an archive answers: a stop's number, or D, the base count and the normal count.
 pub enum ArchiveRead {
@@ -202,7 +205,7 @@ pub fn store_rows(
     sums: &mut [i64],
     counts: &mut [u32],
 )
-    requires { ⌜ ((n : ℕ) × (answer (walkArchive (now s)) ≡ ArchiveRead.Entries dims bases n)) ⌝ }
+    requires { ⌜ ((n : ℕ) × (archiveAnswer (walkArchive (now s)) ≡ ArchiveRead.Entries dims bases n)) ⌝ }
     requires { ⌜ (8192 ≤ length (now codes)) × (1024 ≤ length (now sums)) × (1024 ≤ length (now counts)) ⌝ }
     ensures { λ r. ⌜ Stored (walkArchive (now (s .entry))) (now (codes .exit)) (now (sums .exit)) (now (counts .exit)) ⌝ }
 {

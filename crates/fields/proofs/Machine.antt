@@ -1,7 +1,7 @@
 -- Two's complement as the code computes it on the machine's integers of 64 bits: `toZ` reads their bits, `ofZ` makes them.
 use mathlib.Core.Path.{_≡_, refl, sym, ap, _∙_}
 use mathlib.Core.Bool.{true, false, false≢true}
-use Prim.Native.Nat.{ℕ, zero, suc, _+_, _-_, _%_, _^_, _≤_, _<_}
+use Prim.Native.Nat.{ℕ, zero, suc, _+_, _-_, _^_, _≤_, _<_}
 use native.Mathlib.Nat.{zero-add, not-suc-le-zero}
 use native.Mathlib.Omega.{arith}
 use lib.IntN.{ℤ, pos, negsuc, _-ℤ_}
@@ -71,8 +71,3 @@ widen-low w h = signed-low 63 w (omega arith) ∙ sym (signed-low 31 w h)
 pub widen-high : (w : ℕ) → 2 ^ 31 ≤ w → w < 2 ^ 32 → signedOf 64 (w + 0xffff_ffff_0000_0000) ≡ signedOf 32 w
 widen-high w h k =
     signed-high 63 (w + 0xffff_ffff_0000_0000) (omega arith) ∙ ap negsuc (omega arith) ∙ sym (signed-high 31 w h)
-
--- the low 32 of the 64 bits of an integer that fits 32
-pub narrow : (z : ℤ) → mag z < 2 ^ 31 → bitsOf 64 z % 2 ^ 32 ≡ bitsOf 32 z
-narrow (pos n) h = omega arith
-narrow (negsuc n) h = omega arith

@@ -1,11 +1,10 @@
 // The fields of the two files: words, sums, readings, the opening bytes and the check word, read from and written to lent bytes.
 // A writer writes over the front of what it is lent and returns how much it wrote.
 ghost use mathlib.Core.Path.{_≡_};
-ghost use Prim.Native.Nat.{_+_, _*_, _^_, _≤_, _<_};
+ghost use Prim.Native.Nat.{_+_, _*_, _≤_, _<_};
 ghost use lib.ListN.{length, take};
-ghost use lib.Signed.{mag};
 ghost use Rattle.fields.specs.Words.{wordAt, wordsAt, wordBytes, wordsBytes};
-ghost use Rattle.fields.specs.Twos.{signedOf, bitsOf, sumAt, sumBytes, readingAt, readingBytes};
+ghost use Rattle.fields.specs.Twos.{signedOf, bitsOf, sumAt, sumBytes, readingAt};
 ghost use Rattle.fields.specs.Opening.{startsWith};
 ghost use Rattle.fields.specs.Check.{checkOf};
 ghost use Rattle.fields.specs.Written.{writtenAt, Wrote};
@@ -116,16 +115,6 @@ pub fn reading_at(s: &[u8], at: usize) -> i64
     } else {
         signed(w + 0xffff_ffff_0000_0000)
     }
-}
-
-// Writes a reading, which must fit 32 bits, over the front of out.
-pub fn put_reading(out: &mut [u8], reading: i64) -> usize
-    requires { ⌜ 4 ≤ length (now out) ⌝ }
-    requires { ⌜ mag reading < 2 ^ 31 ⌝ }
-    ensures { λ r. ⌜ Wrote (readingBytes reading) (now (out .entry)) (now (out .exit)) r ⌝ }
-{
-    let n = unsigned(reading);
-    put_word(out, (n % 0x1_0000_0000) as u32)
 }
 
 // Whether s begins with the bytes xs.

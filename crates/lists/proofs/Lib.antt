@@ -8,3 +8,4 @@ pub mod Parts
 pub mod Pigeonhole
 pub mod Order
 pub mod Sorted
+pub mod Search

@@ -1,7 +1,7 @@
 -- Laws of the order of lists of numbers.
 use mathlib.Core.Path.{_≡_, refl, sym, _∙_, ap₂}
 use mathlib.Core.Logic.{_≢_, _⊎_, inl, inr}
-use mathlib.Core.Bool.{Bool, true, false, _&&_, false≢true}
+use mathlib.Core.Bool.{Bool, true, false, _&&_, false≢true, or-false}
 use mathlib.Core.List.{List, [], _∷_}
 use Prim.Native.Nat.{ℕ, _≤_, _<_}
 use native.Mathlib.Omega.{arith}
@@ -38,6 +38,10 @@ earlier-eq a b x y h e = earlier-skip a b x y h ∙ e
 
 pub earlier-gt : (a b : ℕ) (x y : List ℕ) → b < a → earlier (a ∷ x) (b ∷ y) ≡ false
 earlier-gt a b x y h = rw (le-ltb a b (omega arith), ne-eqb a b (omega arith))
+
+-- first numbers that differ decide
+pub earlier-differs : (a b : ℕ) (x y : List ℕ) → a ≢ b → earlier (a ∷ x) (b ∷ y) ≡ ltb a b
+earlier-differs a b x y n = rw (ne-eqb a b n, or-false)
 
 -- no codes come before any
 pub earlier-none : (x y : List ℕ) → length x ≡ 0 → 1 ≤ length y → earlier x y ≡ true

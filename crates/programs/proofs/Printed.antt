@@ -21,7 +21,7 @@ use Rattle.calls.specs.declared.Checked.the-variants as Check
 use Rattle.calls.specs.Answers.{Outcome, stop as stopped, bytes, within, answerOf, leftOf, Answered}
 use Rattle.calls.specs.Calls.{builds, counted, checks}
 use Rattle.listing.specs.Listing.{listing, heldBy, Accepted}
-use Rattle.programs.specs.Programs.{most, refused, limited, builtText, builder, listedText, lister}
+use Rattle.programs.specs.Programs.{longest, refused, limited, builtText, builder, listedText, lister}
 
 -- ---- the line of a stop, by the parts that are written
 pub refused-is : (n : ℕ) → refused n ≡ (ascii "refused " ++ decimal n) ++ ascii "\n"
@@ -29,17 +29,17 @@ unfolding refused
 refused-is n = sym (append-assoc (ascii "refused ") (decimal n) (ascii "\n"))
 
 -- ---- an input that is too long, and one that is not
-long-text : (s text : List ℕ) → most < length s → limited s text ≡ ascii "too long\n"
-long-text s text h = cases (truth (leb (length s) most)) (λ e. let z = leb-true (length s) most e in absurd (omega (arith, z))) (λ e. rw e)
+long-text : (s text : List ℕ) → longest < length s → limited s text ≡ ascii "too long\n"
+long-text s text h = cases (truth (leb (length s) longest)) (λ e. let z = leb-true (length s) longest e in absurd (omega (arith, z))) (λ e. rw e)
 
-pub short-text : (s text : List ℕ) → length s ≤ most → limited s text ≡ text
-short-text s text h = rw (le-leb (length s) most h)
+pub short-text : (s text : List ℕ) → length s ≤ longest → limited s text ≡ text
+short-text s text h = rw (le-leb (length s) longest h)
 
-pub builder-long : (s : List ℕ) → most < length s → builder s ≡ ascii "too long\n"
+pub builder-long : (s : List ℕ) → longest < length s → builder s ≡ ascii "too long\n"
 unfolding builder
-builder-long s h = long-text s (builtText (within most (builds s))) h
+builder-long s h = long-text s (builtText (within longest (builds s))) h
 
-pub lister-long : (s : List ℕ) → most < length s → lister s ≡ ascii "too long\n"
+pub lister-long : (s : List ℕ) → longest < length s → lister s ≡ ascii "too long\n"
 unfolding lister
 lister-long s h = long-text s (listedText (readArchive s)) h
 
@@ -52,10 +52,10 @@ within-fits room (bytes ys) {xs} e = cases (truth (leb (length ys) room))
     (λ f. let g : bytes ys ≡ bytes xs = rw f at e in let q : ys ≡ xs = cc g in rw (← q) (leb-true (length ys) room f))
     (λ f. let g : stopped 15 ≡ bytes xs = rw f at e in let z : false ≡ true = cc g in absurd (false≢true z))
 
-module _ (s : List ℕ) {l m : List ℕ} (h : length s ≤ most) (k : length l ≡ most) {r : Written} (w : Answered (builds s) l m r) where
+module _ (s : List ℕ) {l m : List ℕ} (h : length s ≤ longest) (k : length l ≡ longest) {r : Written} (w : Answered (builds s) l m r) where
   short-builder : builder s ≡ builtText (within (length l) (builds s))
   unfolding builder
-  short-builder = short-text s (builtText (within most (builds s))) h ∙ ap (λ (n : ℕ). builtText (within n (builds s))) (sym k)
+  short-builder = short-text s (builtText (within longest (builds s))) h ∙ ap (λ (n : ℕ). builtText (within n (builds s))) (sym k)
 
   pub builder-refused : {n : ℕ} → r ≡ Write.Stop n → (builder s ≡ refused n) × (m ≡ l)
   builder-refused {n} e = go (within (length l) (builds s)) refl
@@ -76,11 +76,11 @@ module _ (s : List ℕ) {l m : List ℕ} (h : length s ≤ most) (k : length l �
           wrote-as t (record { count = cc f; same = ap length g ∙ length-written xs l (within-fits (length l) (builds s) q); list = g })
 
 -- ---- the lister
-pub lister-short : (s : List ℕ) → length s ≤ most → lister s ≡ listedText (readArchive s)
+pub lister-short : (s : List ℕ) → length s ≤ longest → lister s ≡ listedText (readArchive s)
 unfolding lister
 lister-short s h = short-text s (listedText (readArchive s)) h
 
-pub lister-refused : (s : List ℕ) {n : ℕ} → length s ≤ most → checks s ≡ Check.Stop n → lister s ≡ refused n
+pub lister-refused : (s : List ℕ) {n : ℕ} → length s ≤ longest → checks s ≡ Check.Stop n → lister s ≡ refused n
 unfolding checks
 lister-refused s {n} h e = lister-short s h ∙ go (readArchive s) e
   where
@@ -96,5 +96,5 @@ accepted s {n} {m} e = go (readArchive s) refl e
     go (stop k) q f = let z : false ≡ true = cc f in absurd (false≢true z)
     go (got a rest) q f = (length (a .sizes), record { held = a; rest = rest; read = q; dims = refl; bases = cc f; cells = cc f })
 
-pub lister-listing : (s : List ℕ) {d n m : ℕ} → length s ≤ most → Accepted s d n m → lister s ≡ listing (heldBy (readArchive s))
+pub lister-listing : (s : List ℕ) {d n m : ℕ} → length s ≤ longest → Accepted s d n m → lister s ≡ listing (heldBy (readArchive s))
 lister-listing s h x = lister-short s h ∙ rw (x .read)

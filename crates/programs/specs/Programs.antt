@@ -1,7 +1,7 @@
 -- What the two programs print for the bytes of their standard input (document 01: "The programs read at most 65,536 bytes and print `too long` above that, or `refused` and the number.
 -- The builder lends 65,536 bytes of output and writes just the archive's bytes").
 --
---   most           how many bytes the programs read, and the builder lends
+--   longest        how many bytes the programs read, and the builder lends
 --   refused n      the line for stop n
 --   limited s t    the text t for an input s that is not too long
 --   builtText o    what is printed for the outcome of a build
@@ -21,21 +21,21 @@ use Rattle.calls.specs.Answers.{Outcome, stop as stopped, bytes, within}
 use Rattle.calls.specs.Calls.{builds}
 use Rattle.listing.specs.Listing.{listing}
 
-abbrev pub most : ℕ
-most = 65536
+abbrev pub longest : ℕ
+longest = 65536
 
 unfoldable pub refused : ℕ → List ℕ
 refused n = ascii "refused " ++ (decimal n ++ ascii "\n")
 
 abbrev pub limited : List ℕ → List ℕ → List ℕ
-limited s text = cond (leb (length s) most) text (ascii "too long\n")
+limited s text = cond (leb (length s) longest) text (ascii "too long\n")
 
 abbrev pub builtText : Outcome → List ℕ
 builtText (stopped n) = refused n
 builtText (bytes xs) = xs
 
 unfoldable pub builder : List ℕ → List ℕ
-builder s = limited s (builtText (within most (builds s)))
+builder s = limited s (builtText (within longest (builds s)))
 
 abbrev pub listedText : Parsed Held → List ℕ
 listedText (stop n) = refused n

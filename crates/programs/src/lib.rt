@@ -9,7 +9,7 @@ ghost use Rattle.fields.specs.Written.{Wrote};
 ghost use Rattle.programs.specs.Programs.{refused, builder, lister};
 
 // The most bytes that a program reads.
-const MOST: usize = 65536;
+const LONGEST: usize = 65536;
 
 // Writes the line of a stop.
 fn put_refused(out: &mut [u8], stop: u32) -> usize
@@ -34,7 +34,7 @@ pub fn build_text(input: &[u8], out: &mut [u8]) -> usize
     requires { ⌜ length (now out) ≡ 65536 ⌝ }
     ensures { λ r. ⌜ Wrote (builder (now (input .entry))) (now (out .entry)) (now (out .exit)) r ⌝ }
 {
-    if input.len() > MOST {
+    if input.len() > LONGEST {
         return put_too_long(out);
     }
     match build::build(input, out) {
@@ -48,7 +48,7 @@ pub fn list_text(input: &[u8], out: &mut [u8]) -> usize
     requires { ⌜ 180224 ≤ length (now out) ⌝ }
     ensures { λ r. ⌜ Wrote (lister (now (input .entry))) (now (out .entry)) (now (out .exit)) r ⌝ }
 {
-    if input.len() > MOST {
+    if input.len() > LONGEST {
         return put_too_long(out);
     }
     match archive::check(input) {

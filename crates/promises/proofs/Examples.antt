@@ -1,7 +1,7 @@
 -- The P examples of document 01 on bytes: each is a table's bytes, built, read back, asked and expanded by the definitions of the calls. One list, one theorem.
 use mathlib.Core.Path.{_≡_, refl}
 use mathlib.Core.List.{List, [], _∷_, map, flatMap}
-use Prim.Native.Nat.{ℕ, _+_, _-_, _*_, _/_, _^_}
+use Prim.Native.Nat.{ℕ, _+_, _-_, _*_, _^_}
 use lib.IntN.{pos}
 use lib.Count.{ones, onesIn}
 use lib.ListN.{length}
@@ -28,37 +28,66 @@ use Rattle.calls.specs.declared.Checked.the-variants as Check
 use Rattle.calls.specs.declared.Found.{Found}
 use Rattle.calls.specs.declared.Found.the-variants as Find
 use Rattle.calls.specs.Answers.{Outcome, stop as stopped, bytes, within}
-use Rattle.calls.specs.Calls.{builds, checks, listsCuboid, expands, entriesIn, looksUp}
+use Rattle.calls.specs.Calls.{builds, checks, listsCuboid, expands, entriesIn, told, looksUp}
 
--- the bytes of an outcome, the entries that were read, the answer that was found
+-- what an example says of the bytes: the archive's length and check word, its entries, how long its expansion is, and answers to questions; a refusal is none of these
+pub record Told : Type 0 where
+  pub length : ℕ
+  pub check : ℕ
+  pub entries : Parsed (List (Entry Total))
+  pub expansion : Parsed ℕ
+  pub answers : List Found
+
+pub record File : Type 0 where
+  pub length : ℕ
+  pub check : ℕ
+
 abbrev bytesOf : Outcome → List ℕ
 bytesOf (stopped n) = []
 bytesOf (bytes xs) = xs
 
-abbrev entriesOf : Parsed Held → List (Entry Total)
-entriesOf (stop n) = []
-entriesOf (got a rest) = entriesIn a
+abbrev entriesOf : Parsed Held → Parsed (List (Entry Total))
+entriesOf (stop n) = stop n
+entriesOf (got a rest) = got (entriesIn a) rest
 
-abbrev answerOf : Found → Answer Total
-answerOf (Find.Cell z n k) = found k (record { sum = z; count = n })
-answerOf Find.NoRecord = no-record
-answerOf (Find.Stop n) = no-record
-
--- how many cells an expansion of so many bytes has
-abbrev cellsIn : ℕ → ℕ → ℕ
-cellsIn d n = (n - 4 * 2 ^ d) / (4 * d + 12)
+abbrev lengthOf : Outcome → Parsed ℕ
+lengthOf (stopped n) = stop n
+lengthOf (bytes xs) = got (length xs) []
 
 abbrev built : Example → List ℕ
 built e = bytesOf (builds (tableBytes (record { sizes = e .sizes; rows = e .rows })))
 
-abbrev onBytes : Example → Said
+abbrev onBytes : Example → Told
 onBytes e = record {
+  length = length (built e);
+  check = wordAt (built e) (length (built e) - 4);
   entries = entriesOf (readArchive (built e));
-  cells = cellsIn (length (e .sizes)) (length (bytesOf (expands (built e))));
-  answers = map (λ q. answerOf (looksUp (built e) q)) (e .questions);
+  expansion = lengthOf (expands (built e));
+  answers = map (looksUp (built e)) (e .questions);
 }
 
-pub as-document-01-says : map onBytes examples ≡ map (λ e. e .said) examples
+-- an expansion has a count for each set, and its cells
+abbrev expected : Example → File → Told
+expected e f = record {
+  length = f .length;
+  check = f .check;
+  entries = got (e .said .entries) [];
+  expansion = got (4 * 2 ^ length (e .sizes) + e .said .cells * (4 * length (e .sizes) + 12)) [];
+  answers = map told (e .said .answers);
+}
+
+abbrev expects : List Example → List File → List Told
+expects [] fs = []
+expects (e ∷ es) [] = []
+expects (e ∷ es) (f ∷ fs) = expected e f ∷ expects es fs
+
+abbrev file : ℕ → ℕ → File
+file n w = record { length = n; check = w }
+
+abbrev files : List File
+files = file 324 0x454c5b58 ∷ file 48 0x45425549 ∷ file 124 0x45455566 ∷ file 224 0x45485572 ∷ file 24 0x45425545 ∷ file 104 0x454255a3 ∷ []
+
+pub as-document-01-says : map onBytes examples ≡ expects examples files
 unfolding builds expands looksUp expansionBytes cuboidBytes readTable body row reading readingAt tableBytes folded readArchive walkArchive header field word sum sumAt room many codes rising fair amount list entry bases entries cell cells close wordAt checkOf words archiveBytes required layout baseBytes cellBytes listed single canMake normals shared proper cuboid total grouped reach sets ones onesIn wordsBytes flatMap
 as-document-01-says = refl
 

@@ -2,3 +2,4 @@
 pub mod Promises
 pub mod Room
 pub mod Examples
+pub mod Numbers

@@ -1,9 +1,11 @@
--- The front page: the user's demands 2 and 3 on bytes. Demand 1 is the contracts of the five calls (src/lib.rt), each an equation with its definition in specs/Calls.antt.
+-- The front page: the user's demands 2 and 3 on bytes. Demand 1 is the contracts of the five calls (src/lib.rt of crates build and archive), each an equation
+-- with its definition in crate calls, specs/Calls.antt. Beside this page: Room.antt (outputs that are always enough), Numbers.antt (the number that another language
+-- gets tells a stop from a success), Examples.antt (the worked examples of document 01).
 use mathlib.Core.Path.{_≡_, refl, sym, ap, ap₂, subst, _∙_}
 use mathlib.Core.Logic.{_↔_}
 use mathlib.Core.Bool.{true}
 use mathlib.Core.Option.{some as just}
-use mathlib.Core.List.{List, [], map, flatMap, List·Permᴰ, Memᴰ·cast, Memᴰ·map, Memᴰ·of-map}
+use mathlib.Core.List.{List, [], map, flatMap, List·Permᴰ, List·Memᴰ·eq-of-singleton, Memᴰ·cast, Memᴰ·map, Memᴰ·of-map}
 use Prim.Native.Nat.{ℕ, _+_, _^_, _<_, _≤_}
 use lib.ListN.{length, length-append, length-map, getElem?}
 use borrow.Author.Tests.{lt-ltb}
@@ -15,12 +17,14 @@ use Rattle.walk.specs.Limits.{Bytes}
 use Rattle.cube.specs.declared.Total.{Total}
 use Rattle.cube.specs.Measure.{sums, Row, codesOf}
 use Rattle.cube.specs.Codes.{plain}
+use Rattle.cube.proofs.Codes.{plain-laws}
+use Rattle.cube.proofs.Normals.{base-within}
 use Rattle.cube.specs.Cube.{Exists, total, grouped, complete}
-use Rattle.cube.specs.Condensed.{Entry, base, normal, Answer, no-record, found, lookup, normals, listed, reach, Base, own, stands, Condensed, ours}
+use Rattle.cube.specs.Condensed.{Entry, base, normal, Answer, no-record, found, lookup, normals, listed, reach, Base, own, stands, Permitted, Condensed, ours, expansion}
 use Rattle.cube.proofs.Sums.{sums-add}
 use Rattle.cube.proofs.Folding.{grouped-folded}
-use Rattle.cube.proofs.Promises.{base-rows, no-record-iff, answer, one-entry, fewest-entries, as-few, shortest-list}
-use Rattle.table.specs.Layout.{Held as Table, Limits}
+use Rattle.cube.proofs.Promises.{base-rows, any-expands, ours-condensed, no-record-iff, answer, one-entry, fewest-entries, as-few, shortest-list}
+use Rattle.table.specs.Layout.{Records, TableLimits}
 use Rattle.table.specs.Reading.{readTable, baseRows}
 use Rattle.table.proofs.Accepted.{table-forth}
 use Rattle.entries.specs.Layout.{Based, based, Held, section, cellBytes, required, archiveBytes}
@@ -35,6 +39,7 @@ use Rattle.calls.specs.Answers.{bytes}
 use Rattle.calls.specs.Calls.{outcome, builds, counted, checks, cuboidOf, listsCuboid, expanded, expands, entriesIn, told, looksUp}
 use Rattle.calls.proofs.Entries.{entries-required}
 use Rattle.build.proofs.Folded.{table-rows, folded-within}
+use Rattle.promises.specs.Alone.{Alone}
 
 told-none : (r : Answer Total) → told r ≡ Find.NoRecord → r ≡ no-record
 told-none no-record h = refl
@@ -49,6 +54,10 @@ expanded-required zs rows = rw (required-sizes zs rows, required-rows zs rows)
 
 entries-length : (a : Held) → length (entriesIn a) ≡ length (a .bases) + length (a .cells)
 entries-length a = length-append (map (λ b. base (b .row) (b .list)) (a .bases)) (map normal (a .cells)) ∙ ap₂ _+_ (length-map (a .bases) _) (length-map (a .cells) _)
+
+alone-by : (d : ℕ) (rows : List (Row Total)) → Base (plain d) (codesOf rows) → (f : Entry Total) (x : List ℕ) → Permitted (plain d) rows f → x ∈ stands (plain d) f → Alone d rows f x
+alone-by d rows b (normal r) x p i = List·Memᴰ·eq-of-singleton i
+alone-by d rows b (base r l) x p i = base-within (plain d) (plain-laws d) (codesOf rows) b l x (Memᴰ·map (λ q. q .codes) (p .0)) (p .1) i
 
 -- ---- Demand 2: a question to any accepted archive
 
@@ -89,7 +98,7 @@ module _ (s : List ℕ) (a : Held) (b : Bytes s) (e : readArchive s ≡ got a []
 
 -- ---- Demands 2 and 3: what `build` writes for an accepted table
 
-module _ (s : List ℕ) (t : Table) (b : Bytes s) (e : readTable s ≡ got t []) where
+module _ (s : List ℕ) (t : Records) (b : Bytes s) (e : readTable s ≡ got t []) where
   -- its dimensions, its base rows, and the archive that is written for it
   abbrev D : ℕ
   D = length (t .sizes)
@@ -97,7 +106,7 @@ module _ (s : List ℕ) (t : Table) (b : Bytes s) (e : readTable s ≡ got t [])
   abbrev ourArchive : List ℕ
   ourArchive = archiveBytes (t .sizes) (baseRows t)
 
-  limits : Limits t
+  limits : TableLimits t
   limits = table-forth s t [] b e .0
 
   -- It is the archive of the table's base rows,
@@ -147,10 +156,22 @@ module _ (s : List ℕ) (t : Table) (b : Bytes s) (e : readTable s ≡ got t [])
   pub built-entries : entriesIn held ≡ ours (plain D) sums (baseRows t)
   built-entries = entries-required (t .sizes) (baseRows t)
 
+  -- They are a condensed cube of the table.
+  pub built-condensed : Condensed (plain D) sums (baseRows t) (entriesIn held)
+  built-condensed = subst (λ (es : List (Entry Total)). Condensed (plain D) sums (baseRows t) es) (sym built-entries) (ours-condensed D (baseRows t) rows-of)
+
   -- Every condensed cube of the table, by any writer, has at least as many entries, and as many exactly when its entries lie at the cells of ours, one at each.
   module _ {es : List (Entry Total)} (c : Condensed (plain D) sums (baseRows t) es) where
     pub built-fewest : length (held .bases) + length (held .cells) ≤ length es
     built-fewest = rw (← entries-length held, built-entries) (fewest-entries D (baseRows t) rows-of c)
+
+    -- It stands for a cell other than an entry's own only by a base row, where no other base row falls in the cell.
+    pub stands-alone : (f : Entry Total) → f ∈ es → (x : List ℕ) → x ∈ stands (plain D) f → Alone D (baseRows t) f x
+    stands-alone f m x i = alone-by D (baseRows t) rows-of f x (c .permitted f m) i
+
+    -- and it expands to the complete cube of the table.
+    pub any-built-expands : expansion (plain D) sums es ≡ complete (plain D) sums (t .rows)
+    any-built-expands = any-expands D (t .rows) (table-rows t limits) c
 
     pub built-as-few : (length es ≡ length (held .bases) + length (held .cells)) ↔ List·Permᴰ (map (own (plain D)) es) (map (own (plain D)) (entriesIn held))
     built-as-few = rw (← entries-length held, built-entries) (as-few D (baseRows t) rows-of c)

@@ -21,7 +21,7 @@ use Rattle.cube.specs.Table.{Table as Rows}
 use Rattle.cube.proofs.Cells.{grouped-few}
 use Rattle.cube.proofs.Folding.{folded-few}
 use Rattle.cube.proofs.Counting.{plain-counts}
-use Rattle.table.specs.Layout.{Held as Table, Limits as TableLimits}
+use Rattle.table.specs.Layout.{Records, TableLimits}
 use Rattle.table.specs.Reading.{readTable, baseRows}
 use Rattle.table.proofs.Accepted.{table-forth}
 use Rattle.entries.specs.Layout.{Held, required, archiveBytes, Limits}
@@ -36,6 +36,9 @@ use Rattle.calls.specs.Calls.{builds, dims, listsCuboid, expands}
 use Rattle.build.proofs.Folded.{folded-within}
 use Rattle.promises.specs.Room.{cuboidRoom, expansionRoom, archiveRoom}
 use Rattle.promises.proofs.Promises.{built}
+
+pub coded : (zs : List ℕ) (rows : List (Row Total)) → Limits zs rows → Rows (length zs) rows
+coded zs rows l r m = limits-base zs rows l .valid (r .codes) (Memᴰ·map (λ q. q .codes) m)
 
 -- ---- the results
 
@@ -63,7 +66,7 @@ archive-room zs rows l =
     omega (arith, archive-length zs rows l, sets-listed d rows rows, rest)
 
 -- where it was built, by the rows of the table too
-pub built-room : (t : Table) → TableLimits t → length (archiveBytes (t .sizes) (baseRows t)) ≤ archiveRoom (length (t .sizes)) (length (t .rows))
+pub built-room : (t : Records) → TableLimits t → length (archiveBytes (t .sizes) (baseRows t)) ≤ archiveRoom (length (t .sizes)) (length (t .rows))
 built-room t l = le-trans (archive-room (t .sizes) (baseRows t) (folded-within t l)) (add-le-add (le-refl _) (mul-le-mul-right _ (folded-few sums (length (t .sizes)) (t .rows))))
 
 -- ---- the calls
@@ -72,24 +75,24 @@ enough : (xs : List ℕ) (k : ℕ) → length xs ≤ k → within k (bytes xs) �
 enough xs k h = rw (le-leb (length xs) k h)
 
 -- by the row count of a table
-pub build-enough : (s : List ℕ) (t : Table) → Bytes s → readTable s ≡ got t [] → (k : ℕ) → archiveRoom (length (t .sizes)) (length (t .rows)) ≤ k → within k (builds s) ≡ builds s
+pub build-enough : (s : List ℕ) (t : Records) → Bytes s → readTable s ≡ got t [] → (k : ℕ) → archiveRoom (length (t .sizes)) (length (t .rows)) ≤ k → within k (builds s) ≡ builds s
 build-enough s t b e k h = rw (built s t b e) (enough (archiveBytes (t .sizes) (baseRows t)) k (le-trans (built-room t (table-forth s t [] b e .0)) h))
 
 -- by the base count of an archive
 module _ (s : List ℕ) (a : Held) (b : Bytes s) (e : readArchive s ≡ got a []) (k : ℕ) where
-  coded : Rows (dims a) (rowsIn a)
-  coded r m = limits-base (a .sizes) (rowsIn a) (archive-forth s a [] b e .0) .valid (r .codes) (Memᴰ·map (λ q. q .codes) m)
+  rows-coded : Rows (dims a) (rowsIn a)
+  rows-coded = coded (a .sizes) (rowsIn a) (archive-forth s a [] b e .0)
 
   pub list-enough : (set : ℕ) → cuboidRoom (dims a) (length (a .bases)) ≤ k → within k (listsCuboid s set) ≡ listsCuboid s set
   unfolding listsCuboid
   list-enough set h =
       let g = rw (← length-map (a .bases) (λ q. q .row)) at h in
       cases (truth (ltb set (2 ^ dims a)))
-      (λ f. rw (e, f) (enough (cuboidBytes (dims a) (rowsIn a) set) k (le-trans (cuboid-room (dims a) (rowsIn a) coded set) g)))
+      (λ f. rw (e, f) (enough (cuboidBytes (dims a) (rowsIn a) set) k (le-trans (cuboid-room (dims a) (rowsIn a) rows-coded set) g)))
       (λ f. rw (e, f))
 
   pub expand-enough : expansionRoom (dims a) (length (a .bases)) ≤ k → within k (expands s) ≡ expands s
   unfolding expands
   expand-enough h =
       let g = rw (← length-map (a .bases) (λ q. q .row)) at h in
-      rw e (enough (expansionBytes (dims a) (rowsIn a)) k (le-trans (expansion-room (dims a) (rowsIn a) coded) g))
+      rw e (enough (expansionBytes (dims a) (rowsIn a)) k (le-trans (expansion-room (dims a) (rowsIn a) rows-coded) g))

@@ -5,15 +5,12 @@ use mathlib.Core.Option.{some as just}
 use mathlib.Core.List.{List, [], _∷_}
 use Prim.Native.Nat.{ℕ, zero, suc, _+_, _*_, _≤_, _<_}
 use native.Mathlib.Omega.{arith}
-use lib.Dec.{ltb}
 use lib.ListN.{length, getD, getElem?, length-map}
-use borrow.Author.Tests.{ltb-true, ltb-false}
 use Rattle.lists.specs.Lists.{_∈_}
-use Rattle.lists.specs.Order.{same}
-use Rattle.lists.proofs.Tests.{cases, truth}
+use Rattle.lists.specs.Search.{Between}
 use Rattle.lists.proofs.Members.{at-in, in-at}
 use Rattle.lists.proofs.Places.{map-at}
-use Rattle.lists.proofs.Order.{same-eq, same-refl}
+use Rattle.lists.proofs.Search.{rising-found}
 use Rattle.lattice.specs.Sets.{sets}
 use Rattle.cube.specs.declared.Total.{Total}
 use Rattle.cube.specs.Measure.{Row, sums as measure, codesOf}
@@ -23,13 +20,13 @@ use Rattle.cube.specs.Cube.{within, total}
 use Rattle.cube.specs.Condensed.{Answer, no-record, found, single, normals, Base, lookup, ours}
 use Rattle.cube.proofs.Codes.{plain-laws}
 use Rattle.cube.proofs.Cells.{single-within, crowd-within}
+use Rattle.cube.proofs.Keys.{comesBefore, by-keys, normals-rising}
 use Rattle.cube.proofs.Promises.{normal-cells, ours-condensed, row-answers, normal-answers}
 use Rattle.cube.proofs.Questions.{lookup-none}
 use Rattle.rows.specs.Rows.{rowAt}
 use Rattle.rows.proofs.Flat.{blank}
 use Rattle.entries.specs.Places.{rowThere}
-use Rattle.questions.specs.Questions.{First, Finds, Held}
-use Rattle.questions.proofs.Search.{liesAt}
+use Rattle.questions.specs.Questions.{First, entryBefore, NormalsAt}
 use Rattle.questions.proofs.Stored.{held-count, held-there}
 
 -- the member at a place
@@ -69,24 +66,19 @@ module _ (d : ℕ) (rows : List (Row Total)) (b : Base (plain d) (codesOf rows))
     shared-cell e =
         normal-cells d rows b c .1 (subst (λ (y : List ℕ). 2 ≤ length (within (plain d) xs y)) (sym (own .1)) (crowd-within (plain d) (plain-laws d) xs b (own .0) there e))
 
-  -- the search among the normal entries finds the one at the cell
-  module _ {s : List ℕ} {at n k : ℕ} (held : Held s at n d rows) (m : Summable rows) (e : length c ≡ d) (g : Finds s at n c k) (i : c ∈ cells) where
-    lies : (j : ℕ) → j < n → liesAt s at c j ≡ same (getD cells j []) c
-    lies j h = rw e (ap (λ (r : Row Total). same (r .codes) c) (held-there held b m j h))
+  -- the search among the normal entries, which rise by their keys, finds the one at the cell
+  module _ {s : List ℕ} {at n k : ℕ} (held : NormalsAt s at n d rows) (m : Summable rows) (e : length c ≡ d) (g : Between (entryBefore s at c) n k k) (i : c ∈ cells) where
+    stored : (j : ℕ) → j < length cells → entryBefore s at c j ≡ comesBefore (getD cells j []) c
+    stored j h = rw e (ap (λ (r : Row Total). comesBefore (r .codes) c) (held-there held b m j (omega (arith, h, held-count held))))
 
-    pub found-here : (k < n) × (getD cells k [] ≡ c)
-    found-here =
-        let j = in-at [] i in
-        let h : j .0 < n = omega (arith, j .1, held-count held) in
-        let t : liesAt s at c (j .0) ≡ true = lies (j .0) h ∙ ap (λ (x : List ℕ). same x c) (j .2) ∙ same-refl c in
-        let l : k < n = cases (truth (ltb (j .0) k))
-        (λ q. absurd (false≢true (sym (g .before (j .0) (ltb-true (j .0) k q)) ∙ t)))
-        (λ q. omega (arith, ltb-false (j .0) k q)) in
-        (l, same-eq (getD cells k []) c (sym (lies k l) ∙ g .here l))
+    here : (k < length cells) × (getD cells k [] ≡ c)
+    here = rising-found [] by-keys (normals-rising d xs b) i (entryBefore s at c) stored (subst (λ (l : ℕ). Between (entryBefore s at c) l k k) (held-count held) g)
+
+    pub found-here : k < n
+    found-here = omega (arith, here .0, held-count held)
 
     pub answer-normal : answer ≡ found (length rows + k) (rowThere s d (at + k * (4 * d + 12)) .total)
     answer-normal =
-        let h : k < length cells = omega (arith, found-here .0, held-count held) in
-        let q = found-here .1 in
-        normal-answers d rows b c k (just-at [] cells k h ∙ ap just q)
-        ∙ ap (found (length rows + k)) (ap (total (plain d) measure rows) (sym q) ∙ sym (ap (λ (r : Row Total). r .total) (held-there held b m k (found-here .0))))
+        let q = here .1 in
+        normal-answers d rows b c k (just-at [] cells k (here .0) ∙ ap just q)
+        ∙ ap (found (length rows + k)) (ap (total (plain d) measure rows) (sym q) ∙ sym (ap (λ (r : Row Total). r .total) (held-there held b m k found-here)))

@@ -7,6 +7,7 @@ use native.Mathlib.Omega.{arith}
 use lib.IntN.{ℤ, pos}
 use lib.ListN.{length, getD}
 use Rattle.lists.specs.Lists.{_∈_}
+use Rattle.lists.specs.Search.{Between}
 use Rattle.fields.specs.Words.{wordAt}
 use Rattle.fields.specs.Twos.{sumAt}
 use Rattle.cube.specs.declared.Total.{Total}
@@ -21,7 +22,7 @@ use Rattle.singles.specs.Ready.{Ready}
 use Rattle.singles.proofs.Ready.{ready-base}
 use Rattle.questions.specs.declared.Look.{Look}
 use Rattle.questions.specs.declared.Look.the-variants.{NoRecord, Cell}
-use Rattle.questions.specs.Questions.{looked, First, Finds, Held}
+use Rattle.questions.specs.Questions.{looked, First, entryBefore, NormalsAt}
 use Rattle.questions.proofs.Stored.{held-count, held-room, held-within}
 use Rattle.questions.proofs.Answers.{answer-none, answer-row, shared-cell, found-here, answer-normal}
 
@@ -45,7 +46,7 @@ module _ {d n : ℕ} {codes : List ℕ} {sums : List ℤ} {counts : List ℕ} (r
   base = rw same-codes (ready-base ready)
 
   -- the bytes of the normal entries
-  pub asked-room : {s : List ℕ} {at m : ℕ} → Held s at m d table → at + m * (4 * d + 12) ≤ length s
+  pub asked-room : {s : List ℕ} {at m : ℕ} → NormalsAt s at m d table → at + m * (4 * d + 12) ≤ length s
   asked-room held = held-room held base (ready .summable)
 
   -- no row falls in the cell
@@ -69,12 +70,12 @@ module _ {d n : ℕ} {codes : List ℕ} {sums : List ℤ} {counts : List ℕ} (r
         ∙ ap (λ (r : Row Total). found i (r .total)) (rows-at d n i codes sums counts h)))
 
     -- two or more do
-    module _ {s : List ℕ} {at m k : ℕ} (held : Held s at m d table) (e : length c ≡ d) (g : Finds s at m c k) (p : alone ≡ false) where
+    module _ {s : List ℕ} {at m k : ℕ} (held : NormalsAt s at m d table) (e : length c ≡ d) (g : Between (entryBefore s at c) m k k) (p : alone ≡ false) where
       normal : c ∈ normals (plain d) (codesOf table)
       normal = shared-cell d table base c i inside falls-here (rw same-codes p)
 
       here : k < m
-      here = found-here d table base c held (ready .summable) e g normal .0
+      here = found-here d table base c held (ready .summable) e g normal
 
       pub asked-normal : Entry s (at + k * (4 * d + 12)) d (n + k) asked
       asked-normal = record {

@@ -1,4 +1,4 @@
--- Tests of two lists, one dimension after the other: whether a row falls in a cell, a question fits the sizes, and words are those of a cell.
+-- Tests of two lists, one dimension after the other: whether a row falls in a cell, and a question fits the sizes.
 use mathlib.Core.Path.{_≡_, refl, ap}
 use mathlib.Core.Logic.{_≢_}
 use mathlib.Core.Bool.{Bool, true, false, _&&_, _||_, or-true, and-false}
@@ -9,7 +9,6 @@ use lib.Dec.{eqb, ltb}
 use lib.ListN.{length, getD, drop, drop-of-length-le}
 use lib.Seq.{drop-cons}
 use borrow.Author.Tests.{ne-eqb, eq-eqb, lt-ltb, le-ltb}
-use Rattle.lists.specs.Order.{same}
 use Rattle.cube.specs.Codes.{ALL, falls}
 use Rattle.questions.specs.Questions.{asks}
 
@@ -73,8 +72,3 @@ allows-all z c e = rw (e, or-true)
 
 pub allows-not : (z c : ℕ) → z ≤ c → eqb c ALL ≡ false → allows z c ≡ false
 allows-not z c h e = rw (le-ltb c z h, e)
-
--- ---- a word and a cell's code
-
-pub same-pairs : ByPairs same eqb
-same-pairs = record { none = refl; more = λ a b x y. refl }

@@ -1,19 +1,17 @@
--- The search for the first place that passes a test: the first row that falls in a cell, and the first entry that lies at it.
+-- The search for the first row that falls in a cell.
 use mathlib.Core.Path.{_≡_, subst, sym}
 use mathlib.Core.Bool.{Bool, true, false}
 use mathlib.Core.List.{List}
-use Prim.Native.Nat.{ℕ, _+_, _*_, _≤_, _<_}
+use Prim.Native.Nat.{ℕ, _+_, _≤_, _<_}
 use native.Mathlib.Nat.{not-suc-le-zero}
 use native.Mathlib.Omega.{arith}
 use lib.Dec.{eqb}
 use lib.ListN.{length}
 use borrow.Author.Tests.{eqb-true, eqb-false}
-use Rattle.lists.specs.Order.{same}
 use Rattle.lists.proofs.Tests.{cases, truth}
-use Rattle.fields.specs.Words.{wordsAt}
 use Rattle.cube.specs.Codes.{falls}
 use Rattle.rows.specs.Rows.{rowAt}
-use Rattle.questions.specs.Questions.{First, Finds}
+use Rattle.questions.specs.Questions.{First}
 
 -- no place before i passes the test
 pub record NoneBefore (f : ℕ → Bool) (i : ℕ) : Type 0 where
@@ -38,13 +36,3 @@ first-here h b e = record { within = omega (arith, h); before = b .fails; here =
 
 pub first-none : {c : List ℕ} {xs : List (List ℕ)} {n i : ℕ} → length xs ≡ n → n ≤ i → NoneBefore (rowFalls c xs) i → First c xs n
 first-none q h b = record { within = omega (arith, q); before = λ k l. b .fails k (omega (arith, h, l)); here = λ k. absurd (omega (arith, q, k)) }
-
--- entry k from a place on lies at cell c
-abbrev pub liesAt : List ℕ → ℕ → List ℕ → ℕ → Bool
-liesAt s at c k = same (wordsAt s (length c) (at + k * (4 * length c + 12))) c
-
-pub finds-here : {s : List ℕ} {at n k : ℕ} {c : List ℕ} → k < n → NoneBefore (liesAt s at c) k → liesAt s at c k ≡ true → Finds s at n c k
-finds-here h b e = record { within = omega (arith, h); before = b .fails; here = λ i. e }
-
-pub finds-none : {s : List ℕ} {at n k : ℕ} {c : List ℕ} → n ≤ k → NoneBefore (liesAt s at c) k → Finds s at n c n
-finds-none h b = record { within = omega arith; before = λ j l. b .fails j (omega (arith, h, l)); here = λ i. absurd (omega (arith, i)) }

@@ -25,7 +25,7 @@ use Rattle.entries.proofs.There.{cell-there}
 use Rattle.entries.proofs.Lengths.{cell-length}
 use Rattle.entries.proofs.Limits.{normals-wide}
 use Rattle.condense.specs.Shared.{normalRows}
-use Rattle.questions.specs.Questions.{Held}
+use Rattle.questions.specs.Questions.{NormalsAt}
 
 -- ---- things of equal length, one behind the other
 
@@ -47,7 +47,7 @@ module _ {A : Type 0} (bytes : A → List ℕ) (width : ℕ) (a : A) where
 
 -- ---- the normal entries
 
-module _ {s : List ℕ} {at n d : ℕ} {rows : List (Row Total)} (held : Held s at n d rows) where
+module _ {s : List ℕ} {at n d : ℕ} {rows : List (Row Total)} (held : NormalsAt s at n d rows) where
   abbrev cells : List (List ℕ)
   cells = normals (plain d) (codesOf rows)
 

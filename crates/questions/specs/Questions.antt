@@ -1,23 +1,23 @@
 -- Questions to an archive (document 01: "A looked-up cell returns sum, count and the number of the entry that carries them").
 --
---   asks zs q           q is a question to an archive of these sizes: a code below its size, or ALL, for each dimension (number 13)
---   Look                'no record', or a cell's sum and count and its entry's number: the enum of src/lib.rt
---   looked a            the enum's case and values for an answer
---   First c xs r        r is the place of the first of the codes xs that fall in cell c, or how many there are
---   Finds s at n c r    r is the first of n entries from a place on that lies at cell c, or n
---   Held s at n d rows  the bytes s have the n normal entries of base rows from a place on
+--   asks zs q                 q is a question to an archive of these sizes: a code below its size, or ALL, for each dimension (number 13)
+--   Look                      'no record', or a cell's sum and count and its entry's number: the enum of src/lib.rt
+--   looked a                  the enum's case and values for an answer
+--   First c xs r              r is the place of the first of the codes xs that fall in cell c, or how many there are
+--   entryBefore s at c k      entry k from a place on is listed before cell c
+--   NormalsAt s at n d rows   the bytes s have the n normal entries of base rows from a place on
 use mathlib.Core.Path.{_≡_}
 use mathlib.Core.Bool.{Bool, true, false, _&&_, _||_}
 use mathlib.Core.List.{List, [], _∷_, flatMap}
 use Prim.Native.Nat.{ℕ, _+_, _*_, _≤_, _<_}
 use lib.Dec.{eqb, ltb}
 use lib.ListN.{length, drop}
-use Rattle.lists.specs.Order.{same}
+use Rattle.lists.specs.Order.{earlier}
 use Rattle.fields.specs.Words.{wordsAt}
 use Rattle.fields.specs.Opening.{startsWith}
 use Rattle.cube.specs.declared.Total.{Total}
 use Rattle.cube.specs.Measure.{Row}
-use Rattle.cube.specs.Codes.{ALL, falls}
+use Rattle.cube.specs.Codes.{ALL, falls, keys}
 use Rattle.cube.specs.Condensed.{Answer, no-record, found}
 use Rattle.rows.specs.Rows.{rowAt}
 use Rattle.entries.specs.Layout.{cellBytes}
@@ -40,12 +40,10 @@ pub record First (c : List ℕ) (xs : List (List ℕ)) (r : ℕ) : Type 0 where
   pub before : (i : ℕ) → i < r → falls c (rowAt xs i) ≡ false
   pub here : r < length xs → falls c (rowAt xs r) ≡ true
 
-pub record Finds (s : List ℕ) (at n : ℕ) (c : List ℕ) (r : ℕ) : Type 0 where
-  pub within : r ≤ n
-  pub before : (k : ℕ) → k < r → same (wordsAt s (length c) (at + k * (4 * length c + 12))) c ≡ false
-  pub here : r < n → same (wordsAt s (length c) (at + r * (4 * length c + 12))) c ≡ true
+abbrev pub entryBefore : List ℕ → ℕ → List ℕ → ℕ → Bool
+entryBefore s at c k = earlier (keys (wordsAt s (length c) (at + k * (4 * length c + 12)))) (keys c)
 
-pub record Held (s : List ℕ) (at n d : ℕ) (rows : List (Row Total)) : Type 0 where
+pub record NormalsAt (s : List ℕ) (at n d : ℕ) (rows : List (Row Total)) : Type 0 where
   pub within : at ≤ length s
   pub bytes : startsWith (drop at s) (flatMap cellBytes (normalRows d rows)) ≡ true
   pub count : n ≡ length (normalRows d rows)

@@ -2,14 +2,15 @@
 ghost use mathlib.Core.Path.{_≡_};
 ghost use Prim.Native.Nat.{_+_, _*_, _≤_};
 ghost use lib.ListN.{length};
-ghost use Rattle.lists.specs.Order.{same};
+ghost use Rattle.lists.specs.Order.{earlier};
+ghost use Rattle.lists.specs.Search.{Between};
 ghost use Rattle.fields.specs.Words.{wordsAt};
 ghost use Rattle.cube.specs.Measure.{sums as measure};
-ghost use Rattle.cube.specs.Codes.{falls, set-of, plain};
+ghost use Rattle.cube.specs.Codes.{falls, set-of, keys, plain};
 ghost use Rattle.cube.specs.Condensed.{ours, lookup};
 ghost use Rattle.rows.specs.Rows.{cut, rowsOf};
 ghost use Rattle.singles.specs.Ready.{Ready};
-ghost use Rattle.questions.specs.Questions.{asks, looked, First, Finds, Held};
+ghost use Rattle.questions.specs.Questions.{asks, looked, First, entryBefore, NormalsAt};
 
 // What a question is answered by: no entry, or the sum and the count that an entry carries, and its number.
 pub enum Look {
@@ -79,33 +80,56 @@ fn first_row(codes: &[u32], rows: usize, dims: usize, cell: &[u32]) -> usize
     rows
 }
 
-// Whether the words at a place are those of a cell.
-fn same_words(s: &[u8], at: usize, cell: &[u32]) -> bool
-    requires { ⌜ at + 4 * length (now cell) ≤ length (now s) ⌝ }
-    ensures { λ r. ⌜ r ≡ same (wordsAt (now (s .entry)) (length (now (cell .entry))) at) (now (cell .entry)) ⌝ }
+// Whether a cell is listed before another: fewer dimensions first, then the smaller set number, then the codes; 255 is the set of all dimensions.
+fn cell_before(mine: &[u32], cell: &[u32]) -> bool
+    requires { ⌜ (length (now mine) ≡ length (now cell)) × (length (now cell) ≤ 8) ⌝ }
+    ensures { λ r. ⌜ r ≡ earlier (keys (now (mine .entry))) (keys (now (cell .entry))) ⌝ }
 {
-    for d in 0..cell.len() {
-        if fields::word_at(s, at + 4 * d) != cell[d] {
-            return false;
-        }
+    let set = set_of(mine);
+    let other = set_of(cell);
+    let size = lattice::size_of_set(set);
+    let other_size = lattice::size_of_set(other);
+    if size != other_size {
+        return size < other_size;
     }
-    true
+    if set != other {
+        return set < other;
+    }
+    match rows::compare(mine, cell, 255) {
+        rows::Order::Before => true,
+        rows::Order::Equal => false,
+        rows::Order::After => false,
+    }
 }
 
-// The first of n entries from a place on that lies at a cell, or how many there are.
+// Whether the entry at a place is listed before a cell.
+fn entry_before(s: &[u8], at: usize, cell: &[u32]) -> bool
+    requires { ⌜ (length (now cell) ≤ 8) × (at + 4 * length (now cell) ≤ length (now s)) ⌝ }
+    ensures { λ r. ⌜ r ≡ earlier (keys (wordsAt (now (s .entry)) (length (now (cell .entry))) at)) (keys (now (cell .entry))) ⌝ }
+{
+    let dims = cell.len();
+    let mut mine = [0u32; 8];
+    fields::read_words(s, at, &mut mine[..dims]);
+    cell_before(&mine[..dims], cell)
+}
+
+// The place of a cell among n entries from a place on, by halving: the entry straight before it is listed before the cell, and the entry at it is not.
 fn find_cell(s: &[u8], at: usize, n: usize, cell: &[u32]) -> usize
-    requires { ⌜ at + n * (4 * length (now cell) + 12) ≤ length (now s) ⌝ }
-    ensures { λ r. ⌜ Finds (now (s .entry)) at n (now (cell .entry)) r ⌝ }
+    requires { ⌜ (length (now cell) ≤ 8) × (at + n * (4 * length (now cell) + 12) ≤ length (now s)) ⌝ }
+    ensures { λ r. ⌜ Between (entryBefore (now (s .entry)) at (now (cell .entry))) n r r ⌝ }
 {
     let width = 4 * cell.len() + 12;
-    let mut place = at;
-    for k in 0..n {
-        if same_words(s, place, cell) {
-            return k;
+    let mut low = 0;
+    let mut high = n;
+    while low < high {
+        let mid = low + (high - low) / 2;
+        if entry_before(s, at + mid * width, cell) {
+            low = mid + 1;
+        } else {
+            high = mid;
         }
-        place += width;
     }
-    n
+    low
 }
 
 // The entry that stands for a cell: that of the one row that falls in it, or else the normal entry at the cell. The n normal entries stand in the bytes s from a place on.
@@ -121,7 +145,7 @@ pub fn answer(
     cell: &[u32],
 ) -> Look
     requires { ⌜ Ready dims rows (now codes) (now sums) (now counts) × (length (now cell) ≡ dims) ⌝ }
-    requires { ⌜ Held (now s) at n dims (rowsOf dims rows (now codes) (now sums) (now counts)) ⌝ }
+    requires { ⌜ NormalsAt (now s) at n dims (rowsOf dims rows (now codes) (now sums) (now counts)) ⌝ }
     ensures { λ r. ⌜ r ≡ looked (lookup (plain dims) (now (cell .entry)) (ours (plain dims) measure (rowsOf dims rows (now (codes .entry)) (now (sums .entry)) (now (counts .entry))))) ⌝ }
 {
     let i = first_row(codes, rows, dims, cell);

@@ -7,7 +7,7 @@ ghost use lib.ListN.{drop};
 ghost use Rattle.walk.specs.Fields.{header, close};
 ghost use Rattle.walk.specs.Walked.{Walked};
 ghost use Rattle.entries.specs.Layout.{CUBE};
-ghost use Rattle.entries.specs.Reading.{walkArchive, answer, Stored};
+ghost use Rattle.entries.specs.Reading.{walkArchive, archiveAnswer, Stored};
 ghost use Rattle.sections.specs.Sections.{wordThere, basesFrom, cellsFrom};
 ghost use Rattle.reader.specs.Place.{readerAt};
 
@@ -67,7 +67,7 @@ fn close<'a>(r: Reader<'a>) -> Walk
 
 // All fields of an archive: the reader steps from section to section, up to the first stop.
 fn check_archive(s: &[u8]) -> ArchiveRead
-    ensures { λ r. ⌜ r ≡ answer (walkArchive (now (s .entry))) ⌝ }
+    ensures { λ r. ⌜ r ≡ archiveAnswer (walkArchive (now (s .entry))) ⌝ }
 {
     let r = start(s);
     let base = match header(r) {
@@ -99,7 +99,7 @@ pub fn read_archive(
     sums: &mut [i64; 1024],
     counts: &mut [u32; 1024],
 ) -> ArchiveRead
-    ensures { λ r. ⌜ r ≡ answer (walkArchive (now (s .entry))) ⌝ }
+    ensures { λ r. ⌜ r ≡ archiveAnswer (walkArchive (now (s .entry))) ⌝ }
     ensures { λ r. ⌜ Stored (walkArchive (now (s .entry))) (now (codes .exit)) (now (sums .exit)) (now (counts .exit)) ⌝ }
 {
     match check_archive(s) {

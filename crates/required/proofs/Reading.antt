@@ -17,7 +17,7 @@ use Rattle.cube.specs.declared.Total.{Total}
 use Rattle.cube.specs.Measure.{Row}
 use Rattle.rows.specs.Rows.{rowsOf}
 use Rattle.entries.specs.Layout.{Held, archiveBytes}
-use Rattle.entries.specs.Reading.{walkArchive, judged, readArchive, rowsIn, answer, Stored}
+use Rattle.entries.specs.Reading.{walkArchive, judged, readArchive, rowsIn, archiveAnswer, Stored}
 use Rattle.entries.specs.declared.ArchiveRead.the-variants as Answer
 use Rattle.entries.proofs.Fields.{Accepted, accepted}
 use Rattle.entries.proofs.Walkable.{walk-forth}
@@ -28,7 +28,7 @@ use Rattle.required.proofs.Judged.{sizes-at}
 stored-walked : (p : Parsed Held) {a : Held} {rest : List ℕ} (c : List ℕ) (t : List ℤ) (k : List ℕ) → p ≡ got a rest → Stored p c t k → rowsOf (length (a .sizes)) (length (a .bases)) c t k ≡ rowsIn a
 stored-walked p c t k e h = subst (λ (q : Parsed Held). Stored q c t k) e h
 
-module _ {s : List ℕ} {d n m : ℕ} (b : Bytes s) (e : answer (walkArchive s) ≡ Answer.Entries d n m) where
+module _ {s : List ℕ} {d n m : ℕ} (b : Bytes s) (e : archiveAnswer (walkArchive s) ≡ Answer.Entries d n m) where
   abbrev walk : Accepted s d n
   walk = accepted s d n e
 
@@ -64,24 +64,24 @@ module _ {s : List ℕ} {d n m : ℕ} (b : Bytes s) (e : answer (walkArchive s) 
 
 -- ---- stop 12
 
-module _ {s : List ℕ} {d n m : ℕ} {codes : List ℕ} {sums : List ℤ} {counts : List ℕ} (e : answer (walkArchive s) ≡ Answer.Entries d n m) (r : Read s d n codes sums counts) where
+module _ {s : List ℕ} {d n m : ℕ} {codes : List ℕ} {sums : List ℤ} {counts : List ℕ} (e : archiveAnswer (walkArchive s) ≡ Answer.Entries d n m) (r : Read s d n codes sums counts) where
   due : same s (archiveBytes (wordsAt s d 8) (rowsOf d n codes sums counts)) ≡ same s (archiveBytes (r .held .sizes) (rowsIn (r .held)))
   due =
       ap₂ (λ (zs : List ℕ) (rows : List (Row Total)). same s (archiveBytes zs rows)) (sym (sizes-at s (r .walked) ∙ ap (λ (k : ℕ). wordsAt s k 8) (r .dims))) (r .rows)
 
-  pub passed-required : true ≡ same s (archiveBytes (wordsAt s d 8) (rowsOf d n codes sums counts)) → Answer.Entries d n m ≡ answer (readArchive s)
+  pub passed-required : true ≡ same s (archiveBytes (wordsAt s d 8) (rowsOf d n codes sums counts)) → Answer.Entries d n m ≡ archiveAnswer (readArchive s)
   unfolding readArchive
   passed-required h = let g = sym (h ∙ due) in sym e ∙ rw (r .walked, g)
 
-  pub stopped-required : false ≡ same s (archiveBytes (wordsAt s d 8) (rowsOf d n codes sums counts)) → Answer.Stop 12 ≡ answer (readArchive s)
+  pub stopped-required : false ≡ same s (archiveBytes (wordsAt s d 8) (rowsOf d n codes sums counts)) → Answer.Stop 12 ≡ archiveAnswer (readArchive s)
   unfolding readArchive
   stopped-required h = let g = sym (h ∙ due) in rw (r .walked, g)
 
-pub stop-required : (s : List ℕ) {n : ℕ} → answer (walkArchive s) ≡ Answer.Stop n → Answer.Stop n ≡ answer (readArchive s)
+pub stop-required : (s : List ℕ) {n : ℕ} → archiveAnswer (walkArchive s) ≡ Answer.Stop n → Answer.Stop n ≡ archiveAnswer (readArchive s)
 unfolding readArchive
 stop-required s {n} e = go (walkArchive s) e
   where
-    go : (p : Parsed Held) → answer p ≡ Answer.Stop n → Answer.Stop n ≡ answer (andThen p (judged s))
+    go : (p : Parsed Held) → archiveAnswer p ≡ Answer.Stop n → Answer.Stop n ≡ archiveAnswer (andThen p (judged s))
     go (stop k) f = sym f
     go (got a rest) f = let z : false ≡ true = cc in absurd (false≢true z)
 

@@ -10,7 +10,7 @@ ghost use Rattle.cube.specs.Codes.{plain};
 ghost use Rattle.cube.specs.Condensed.{normals};
 ghost use Rattle.rows.specs.Rows.{cut, rowsOf};
 ghost use Rattle.entries.specs.Layout.{archiveBytes};
-ghost use Rattle.entries.specs.Reading.{walkArchive, readArchive, answer, Stored};
+ghost use Rattle.entries.specs.Reading.{walkArchive, readArchive, archiveAnswer, Stored};
 ghost use Rattle.writing.specs.Matched.{Matched};
 ghost use Rattle.bases.specs.Listed.{Listed};
 ghost use Rattle.required.specs.Read.{Read, sections};
@@ -115,9 +115,9 @@ fn judge_read(
     bases: u32,
     cells: u32,
 ) -> ArchiveRead
-    requires { ⌜ answer (walkArchive (now s)) ≡ ArchiveRead.Entries dims bases cells ⌝ }
+    requires { ⌜ archiveAnswer (walkArchive (now s)) ≡ ArchiveRead.Entries dims bases cells ⌝ }
     requires { ⌜ (8192 ≤ length (now codes)) × (1024 ≤ length (now sums)) × (1024 ≤ length (now counts)) × Stored (walkArchive (now s)) (now codes) (now sums) (now counts) ⌝ }
-    ensures { λ r. ⌜ r ≡ answer (readArchive (now (s .entry))) ⌝ }
+    ensures { λ r. ⌜ r ≡ archiveAnswer (readArchive (now (s .entry))) ⌝ }
 {
     let d = dims as usize;
     let n = bases as usize;
@@ -136,7 +136,7 @@ pub fn read_required(
     sums: &mut [i64; 1024],
     counts: &mut [u32; 1024],
 ) -> ArchiveRead
-    ensures { λ r. ⌜ r ≡ answer (readArchive (now (s .entry))) ⌝ }
+    ensures { λ r. ⌜ r ≡ archiveAnswer (readArchive (now (s .entry))) ⌝ }
     ensures { λ r. ⌜ Stored (readArchive (now (s .entry))) (now (codes .exit)) (now (sums .exit)) (now (counts .exit)) ⌝ }
 {
     match reader::read_archive(s, codes, sums, counts) {

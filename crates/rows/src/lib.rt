@@ -5,7 +5,7 @@ ghost use Prim.Native.Nat.{_+_, _*_, _≤_, _<_};
 ghost use lib.ListN.{length};
 ghost use Rattle.fields.specs.Words.{wordsAt};
 ghost use Rattle.lists.specs.Lists.{Distinct};
-ghost use Rattle.cube.specs.Codes.{agree, plain};
+ghost use Rattle.cube.specs.Codes.{plain};
 ghost use Rattle.cube.specs.Condensed.{single};
 ghost use Rattle.rows.specs.Rows.{cut, rowAt, rowsOf};
 ghost use Rattle.rows.specs.Compare.{compared};
@@ -20,27 +20,13 @@ pub fn row_of(codes: &[u32], rows: usize, dims: usize, row: usize) -> &[u32]
     &codes[from..to]
 }
 
-// Whether two rows agree on a set.
-pub fn agrees(mine: &[u32], other: &[u32], set: u32) -> bool
-    requires { ⌜ length (now mine) ≡ length (now other) ⌝ }
-    ensures { λ r. ⌜ r ≡ agree set (now (mine .entry)) (now (other .entry)) ⌝ }
-{
-    let mut rest = set;
-    for d in 0..mine.len() {
-        if rest % 2 == 1 && mine[d] != other[d] {
-            return false;
-        }
-        rest = rest / 2;
-    }
-    true
-}
-
 // Whether no other row agrees with `row` on a set: the first other row that agrees settles it.
 pub fn is_single(codes: &[u32], rows: usize, dims: usize, row: usize, set: u32) -> bool
     requires { ⌜ (rows * dims ≡ length (now codes)) × (row < rows) × Distinct (cut dims rows (now codes)) ⌝ }
     ensures { λ r. ⌜ r ≡ single (plain dims) (cut dims rows (now (codes .entry))) set (rowAt (cut dims rows (now (codes .entry))) row) ⌝ }
 {
     let mine = row_of(codes, rows, dims, row);
+    let mut alone = true;
     'rows: for i in 0..rows {
         if i == row {
             continue;
@@ -53,9 +39,10 @@ pub fn is_single(codes: &[u32], rows: usize, dims: usize, row: usize, set: u32) 
             }
             rest = rest / 2;
         }
-        return false;
+        alone = false;
+        break 'rows;
     }
-    true
+    alone
 }
 
 // How two rows are ordered under a set.

@@ -14,7 +14,7 @@ use Rattle.walk.specs.Walked.{Walked}
 use Rattle.walk.proofs.Steps.{walked-as}
 use Rattle.entries.specs.declared.ArchiveRead.the-variants as Answer
 use Rattle.entries.specs.Layout.{CUBE}
-use Rattle.entries.specs.Reading.{bases, cells, walkArchive, answer}
+use Rattle.entries.specs.Reading.{bases, cells, walkArchive, archiveAnswer}
 use Rattle.entries.proofs.Entries.{bases-read}
 use Rattle.entries.proofs.Cells.{cells-read}
 use Rattle.entries.proofs.Walking.{Opened, opened, header-stop, bases-stop, cells-stop, close-stop, entries-told}
@@ -41,7 +41,7 @@ whole-word : (s : List ℕ) (at : ℕ) → at + 4 ≤ length s → wordThere s a
 whole-word s at h = rw (le-leb (at + 4) (length s) h)
 
 module _ (s : List ℕ) where
-  pub header-halts : {n : ℕ} → Walked s (header CUBE s) (Stop n) → Answer.Stop n ≡ answer (walkArchive s)
+  pub header-halts : {n : ℕ} → Walked s (header CUBE s) (Stop n) → Answer.Stop n ≡ archiveAnswer (walkArchive s)
   header-halts h = header-stop s (h .says)
 
   module _ {p : ℕ} (h : Walked s (header CUBE s) (At p)) where
@@ -54,18 +54,18 @@ module _ (s : List ℕ) where
     celled : {w : Walk} (k : ℕ) → Walked s (cellsFrom s k) w → Walked s (cells (wordAt s 4) (drop k s)) w
     celled k g = walked-as (sym (cells-on s k (front .read) ∙ ap (λ (d : ℕ). cells d (drop k s)) (length-wordsAt s (wordAt s 4) 8))) g
 
-    pub bases-halts : {n : ℕ} → Walked s (basesFrom s p) (Stop n) → Answer.Stop n ≡ answer (walkArchive s)
+    pub bases-halts : {n : ℕ} → Walked s (basesFrom s p) (Stop n) → Answer.Stop n ≡ archiveAnswer (walkArchive s)
     bases-halts f = bases-stop s front (based f .says)
 
     module _ {k : ℕ} (f : Walked s (basesFrom s p) (At k)) where
-      pub cells-halts : {n : ℕ} → Walked s (cellsFrom s k) (Stop n) → Answer.Stop n ≡ answer (walkArchive s)
+      pub cells-halts : {n : ℕ} → Walked s (cellsFrom s k) (Stop n) → Answer.Stop n ≡ archiveAnswer (walkArchive s)
       cells-halts g = cells-stop s front (based f .says) (celled k g .says)
 
       module _ {e : ℕ} (g : Walked s (cellsFrom s k) (At e)) where
-        pub close-halts : {n : ℕ} → Walked s (close s (drop e s)) (Stop n) → Answer.Stop n ≡ answer (walkArchive s)
+        pub close-halts : {n : ℕ} → Walked s (close s (drop e s)) (Stop n) → Answer.Stop n ≡ archiveAnswer (walkArchive s)
         close-halts u = close-stop s front (based f .says) (celled k g .says) (u .says)
 
-        pub counted : {n d b c : ℕ} → Walked s (close s (drop e s)) (At n) → d ≡ wordThere s 4 → b ≡ wordThere s p → c ≡ wordThere s k → Answer.Entries d b c ≡ answer (walkArchive s)
+        pub counted : {n d b c : ℕ} → Walked s (close s (drop e s)) (At n) → d ≡ wordThere s 4 → b ≡ wordThere s p → c ≡ wordThere s k → Answer.Entries d b c ≡ archiveAnswer (walkArchive s)
         counted {n} {d} {b} {c} u x y z =
             let d′ : d ≡ wordAt s 4 = x ∙ whole-word s 4 (omega (arith, front .whole, front .some)) in
             let b′ : b ≡ wordAt s p = y ∙ whole-word s p (bases-read s _ p (front .inside) (based f .says .1) .whole) in

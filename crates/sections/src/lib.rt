@@ -27,7 +27,7 @@ pub fn header_at(s: &[u8], at: usize) -> Walk
     if s.len() < at {
         return Walk::Stop(1);
     }
-    match walk::check_header(&s[at..], b"CUBE") {
+    match walk::check_header(&s[at..], &entries::CUBE) {
         Walk::Stop(n) => Walk::Stop(n),
         Walk::At(width) => Walk::At(at + width),
     }
@@ -37,7 +37,7 @@ pub fn header_at(s: &[u8], at: usize) -> Walk
 pub fn bases_at(s: &[u8], at: usize) -> Walk
     ensures { λ r. ⌜ Walked (now (s .entry)) (basesFrom (now (s .entry)) at) r ⌝ }
 {
-    match walk::check_header(s, b"CUBE") {
+    match walk::check_header(s, &entries::CUBE) {
         Walk::Stop(n) => return Walk::Stop(n),
         Walk::At(_) => {}
     }
@@ -54,7 +54,7 @@ pub fn bases_at(s: &[u8], at: usize) -> Walk
 pub fn cells_at(s: &[u8], at: usize) -> Walk
     ensures { λ r. ⌜ Walked (now (s .entry)) (cellsFrom (now (s .entry)) at) r ⌝ }
 {
-    match walk::check_header(s, b"CUBE") {
+    match walk::check_header(s, &entries::CUBE) {
         Walk::Stop(n) => return Walk::Stop(n),
         Walk::At(_) => {}
     }

@@ -18,7 +18,7 @@ use Rattle.walk.proofs.Codecs.{reading-codec, field-codec, codes-codec}
 use Rattle.walk.proofs.Ends.{header-codec, sizes-words, closing, closed, closed-back, closed-forth}
 use Rattle.cube.specs.declared.Total.{Total}
 use Rattle.cube.specs.Measure.{Row}
-use Rattle.table.specs.Layout.{FACT, Held, rowBytes, tableBytes, Reads, Limits}
+use Rattle.table.specs.Layout.{FACT, Records, rowBytes, tableBytes, Reads, TableLimits}
 use Rattle.table.specs.Reading.{row, body, readTable}
 
 -- a row of a table that was read
@@ -34,22 +34,22 @@ row-codec zs h =
     ))
     (codec-made read (λ r. r .codes) (λ r. r .total .sum) (λ x z. refl) (λ x z. refl) (codes-codec zs h) (λ x p. reading-codec))
 
-abbrev pub held : List ℕ → List (Row Total) → Held
+abbrev pub held : List ℕ → List (Row Total) → Records
 held zs rs = record { sizes = zs; rows = rs }
 
 -- what is read behind the rows, and behind the row count
 module _ (s zs : List ℕ) where
-  abbrev pub rowed : List (Row Total) → List ℕ → Parsed Held
+  abbrev pub rowed : List (Row Total) → List ℕ → Parsed Records
   rowed rs = closing s (held zs rs)
 
-  abbrev pub counted : ℕ → List ℕ → Parsed Held
+  abbrev pub counted : ℕ → List ℕ → Parsed Records
   counted n rest = andThen (many n (row zs) rest) rowed
 
 -- what stands before the check word
 abbrev pub rows : List ℕ → List ℕ → Parsed (List (Row Total))
 rows zs l = andThen (field 0 1025 5 l) (λ n. many n (row zs))
 
-held-codec : Codec (pair held (header FACT) rows) (λ t. headerBytes FACT (t .sizes) ++ (wordBytes (length (t .rows)) ++ flatMap rowBytes (t .rows))) Limits
+held-codec : Codec (pair held (header FACT) rows) (λ t. headerBytes FACT (t .sizes) ++ (wordBytes (length (t .rows)) ++ flatMap rowBytes (t .rows))) TableLimits
 held-codec =
     codec-as (λ t. (
       λ p. record { sized = p .0; few = omega (arith, p .1 .0 .1); each = p .1 .1 },
@@ -64,16 +64,16 @@ table-as s =
     (λ i. andThen (header FACT s) (λ zs l. sym (then-assoc (field 0 1025 5 l) (λ n. many n (row zs)) (rowed s zs)) i))
     ∙ then-made held (header FACT s) rows (closing s)
 
-pub table-forth : (s : List ℕ) (t : Held) (rest : List ℕ) → Bytes s → readTable s ≡ got t rest → Limits t × (s ≡ tableBytes t) × (rest ≡ [])
+pub table-forth : (s : List ℕ) (t : Records) (rest : List ℕ) → Bytes s → readTable s ≡ got t rest → TableLimits t × (s ≡ tableBytes t) × (rest ≡ [])
 unfolding tableBytes
 table-forth s t rest b e = closed-forth held-codec s t rest b (sym (table-as s) ∙ e)
 
-pub table-back : (t : Held) → Limits t → readTable (tableBytes t) ≡ got t []
+pub table-back : (t : Records) → TableLimits t → readTable (tableBytes t) ≡ got t []
 unfolding tableBytes
 table-back t l = table-as (tableBytes t) ∙ closed-back held-codec t l
 
 -- A table is accepted exactly if it is the bytes of something within the limits; that is what it holds.
-pub accepted-iff : (s : List ℕ) (t : Held) → Bytes s → (readTable s ≡ got t []) ↔ (Limits t × (s ≡ tableBytes t))
+pub accepted-iff : (s : List ℕ) (t : Records) → Bytes s → (readTable s ≡ got t []) ↔ (TableLimits t × (s ≡ tableBytes t))
 accepted-iff s t b = (
   λ e. let r = table-forth s t [] b e in (r .0, r .1),
   λ h. ap readTable (h .1) ∙ table-back t (h .0),

@@ -11,13 +11,13 @@ use Rattle.walk.specs.Parsed.{stop, got, many}
 use Rattle.walk.specs.Fields.{room, word, reading, field, codes, header, close}
 use Rattle.cube.specs.declared.Total.{Total}
 use Rattle.cube.specs.Measure.{Row}
-use Rattle.table.specs.Layout.{Held, tableBytes}
+use Rattle.table.specs.Layout.{Records, tableBytes}
 use Rattle.table.specs.Reading.{row, body, readTable}
 
 abbrev read : List ℕ → ℕ → Row Total
 read x n = record { codes = x; total = record { sum = pos n; count = 1 } }
 
-abbrev five : Held
+abbrev five : Records
 five =
     record { sizes = 7 ∷ 6 ∷ 3 ∷ []; rows = read (0 ∷ 1 ∷ 1 ∷ []) 50 ∷ read (1 ∷ 1 ∷ 1 ∷ []) 100 ∷ read (2 ∷ 3 ∷ 1 ∷ []) 60 ∷ read (4 ∷ 5 ∷ 1 ∷ []) 70 ∷ read (6 ∷ 5 ∷ 2 ∷ []) 80 ∷ [] }
 

@@ -21,16 +21,16 @@ use Rattle.cube.specs.declared.Total.{Total}
 use Rattle.cube.specs.Measure.{sums, Row}
 use Rattle.cube.specs.Bounds.{countOf, Summable}
 use Rattle.cube.specs.Codes.{Coded}
-use Rattle.table.specs.Layout.{FACT, Held, Reads}
+use Rattle.table.specs.Layout.{FACT, Records, Reads}
 use Rattle.rows.specs.Rows.{rowsOf}
 use Rattle.rows.proofs.Flat.{rows-length}
 use Rattle.cube.specs.Table.{folded}
 use Rattle.table.specs.declared.TableRead.the-variants as Answer
-use Rattle.table.specs.Reading.{row, readTable, rowThere, rowsAt, Rowed, baseRows, answer, Stored}
+use Rattle.table.specs.Reading.{row, readTable, recordThere, rowsAt, Rowed, baseRows, tableAnswer, Stored}
 use Rattle.table.proofs.Accepted.{read, held, rows, table-as, table-forth}
 
 module _ (s zs : List ℕ) where
-  finds-row : (at : ℕ) → Finds s (row zs) at (at + (4 * length zs + 4)) (λ r. r ≡ rowThere s (length zs) at)
+  finds-row : (at : ℕ) → Finds s (row zs) at (at + (4 * length zs + 4)) (λ r. r ≡ recordThere s (length zs) at)
   unfolding row
   finds-row at =
       let e : at + 4 * length zs + 4 ≡ at + (4 * length zs + 4) = omega arith in
@@ -49,7 +49,7 @@ length-rowsAt s d zero at = refl
 length-rowsAt s d (suc n) at = ap suc (length-rowsAt s d n (at + (4 * d + 4)))
 
 -- what stands where in a table that was read
-pub record Placed (s : List ℕ) (t : Held) : Type 0 where
+pub record Placed (s : List ℕ) (t : Records) : Type 0 where
   pub dims : length (t .sizes) ≡ wordAt s 4
   pub some : 1 ≤ length (t .sizes)
   pub sizes : t .sizes ≡ wordsAt s (length (t .sizes)) 8
@@ -58,7 +58,7 @@ pub record Placed (s : List ℕ) (t : Held) : Type 0 where
   pub rows : t .rows ≡ rowsAt s (length (t .sizes)) (length (t .rows)) (12 + 4 * length (t .sizes))
   pub inside : 12 + 4 * length (t .sizes) + length (t .rows) * (4 * length (t .sizes) + 4) ≤ length s
 
-pub placed : (s : List ℕ) (t : Held) {rest : List ℕ} → readTable s ≡ got t rest → Placed s t
+pub placed : (s : List ℕ) (t : Records) {rest : List ℕ} → readTable s ≡ got t rest → Placed s t
 placed s t e =
     let c = closed-got (pair held (header FACT) rows) s (sym (table-as s) ∙ e) in
     let u = through-pair held (header FACT s) rows (c .1) in
@@ -89,7 +89,7 @@ counts-few : (zs : List ℕ) (rows : List (Row Total)) → ((r : Row Total) → 
 counts-few zs [] h = refl
 counts-few zs (r ∷ rows) h = omega (arith, h r (List·Memᴰ·head refl) .once, counts-few zs rows (λ q m. h q (List·Memᴰ·tail m)))
 
-pub rowed-table : (s : List ℕ) (t : Held) {rest : List ℕ} → Bytes s → readTable s ≡ got t rest → Rowed s (length (t .sizes)) (length (t .rows))
+pub rowed-table : (s : List ℕ) (t : Records) {rest : List ℕ} → Bytes s → readTable s ≡ got t rest → Rowed s (length (t .sizes)) (length (t .rows))
 rowed-table s t {rest} b e =
     let p = placed s t e in
     let l = table-forth s t rest b e .0 in
@@ -106,9 +106,9 @@ rowed-table s t {rest} b e =
     }
 
 -- the answer for a table that was read, where arrays have its base rows
-pub read-answer : (s : List ℕ) (t : Held) {rest : List ℕ} → readTable s ≡ got t rest → (d n r : ℕ) → d ≡ length (t .sizes) → n ≡ length (t .rows)
+pub read-answer : (s : List ℕ) (t : Records) {rest : List ℕ} → readTable s ≡ got t rest → (d n r : ℕ) → d ≡ length (t .sizes) → n ≡ length (t .rows)
     → (c : List ℕ) (z : List ℤ) (k : List ℕ) → rowsOf d r c z k ≡ folded sums d (rowsAt s d n (12 + 4 * d))
-    → (Answer.Rows d r ≡ answer (readTable s)) × Stored (readTable s) c z k
+    → (Answer.Rows d r ≡ tableAnswer (readTable s)) × Stored (readTable s) c z k
 read-answer s t {rest} e d n r p q c z k f =
     let w = placed s t e .rows in
     let base : rowsOf d r c z k ≡ baseRows t
@@ -116,5 +116,5 @@ read-answer s t {rest} e d n r p q c z k f =
     let size : r ≡ length (baseRows t) = sym (rows-length d r c z k) ∙ ap length base in
     rw e (ap₂ Answer.Rows p size, sym (ap₂ (λ (i j : ℕ). rowsOf i j c z k) p size) ∙ base)
 
-pub stop-answer : (s : List ℕ) {n : ℕ} → readTable s ≡ stop n → (c : List ℕ) (z : List ℤ) (k : List ℕ) → (Answer.Stop n ≡ answer (readTable s)) × Stored (readTable s) c z k
+pub stop-answer : (s : List ℕ) {n : ℕ} → readTable s ≡ stop n → (c : List ℕ) (z : List ℤ) (k : List ℕ) → (Answer.Stop n ≡ tableAnswer (readTable s)) × Stored (readTable s) c z k
 stop-answer s e c z k = rw e (refl, tt)

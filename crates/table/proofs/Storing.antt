@@ -10,7 +10,7 @@ use lib.Seq.{append-snoc}
 use Rattle.cube.specs.declared.Total.{Total}
 use Rattle.cube.specs.Measure.{Row}
 use Rattle.rows.specs.Rows.{rowsOf}
-use Rattle.table.specs.Reading.{rowThere, rowsAt}
+use Rattle.table.specs.Reading.{recordThere, rowsAt}
 
 -- the rows that are stored and those left are the rows
 pub record Turn (b : List ℕ) (d n start : ℕ) (c : List ℕ) (s : List ℤ) (k : List ℕ) (at i : ℕ) : Type 0 where
@@ -33,7 +33,7 @@ module _ (b : List ℕ) (d n start : ℕ) (c : List ℕ) (s : List ℤ) (k : Lis
     pub turn-room : i < n → at + (4 * d + 4) ≤ length b
     turn-room h = omega (arith, next h, t .place)
 
-    pub turn-on : (c′ : List ℕ) (s′ : List ℤ) (k′ : List ℕ) → i < n → rowsOf d (i + 1) c′ s′ k′ ≡ rowsOf d i c s k ++ rowThere b d at ∷ []
+    pub turn-on : (c′ : List ℕ) (s′ : List ℤ) (k′ : List ℕ) → i < n → rowsOf d (i + 1) c′ s′ k′ ≡ rowsOf d i c s k ++ recordThere b d at ∷ []
         → Turn b d n start c′ s′ k′ (at + (4 * d + 4)) (i + 1)
     unfolding rowsAt
     turn-on c′ s′ k′ h e =
@@ -42,7 +42,7 @@ module _ (b : List ℕ) (d n start : ℕ) (c : List ℕ) (s : List ℤ) (k : Lis
         record {
           below = omega arith;
           place = omega (arith, next h, t .place);
-          rows = t .rows ∙ ap (λ (j : ℕ). rowsOf d i c s k ++ rowsAt b d j at) f ∙ sym (append-snoc (rowsOf d i c s k) (rowThere b d at) left)
+          rows = t .rows ∙ ap (λ (j : ℕ). rowsOf d i c s k ++ rowsAt b d j at) f ∙ sym (append-snoc (rowsOf d i c s k) (recordThere b d at) left)
               ∙ ap (λ (l : List (Row Total)). l ++ left) (sym e);
         }
 

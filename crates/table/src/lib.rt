@@ -10,7 +10,7 @@ ghost use Rattle.cube.specs.Measure.{sums as measure};
 ghost use Rattle.cube.specs.Bounds.{Summable};
 ghost use Rattle.cube.specs.Table.{Table, folded};
 ghost use Rattle.rows.specs.Rows.{rowsOf};
-ghost use Rattle.table.specs.Reading.{row, body, readTable, rowsAt, Rowed, answer, Stored};
+ghost use Rattle.table.specs.Reading.{row, body, readTable, rowsAt, Rowed, tableAnswer, Stored};
 
 // What reading a table answers: a stop's number, or D and the number of base rows.
 pub enum TableRead {
@@ -184,7 +184,7 @@ pub fn read_table(
     sums: &mut [i64; 1024],
     counts: &mut [u32; 1024],
 ) -> TableRead
-    ensures { λ r. ⌜ r ≡ answer (readTable (now (s .entry))) ⌝ }
+    ensures { λ r. ⌜ r ≡ tableAnswer (readTable (now (s .entry))) ⌝ }
     ensures { λ r. ⌜ Stored (readTable (now (s .entry))) (now (codes .exit)) (now (sums .exit)) (now (counts .exit)) ⌝ }
 {
     match check_table(s) {

@@ -15,7 +15,7 @@ pub fn put_header(out: &mut [u8], sizes: &[u32]) -> usize
     requires { ⌜ (length (now sizes) ≤ 8) × (8 + 4 * length (now sizes) ≤ length (now out)) ⌝ }
     ensures { λ r. ⌜ Wrote (headerBytes CUBE (now (sizes .entry))) (now (out .entry)) (now (out .exit)) r ⌝ }
 {
-    let mut at = fields::put_opening(out, b"CUBE");
+    let mut at = fields::put_opening(out, &entries::CUBE);
     at += fields::put_word(&mut out[at..], sizes.len() as u32);
     at + fields::put_words(&mut out[at..], sizes)
 }

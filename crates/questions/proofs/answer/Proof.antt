@@ -80,7 +80,7 @@ returns-2 c =
 find-cell-requires : tie.Need-find-cell-requires
 find-cell-requires c κs =
     let p = c .before .before .before .before .before .before .before .before .before in
-    rw (p .pre .0 .1) (asked-room (p .pre .0 .0) (now (p .args .cell)) (p .pre .1))
+    (omega (arith, p .pre .0 .1, p .pre .0 .0 .dims), rw (p .pre .0 .1) (asked-room (p .pre .0 .0) (now (p .args .cell)) (p .pre .1)))
 
 mul-place-2 : tie.Need-mul-place-2
 mul-place-2 c = omega (arith, entry c .within)

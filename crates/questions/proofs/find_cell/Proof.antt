@@ -1,69 +1,59 @@
--- `questions::find_cell` meets its contract: no entry before the one in hand lies at the cell, and the place is that of the entry in hand.
-use mathlib.Core.Path.{_≡_, sym, ap, _∙_}
-use Prim.Native.Nat.{ℕ, _+_, _*_, _≤_, _-_}
-use native.Mathlib.Nat.{suc-mul}
+-- `questions::find_cell` meets its contract: the cell's place lies between `low` and `high`.
+use mathlib.Core.Path.{sym, _∙_}
+use Prim.Native.Nat.{_+_, _-_, _*_, _/_, _≤_}
 use native.Mathlib.Omega.{arith}
 use borrow.Author.Needs.{needs}
 use denote.Ref.{now}
 use lib.ListN.{length}
-use Rattle.lists.specs.Order.{same}
-use Rattle.fields.specs.Words.{wordsAt}
+use Rattle.lists.specs.Search.{Between}
+use Rattle.lists.proofs.Search.{between-all, between-left, between-right, between-done}
 use Rattle.rows.proofs.Rows.{row-within}
-use Rattle.questions.proofs.Search.{NoneBefore, none-start, none-more, liesAt, finds-here, finds-none}
+use Rattle.questions.specs.Questions.{entryBefore}
 use Rattle.questions.proofs.find_cell.Statement.{statement}
 use Rattle.questions.proofs.find_cell.Tie as tie
 
 abbrev Inv-loop : tie.InvT-loop
-Inv-loop s at n cell width place₀ k₀ place k =
-    (k ≤ n) × (place ≡ at + k * (4 * length cell + 12)) × NoneBefore (liesAt s at cell) k
+Inv-loop s at n cell width low₀ high₀ low high = Between (entryBefore s at cell) n low high
 
 abbrev μ-loop : tie.MeasureT-loop
-μ-loop s at n cell width place₀ k₀ place k = n - k
+μ-loop s at n cell width low₀ high₀ low high = high - low
 
--- the entry in hand is within the bytes
+-- the entry in the middle is within the bytes
 room : (c : tie.In-loop Inv-loop μ-loop)
     → (let a = c .before .before .before .before .args in
-    c .before .loop .place + (4 * length (now (a .cell)) + 12) ≤ length (now (a .s)))
-room c =
     let l = c .before .loop in
-    let st = c .before .before .before .before in
-    let a = st .args in
-    omega (arith, l .inv .1, st .pre, row-within (4 * length (now (a .cell)) + 12) (a .n) (l .k) (c .loop-test .taken))
-
--- whether the entry in hand lies at the cell
-told : (c : tie.After-same-words Inv-loop μ-loop)
-    → (let l = c .before .before in
-    let a = l .before .before .before .args in
-    c .same-words .result ≡ liesAt (now (a .s)) (a .at) (now (a .cell)) (l .loop .k))
-told c =
-    let l = c .before .before in
-    let a = l .before .before .before .args in
-    c .same-words .ensures ∙ ap (λ (p : ℕ). same (wordsAt (now (a .s)) (length (now (a .cell))) p) (now (a .cell))) (l .loop .inv .1)
+    a .at + (l .low + (l .high - l .low) / 2) * (4 * length (now (a .cell)) + 12) + (4 * length (now (a .cell)) + 12) ≤ length (now (a .s)))
+room c =
+    let p = c .before .before .before .before in
+    let l = c .before .loop in
+    omega (arith, p .pre .1, row-within (4 * length (now (p .args .cell)) + 12) (p .args .n) (l .low + (l .high - l .low) / 2) (omega arith))
 
 loop-holds : tie.Need-loop-holds Inv-loop μ-loop
-loop-holds c = (search needs, omega arith, none-start _)
+loop-holds c = between-all _ _
 
-same-words-requires : tie.Need-same-words-requires Inv-loop μ-loop
-same-words-requires c κs = omega (arith, room c)
+mul-entry-before : tie.Need-mul-entry-before Inv-loop μ-loop
+mul-entry-before c = omega (arith, room c)
 
-returns : tie.Need-returns Inv-loop μ-loop
-returns c =
-    let l = c .before .before .before in
-    finds-here (c .before .before .loop-test .taken) (l .loop .inv .2) (sym (told (c .before)) ∙ c .if1 .taken)
+add-entry-before : tie.Need-add-entry-before Inv-loop μ-loop
+add-entry-before c = omega (arith, room c)
 
-add-place : tie.Need-add-place Inv-loop μ-loop
-add-place c = omega (arith, room (c .before .before))
+entry-before-requires : tie.Need-entry-before-requires Inv-loop μ-loop
+entry-before-requires c κs = (c .before .before .before .before .pre .0, omega (arith, room c))
 
 loop-again : tie.Need-loop-again Inv-loop μ-loop
 loop-again c =
-    let l = c .before .before .before in
-    let w = 4 * length (now (l .before .before .before .args .cell)) + 12 in
-    (search needs, omega (arith, l .loop .inv .1, suc-mul (l .loop .k) w), none-more (l .loop .inv .2) (sym (told (c .before)) ∙ c .if1 .left))
+    let l = c .before .before .before .loop in
+    between-right _ _ (l .inv) (l .low + (l .high - l .low) / 2) (omega arith) (omega arith) (sym (c .before .entry-before .ensures) ∙ c .if1 .taken)
 
-returns-2 : tie.Need-returns-2 Inv-loop μ-loop
-returns-2 c = finds-none (c .loop-test .left) (c .before .loop .inv .2)
+loop-again-2 : tie.Need-loop-again-2 Inv-loop μ-loop
+loop-again-2 c =
+    let l = c .before .before .before .loop in
+    between-left _ _ (l .inv) (l .low + (l .high - l .low) / 2) (omega arith) (omega arith) (sym (c .before .entry-before .ensures) ∙ c .if1 .left)
+
+returns : tie.Need-returns Inv-loop μ-loop
+returns c = between-done _ _ (c .before .loop .inv) (c .loop-test .left)
 
 pub find-cell-spec : {M : Type 1} → statement M
 find-cell-spec =
     tie.close
-    (tie.spec Inv-loop μ-loop (λ c. search needs) (λ c. search needs) loop-holds same-words-requires returns add-place (λ c. search needs) (λ c. search needs) loop-again returns-2)
+    (tie.spec Inv-loop μ-loop (λ c. search needs) (λ c. search needs) loop-holds (λ c. search needs) (λ c. search needs) mul-entry-before add-entry-before entry-before-requires (λ c. search needs) (λ c. search needs) loop-again (λ c. search needs) loop-again-2 returns)

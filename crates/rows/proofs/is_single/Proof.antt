@@ -1,7 +1,8 @@
--- `rows::is_single` meets its contract. The row loop: the row is single among the rows from i on just where it is among all.
+-- `rows::is_single` meets its contract. The row loop: no row so far agrees, and the row is single among the rows from i on just where it is among all.
 -- The dimension loop: what is left of two rows agrees on the rest of the set just where they agree on the set; `continue 'rows` steps i, so i is among its variables.
-use mathlib.Core.Path.{_≡_, sym, ap, _∙_}
+use mathlib.Core.Path.{_≡_, refl, sym, ap, _∙_}
 use mathlib.Core.Logic.{_≢_}
+use mathlib.Core.Bool.{true}
 use mathlib.Core.List.{[]}
 use Prim.Native.Nat.{_≤_, _<_, _-_}
 use borrow.Author.Needs.{needs}
@@ -20,18 +21,18 @@ use Rattle.rows.proofs.is_single.Statement.{statement}
 use Rattle.rows.proofs.is_single.Tie as tie
 
 abbrev Inv-loop : tie.InvT-loop
-Inv-loop codes rows dims row set mine i₀ other rest₀ d₀ i rest d =
+Inv-loop codes rows dims row set mine alone i₀ other rest₀ d₀ i rest d =
     (i ≡ i₀) × (d ≤ dims) × (agree rest (drop d mine) (drop d other) ≡ agree set mine other)
 
 abbrev μ-loop : tie.MeasureT-loop
-μ-loop codes rows dims row set mine i₀ other rest₀ d₀ i rest d = dims - d
+μ-loop codes rows dims row set mine alone i₀ other rest₀ d₀ i rest d = dims - d
 
 abbrev Inv-rows : tie.InvT-rows
-Inv-rows codes rows dims row set mine i₀ i =
-    (i ≤ rows) × (single (plain dims) (drop i (cut dims rows codes)) set mine ≡ single (plain dims) (cut dims rows codes) set (rowAt (cut dims rows codes) row))
+Inv-rows codes rows dims row set mine alone₀ i₀ alone i =
+    (alone ≡ true) × (i ≤ rows) × (single (plain dims) (drop i (cut dims rows codes)) set mine ≡ single (plain dims) (cut dims rows codes) set (rowAt (cut dims rows codes) row))
 
 abbrev μ-rows : tie.MeasureT-rows
-μ-rows codes rows dims row set mine i₀ i = rows - i
+μ-rows codes rows dims row set mine alone₀ i₀ alone i = rows - i
 
 -- the place in hand is that of a row
 within : (c : tie.In-rows Inv-loop μ-loop Inv-rows μ-rows)
@@ -51,17 +52,18 @@ differs c e =
 rows-holds : tie.Need-rows-holds Inv-loop μ-loop Inv-rows μ-rows
 rows-holds c =
     let a = c .before .before .args in
-    (search needs, ap (single (plain (a .dims)) (cut (a .dims) (a .rows) (now (a .codes))) (a .set)) (c .row-of .ensures .0))
+    (refl, search needs, ap (single (plain (a .dims)) (cut (a .dims) (a .rows) (now (a .codes))) (a .set)) (c .row-of .ensures .0))
 
 rows-again : tie.Need-rows-again Inv-loop μ-loop Inv-rows μ-rows
 rows-again c =
     let a = c .before .before .before .before .before .args in
     let xs = cut (a .dims) (a .rows) (now (a .codes)) in
     let l = c .before .before .rows in (
+      l .inv .0,
       search needs,
       single-own (plain (a .dims)) (a .set) (now (c .before .before .before .row-of .result)) xs (l .i) (within (c .before))
           (c .before .before .before .row-of .ensures .0 ∙ ap (rowAt xs) (sym (c .if1 .taken)))
-          ∙ l .inv .1,
+          ∙ l .inv .2,
     )
 
 rows-again-2 : tie.Need-rows-again-2 Inv-loop μ-loop Inv-rows μ-rows
@@ -72,10 +74,11 @@ rows-again-2 c =
     let mine = now (p .before .row-of .result) in
     let stop = agree-stop (l .loop .rest) mine (now (l .before .row-of2 .result)) (l .loop .d) (search needs) (search needs)
     (rw (c .before .before .before .if2 .taken) (not-true _ (c .if3 .taken))) in (
+      p .rows .inv .0,
       search needs,
       rw (l .loop .inv .0)
           (single-skip (plain (a .dims)) (a .set) mine (cut (a .dims) (a .rows) (now (a .codes))) (p .rows .i) (within (l .before .before .before))
-          (l .before .row-of2 .ensures .0) (sym (l .loop .inv .2) ∙ stop) ∙ p .rows .inv .1),
+          (l .before .row-of2 .ensures .0) (sym (l .loop .inv .2) ∙ stop) ∙ p .rows .inv .2),
     )
 
 loop-again : tie.Need-loop-again Inv-loop μ-loop Inv-rows μ-rows
@@ -89,20 +92,21 @@ loop-again c =
 
 returns : tie.Need-returns Inv-loop μ-loop Inv-rows μ-rows
 returns c =
+    let a = c .before .before .before .before .args in
+    c .before .rows .inv .0
+    ∙ sym (sym (c .before .rows .inv .2)
+    ∙ single-done (plain (a .dims)) (a .set) (now (c .before .before .row-of .result)) (cut (a .dims) (a .rows) (now (a .codes))) (c .before .rows .i) (rw cut-length (search needs)))
+
+returns-2 : tie.Need-returns-2 Inv-loop μ-loop Inv-rows μ-rows
+returns-2 c =
     let l = c .before in
     let p = l .before .before .before .before in
     let a = p .before .before .before .args in
     let mine = now (p .before .row-of .result) in
     let done = agree-done (l .loop .rest) mine (now (l .before .row-of2 .result)) (l .loop .d) (search needs) (search needs) in
-    sym (sym (p .rows .inv .1)
+    sym (sym (p .rows .inv .2)
     ∙ single-stop (plain (a .dims)) (a .set) mine (cut (a .dims) (a .rows) (now (a .codes))) (p .rows .i) (within (l .before .before .before))
     (l .before .row-of2 .ensures .0) (sym (l .loop .inv .2) ∙ done) (differs (l .before)))
-
-returns-2 : tie.Need-returns-2 Inv-loop μ-loop Inv-rows μ-rows
-returns-2 c =
-    let a = c .before .before .before .before .args in
-    sym (sym (c .before .rows .inv .1)
-    ∙ single-done (plain (a .dims)) (a .set) (now (c .before .before .row-of .result)) (cut (a .dims) (a .rows) (now (a .codes))) (c .before .rows .i) (rw cut-length (search needs)))
 
 pub is-single-spec : {M : Type 1} → statement M
 is-single-spec =
