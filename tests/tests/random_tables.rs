@@ -100,26 +100,6 @@ fn bytes_and_words_changed() {
     compare.had(BUILD, &[0, 1, 2, 3, 4, 5, 6, 10, 11, 15]);
 }
 
-/// The archive does not depend on the order of the rows, and the check word does not either.
-#[test]
-fn rows_swapped() {
-    let mut random = Random::seeded(208);
-    let mut compare = Compare::new();
-    for i in 0..400 {
-        let sizes = random.sizes(1 + i % 8);
-        let count = random.row_count().min(40);
-        let mut rows = random.table_rows(&sizes, count);
-        let first = compare.table(&table_bytes(&sizes, &rows), &format!("table {i}")).unwrap();
-        for _ in 0..3 {
-            for at in (1..rows.len()).rev() {
-                rows.swap(at, random.place(at + 1));
-            }
-            let again = compare.table(&table_bytes(&sizes, &rows), &format!("table {i} in another order"));
-            assert_eq!(again, Ok(first.clone()), "table {i} in another order");
-        }
-    }
-}
-
 #[test]
 fn bytes_of_no_table() {
     let mut random = Random::seeded(209);

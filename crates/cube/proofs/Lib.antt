@@ -15,6 +15,7 @@ pub mod Questions
 pub mod Expansion
 pub mod Regroup
 pub mod Folding
+pub mod Reordering
 pub mod Complete
 pub mod Antichain
 pub mod Promises

@@ -11,7 +11,7 @@ use Rattle.lists.specs.Lists.{_∈_}
 use Rattle.lists.specs.Order.{Rising, earlier}
 use Rattle.lattice.specs.Sets.{sets, holds}
 use Rattle.cube.specs.declared.Total.{Total}
-use Rattle.cube.specs.Measure.{sums, Row, totalAt, codesOf}
+use Rattle.cube.specs.Measure.{sums, Row, totalOf, totalAt, codesOf}
 use Rattle.cube.specs.Codes.{Coded, cell, plain}
 use Rattle.cube.specs.Cube.{within, Exists, total, complete}
 use Rattle.cube.specs.Condensed.{Entry, no-record, found, lookup, proper, single, listed, reach, normals, Base, own, stands, Condensed, ours, expansion}
@@ -29,6 +29,7 @@ use Rattle.cube.proofs.Ours as our
 use Rattle.cube.proofs.Questions as questions
 use Rattle.cube.proofs.Expansion as expansions
 use Rattle.cube.proofs.Antichain as antichains
+use Rattle.cube.proofs.Reordering as reorderings
 
 -- ---- Demand 2: the complete cube, of a table's rows
 
@@ -71,6 +72,22 @@ module _ (d : ℕ) (rows : List (Row Total)) (t : Table d rows) where
 
   pub ours-expands : expansion (plain d) sums (ours (plain d) sums based) ≡ complete (plain d) sums rows
   ours-expands = any-expands (our.ours-condensed (plain d) (plain-laws d) sums sums-add based base-rows)
+
+-- ---- C-11: rows in another order, repeated rows too
+
+module _ (d : ℕ) {rows others : List (Row Total)} (o : List·Permᴰ rows others) where
+  -- The running total is the same in whichever order the rows come; so are the base rows, our entries, and the complete cube.
+  pub any-order-total : totalOf sums rows ≡ totalOf sums others
+  any-order-total = reorderings.running-reordered sums sums-add o
+
+  pub any-order-base : folded sums d rows ≡ folded sums d others
+  any-order-base = reorderings.folded-reordered o sums sums-add d
+
+  pub any-order-ours : ours (plain d) sums (folded sums d rows) ≡ ours (plain d) sums (folded sums d others)
+  any-order-ours = reorderings.ours-reordered o sums sums-add d
+
+  pub any-order-cube : complete (plain d) sums rows ≡ complete (plain d) sums others
+  any-order-cube = reorderings.complete-reordered o (plain d) sums sums-add
 
 -- ---- Demands 2 and 3, of base rows
 

@@ -26,7 +26,7 @@ module _ {A : Type 0} (M : Measure A) (E : Adds M) where
   pub sum-cons : (r : Row A) (l : List (Row A)) → totalOf M (r ∷ l) ≡ M .more (r .total) (totalOf M l)
   sum-cons r l = sum-from (M .more (M .none) (r .total)) l ∙ ap (λ (t : A). M .more t (totalOf M l)) (E .none-more (r .total))
 
-  more-swap : (a b c : A) → M .more a (M .more b c) ≡ M .more b (M .more a c)
+  pub more-swap : (a b c : A) → M .more a (M .more b c) ≡ M .more b (M .more a c)
   more-swap a b c = sym (E .more-assoc a b c) ∙ ap (λ (t : A). M .more t c) (E .more-comm a b) ∙ E .more-assoc b a c
 
   -- the amount a more where the test passed

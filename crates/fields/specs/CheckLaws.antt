@@ -1,11 +1,11 @@
 -- Laws of the check word.
 use mathlib.Core.Path.{_≡_, sym, ap, _∙_}
-use mathlib.Core.List.{List}
+use mathlib.Core.List.{List, [], _∷_, _++_}
 use Prim.Native.Nat.{ℕ, _+_, _^_, _≤_, _<_}
 use native.Mathlib.Omega.{arith}
 use lib.ListN.{length, take, length-append}
 use Rattle.fields.specs.Words.{wordBytes}
-use Rattle.fields.specs.Check.{checkOf, checked}
+use Rattle.fields.specs.Check.{wordsSum, checkOf, checked}
 use Rattle.fields.specs.Written.{written, writtenAt, Wrote}
 use Rattle.fields.specs.WrittenLaws.{written-then, length-written, wrote-front}
 
@@ -13,6 +13,10 @@ use Rattle.fields.specs.WrittenLaws.{written-then, length-written, wrote
 pub check-lt : (s : List ℕ) → checkOf s < 2 ^ 32
 unfolding checkOf
 check-lt s = omega arith
+
+pub sum-append : (u v : List ℕ) → wordsSum (u ++ v) ≡ wordsSum u + wordsSum v
+sum-append [] v = omega arith
+sum-append (w ∷ u) v = omega (arith, sum-append u v)
 
 -- the check word written after a body
 pub wrote-check : {xs l m r : List ℕ} {at n : ℕ} → Wrote xs l m at → n ≡ at + 4 → at + 4 ≤ length l

@@ -41,6 +41,17 @@ words-none (a ∷ b ∷ []) h = refl
 words-none (a ∷ b ∷ c ∷ []) h = refl
 words-none (a ∷ b ∷ c ∷ d ∷ rest) h = absurd (omega arith)
 
+-- bytes that end with a word, and others behind them
+pub words-append : (n : ℕ) (a b : List ℕ) → length a ≡ 4 * n → words (a ++ b) ≡ words a ++ words b
+unfolding words
+words-append zero [] b e = refl
+words-append zero (u ∷ a) b e = absurd (omega arith)
+words-append (suc n) [] b e = absurd (omega arith)
+words-append (suc n) (u ∷ []) b e = absurd (omega arith)
+words-append (suc n) (u ∷ v ∷ []) b e = absurd (omega arith)
+words-append (suc n) (u ∷ v ∷ w ∷ []) b e = absurd (omega arith)
+words-append (suc n) (u ∷ v ∷ w ∷ z ∷ a) b e = ap (λ (l : List ℕ). word u v w z ∷ l) (words-append n a b (omega arith))
+
 -- ---- bytes of words
 
 pub length-wordsBytes : (ws : List ℕ) → length (wordsBytes ws) ≡ 4 * length ws

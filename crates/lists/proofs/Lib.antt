@@ -5,6 +5,7 @@ pub mod Lengths
 pub mod Pairwise
 pub mod Places
 pub mod Parts
+pub mod Permutations
 pub mod Pigeonhole
 pub mod Order
 pub mod Sorted

@@ -8,9 +8,10 @@
 --   Pairwise R l    each member is in the relation R to every later one
 --   Distinct l      no member occurs twice
 --   below n         the numbers below n, falling
+--   joined ls       the lists ls, one behind the other
 use mathlib.Core.Logic.{_≢_}
 use mathlib.Core.Bool.{Bool, true, false, _&&_, _||_}
-use mathlib.Core.List.{List, [], _∷_, List·Memᴰ}
+use mathlib.Core.List.{List, [], _∷_, flatMap, List·Memᴰ}
 use Prim.Native.Nat.{ℕ, zero, suc}
 
 infix 50 _∈_
@@ -44,3 +45,6 @@ module _ {A : Type 0} where
 abbrev pub below : ℕ → List ℕ
 below zero = []
 below (suc n) = n ∷ below n
+
+abbrev pub joined : {A : Type 0} → List (List A) → List A
+joined ls = flatMap (λ l. l) ls

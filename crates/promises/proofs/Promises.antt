@@ -26,7 +26,10 @@ use Rattle.cube.proofs.Folding.{grouped-folded}
 use Rattle.cube.proofs.Promises.{base-rows, any-expands, ours-condensed, no-record-iff, answer, one-entry, fewest-entries, as-few, shortest-list}
 use Rattle.table.specs.Layout.{Records, TableLimits}
 use Rattle.table.specs.Reading.{readTable, baseRows}
+use Rattle.table.specs.Rearranged.{Rearranged}
 use Rattle.table.proofs.Accepted.{table-forth}
+use Rattle.table.proofs.Reordering.{reordered, base-reordered}
+use Rattle.table.proofs.Rearranging.{rearranged-accepted}
 use Rattle.entries.specs.Layout.{Based, based, Held, section, cellBytes, required, archiveBytes}
 use Rattle.entries.specs.Reading.{readArchive, rowsIn}
 use Rattle.entries.proofs.Accepted.{required-rows, required-sizes, archive-back, archive-forth}
@@ -35,8 +38,9 @@ use Rattle.questions.specs.Questions.{asks}
 use Rattle.cuboids.specs.Cuboids.{cuboidBytes, expansionBytes}
 use Rattle.calls.specs.declared.Checked.the-variants as Check
 use Rattle.calls.specs.declared.Found.the-variants as Find
-use Rattle.calls.specs.Answers.{bytes}
-use Rattle.calls.specs.Calls.{outcome, builds, counted, checks, cuboidOf, listsCuboid, expanded, expands, entriesIn, told, looksUp}
+use Rattle.calls.specs.declared.Written.{Written}
+use Rattle.calls.specs.Answers.{Outcome, bytes, within, answerOf, leftOf, Answered}
+use Rattle.calls.specs.Calls.{outcome, archived, builds, counted, checks, cuboidOf, listsCuboid, expanded, expands, entriesIn, told, looksUp}
 use Rattle.calls.proofs.Entries.{entries-required}
 use Rattle.build.proofs.Folded.{table-rows, folded-within}
 use Rattle.promises.specs.Alone.{Alone}
@@ -186,3 +190,24 @@ module _ (s : List ℕ) (t : Records) (b : Bytes s) (e : readTable s ≡ got t [
       let f : listed (plain D) (codesOf (baseRows t)) (r .codes) ≡ list = ap (λ (x : Row Total). listed (plain D) (codesOf (baseRows t)) (x .codes)) (sym p) ∙ ap (λ (x : Based). x .list) (q .2) in
       subst (λ (n : List ℕ). length n ≤ length l) f
       (shortest-list D (codesOf (baseRows t)) (r .codes) (rows-of .valid (r .codes) (Memᴰ·map (λ p. p .codes) (Memᴰ·cast (sym p) (q .1)))) l h (subst (λ (n : List ℕ). (c : List ℕ) → (c ∈ reach (plain D) (r .codes) n) ↔ (c ∈ reach (plain D) (r .codes) l)) (sym f) k))
+
+-- ---- C-11: the bytes u are those of an accepted table s with its rows' bytes in another order
+
+module _ (s u : List ℕ) (t : Records) (b : Bytes s) (e : readTable s ≡ got t []) (r : Rearranged (length (t .sizes)) s u) where
+  -- They are accepted, and hold the same rows in that order;
+  pub rearranged-read : (ys : List (Row Total)) × List·Permᴰ (t .rows) ys × (readTable u ≡ got (reordered t ys) [])
+  rearranged-read = rearranged-accepted s u t b e r
+
+  -- the archive is the same,
+  pub rearranged-built : builds u ≡ builds s
+  unfolding builds
+  rearranged-built =
+      let ys = rearranged-read in
+      ap (outcome archived) (ys .2) ∙ ap (λ (rows : List (Row Total)). bytes (archiveBytes (t .sizes) rows)) (base-reordered t (ys .1)) ∙ sym (ap (outcome archived) e)
+
+  -- and so is what `build` returns and leaves, whatever output it is lent.
+  pub rearranged-answered : {l m n : List ℕ} {p q : Written} → Answered (builds s) l m p → Answered (builds u) l n q → (p ≡ q) × (m ≡ n)
+  rearranged-answered {l} x y = (
+    x .answer ∙ ap (λ (o : Outcome). answerOf (within (length l) o)) (sym rearranged-built) ∙ sym (y .answer),
+    x .output ∙ ap (λ (o : Outcome). leftOf (within (length l) o) l) (sym rearranged-built) ∙ sym (y .output),
+  )

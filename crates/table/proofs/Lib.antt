@@ -4,3 +4,5 @@ pub mod Examples
 pub mod Lengths
 pub mod Storing
 pub mod Rows
+pub mod Reordering
+pub mod Rearranging

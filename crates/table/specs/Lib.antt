@@ -1,3 +1,4 @@
 -- A table file: what it holds, its stops, its bytes.
 pub mod Layout
 pub mod Reading
+pub mod Rearranged
