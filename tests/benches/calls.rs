@@ -1,13 +1,15 @@
 //! Times of the five calls on tables of 1,024 rows with eight dimensions, for the library and for `good`, in one run.
 //! `wrong check word` is `build` on the table with another check word: every field walked, every word summed, then stop 11.
+//! The last line is the check word alone: `check` on a file of 3.4 MB, of which it walks the first fields only and sums every word, then stop 11.
 //! Best of CUBE_REPEAT repetitions (5 if it is not set), or of as many as 80 ms for each of them allow.
 use calls::calls::{Calls, Stop};
 use calls::compare::subjects;
 use calls::good::Good;
 use calls::kinds::{kinds, SIZES};
+use calls::library::Library;
 use calls::model::cube;
 use calls::random::Random;
-use calls::write::table_bytes;
+use calls::write::{check_word, table_bytes, File};
 use std::hint::black_box;
 use std::ops::Range;
 use std::time::{Duration, Instant};
@@ -28,11 +30,16 @@ struct Inputs {
     question: Vec<u32>,
 }
 
+/// A file with another check word.
+fn miswritten(mut file: Vec<u8>) -> Vec<u8> {
+    *file.last_mut().unwrap() ^= 1;
+    file
+}
+
 impl Inputs {
     fn of(rows: &[(Vec<u32>, i32)], out: &mut [u8]) -> Inputs {
         let table = table_bytes(&SIZES, rows);
-        let mut refused = table.clone();
-        *refused.last_mut().unwrap() ^= 1;
+        let refused = miswritten(table.clone());
         let length = Good.build(&table, out).unwrap();
         Inputs { table, refused, archive: out[..length].to_vec(), question: cube::cell(&rows[500].0, SET) }
     }
@@ -60,15 +67,15 @@ fn time(times: u32, mut call: impl FnMut()) -> Duration {
     start.elapsed() / times
 }
 
-/// The best time of each subject, in milliseconds: by turns, in runs of about a millisecond or of one call.
-fn best(call: usize, inputs: &Inputs, out: &mut [u8], repeat: u32) -> Vec<f64> {
-    let mut bests = vec![Duration::MAX; subjects().len()];
+/// The best time of each of some ways to do a thing, in milliseconds: by turns, in runs of about a millisecond or of one call.
+fn best<T>(ways: usize, repeat: u32, mut run: impl FnMut(usize) -> T) -> Vec<f64> {
+    let mut bests = vec![Duration::MAX; ways];
     let start = Instant::now();
     for _ in 0..repeat {
-        for ((_, calls), best) in subjects().into_iter().zip(&mut bests) {
+        for (way, best) in bests.iter_mut().enumerate() {
             let times = (1_000_000 / best.as_nanos()).clamp(1, 1_000) as u32;
             let once = || {
-                let _ = black_box(run(calls, call, inputs, out));
+                let _ = black_box(run(way));
             };
             *best = time(times, once).min(*best);
         }
@@ -95,11 +102,38 @@ fn line(name: &str, inputs: &Inputs, calls: Range<usize>, out: &mut [u8], repeat
     let mut line = format!("{name:15}");
     for call in calls {
         agree(call, inputs, out);
-        let ms = best(call, inputs, out, repeat);
+        let subjects = subjects();
+        let ms = best(subjects.len(), repeat, |i| run(subjects[i].1, call, inputs, out));
         let (library, good) = (ms[0], ms[ms.len() - 1]);
         line += &format!("{library:>10.4}{good:>9.4}{:>7.2}", library / good);
     }
     line
+}
+
+/// The check word byte by byte: each byte is added at its place in its word.
+fn check_word_by_bytes(s: &[u8]) -> u32 {
+    s.iter().enumerate().fold(0, |sum: u32, (i, &byte)| sum.wrapping_add((byte as u32) << (8 * (i % 4))))
+}
+
+/// An archive of 3.4 MB with no base entry, normal entries of any words, and another check word.
+fn refused_archive(random: &mut Random) -> Vec<u8> {
+    let entries = 77_272;
+    let words: Vec<u32> = (0..11 * entries).map(|_| random.draw() as u32).collect();
+    miswritten(File::archive().head(&SIZES, 0).word(entries).words(&words).closed())
+}
+
+/// The check word through the library, by a plain loop over words, and byte by byte.
+fn check_word_line(archive: &[u8], repeat: u32) -> String {
+    let body = &archive[..archive.len() - 4];
+    assert_eq!(Library.check(archive), Err(11), "the stop of a wrong check word");
+    assert_eq!(check_word(body), check_word_by_bytes(body));
+    let ms = best(3, repeat, |way| match way {
+        0 => Library.check(black_box(archive)).unwrap_err(),
+        1 => check_word(black_box(body)),
+        _ => check_word_by_bytes(black_box(body)),
+    });
+    let (library, words, bytes) = (ms[0], ms[1], ms[2]);
+    format!("{library:.4}, {words:.4} and {bytes:.4}; library / words {:.2}, library / bytes {:.3}", library / words, library / bytes)
 }
 
 fn main() {
@@ -113,4 +147,7 @@ fn main() {
             println!("{}", line(name, inputs, calls.clone(), &mut out, repeat));
         }
     }
+    let archive = refused_archive(&mut Random::seeded(8));
+    println!("Check word of {} bytes: milliseconds of the library, of a plain loop over words and of one over bytes", archive.len());
+    println!("{}", check_word_line(&archive, repeat));
 }

@@ -6,7 +6,7 @@ use native.Mathlib.Nat.{add-zero, add-assoc, mul-zero}
 use native.Mathlib.Numerals.{add-one}
 use native.Mathlib.Omega.{arith}
 use lib.ListN.{length, take, drop, getD, set, length-take, length-drop}
-use lib.Seq.{drop-drop, getD-drop, take-suc, take-suc-set, append-snoc, take-all}
+use lib.Seq.{drop-drop, drop-at, getD-drop, take-at, take-suc, take-suc-set, append-snoc, take-all}
 use Rattle.fields.specs.Words.{word, wordAt, wordsAt, wordBytes, words, wordsBytes}
 
 -- ---- words of bytes
@@ -41,16 +41,22 @@ words-none (a ∷ b ∷ []) h = refl
 words-none (a ∷ b ∷ c ∷ []) h = refl
 words-none (a ∷ b ∷ c ∷ d ∷ rest) h = absurd (omega arith)
 
+four : (k : ℕ) → 4 * suc k ≡ suc (suc (suc (suc (4 * k))))
+four k = omega arith
+
+-- bytes cut in two at any multiple of four, also past their end
+pub words-cut : (k : ℕ) (s : List ℕ) → words s ≡ words (take (4 * k) s) ++ words (drop (4 * k) s)
+unfolding words
+words-cut zero s = refl
+words-cut (suc k) [] = rw (four k)
+words-cut (suc k) (a ∷ []) = rw (four k)
+words-cut (suc k) (a ∷ b ∷ []) = rw (four k)
+words-cut (suc k) (a ∷ b ∷ c ∷ []) = rw (four k)
+words-cut (suc k) (a ∷ b ∷ c ∷ d ∷ rest) = rw (four k) (ap (λ (l : List ℕ). word a b c d ∷ l) (words-cut k rest))
+
 -- bytes that end with a word, and others behind them
 pub words-append : (n : ℕ) (a b : List ℕ) → length a ≡ 4 * n → words (a ++ b) ≡ words a ++ words b
-unfolding words
-words-append zero [] b e = refl
-words-append zero (u ∷ a) b e = absurd (omega arith)
-words-append (suc n) [] b e = absurd (omega arith)
-words-append (suc n) (u ∷ []) b e = absurd (omega arith)
-words-append (suc n) (u ∷ v ∷ []) b e = absurd (omega arith)
-words-append (suc n) (u ∷ v ∷ w ∷ []) b e = absurd (omega arith)
-words-append (suc n) (u ∷ v ∷ w ∷ z ∷ a) b e = ap (λ (l : List ℕ). word u v w z ∷ l) (words-append n a b (omega arith))
+words-append n a b e = words-cut n (a ++ b) ∙ rw (take-at a b (4 * n) e, drop-at a b (4 * n) e)
 
 -- ---- bytes of words
 

@@ -1,7 +1,7 @@
 // The fields of the two files: words, sums, readings, the opening bytes and the check word, read from and written to lent bytes.
 // A writer writes over the front of what it is lent and returns how much it wrote.
 ghost use mathlib.Core.Path.{_≡_};
-ghost use Prim.Native.Nat.{_+_, _*_, _≤_, _<_};
+ghost use Prim.Native.Nat.{_+_, _*_, _%_, _^_, _≤_, _<_};
 ghost use lib.ListN.{length, take};
 ghost use Rattle.fields.specs.Words.{wordAt, wordsAt, wordBytes, wordsBytes};
 ghost use Rattle.fields.specs.Twos.{signedOf, bitsOf, sumAt, sumBytes, readingAt};
@@ -165,8 +165,8 @@ pub fn put_opening(out: &mut [u8], opening: &[u8; 4]) -> usize
     put_bytes(out, bytes)
 }
 
-// The check word of the bytes s: the sum of their words, modulo 2^32.
-pub fn check_word(s: &[u8]) -> u32
+// The sum of the words of s, modulo 2^32.
+fn sum_words(s: &[u8]) -> u32
     ensures { λ r. ⌜ r ≡ checkOf (now (s .entry)) ⌝ }
 {
     let mut sum: u32 = 0;
@@ -176,6 +176,33 @@ pub fn check_word(s: &[u8]) -> u32
         at += 4;
     }
     sum
+}
+
+// The sum of the words of two parts of one length, modulo 2^32: at each step a word of each, added to a sum of its own.
+fn sum_both(s: &[u8], t: &[u8]) -> u32
+    requires { ⌜ length (now s) ≡ length (now t) ⌝ }
+    ensures { λ r. ⌜ r ≡ (checkOf (now (s .entry)) + checkOf (now (t .entry))) % 2 ^ 32 ⌝ }
+{
+    let mut first: u32 = 0;
+    let mut second: u32 = 0;
+    let mut at = 0;
+    while 4 <= s.len() - at {
+        first = std::num::wrapping_add_u32(first, word_at(s, at));
+        second = std::num::wrapping_add_u32(second, word_at(t, at));
+        at += 4;
+    }
+    std::num::wrapping_add_u32(first, second)
+}
+
+// The check word of the bytes s: the sum of their words, modulo 2^32. It is that of two halves and of the few words behind them, added.
+// A half is a multiple of 16 bytes, as wide as the loads that the compiler makes of four words.
+pub fn check_word(s: &[u8]) -> u32
+    ensures { λ r. ⌜ r ≡ checkOf (now (s .entry)) ⌝ }
+{
+    let half = 16 * (s.len() / 32);
+    let behind = half + half;
+    let sum = sum_both(&s[..half], &s[half..behind]);
+    std::num::wrapping_add_u32(sum, sum_words(&s[behind..]))
 }
 
 // Writes the check word of the first at bytes of out straight after them.

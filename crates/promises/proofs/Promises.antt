@@ -1,16 +1,18 @@
--- The front page: the user's demands 2 and 3 on bytes. Demand 1 is the contracts of the five calls (src/lib.rt of crates build and archive), each an equation
+-- The front page: the user's demands 2 and 3 on bytes, and what the change requests ask to be shown. Demand 1 is the contracts of the five calls (src/lib.rt of crates build and archive), each an equation
 -- with its definition in crate calls, specs/Calls.antt. Beside this page: Room.antt (outputs that are always enough), Numbers.antt (the number that another language
 -- gets tells a stop from a success), Examples.antt (the worked examples of document 01).
 use mathlib.Core.Path.{_≡_, refl, sym, ap, ap₂, subst, _∙_}
 use mathlib.Core.Logic.{_↔_}
 use mathlib.Core.Bool.{true}
 use mathlib.Core.Option.{some as just}
-use mathlib.Core.List.{List, [], map, flatMap, List·Permᴰ, List·Memᴰ·eq-of-singleton, Memᴰ·cast, Memᴰ·map, Memᴰ·of-map}
-use Prim.Native.Nat.{ℕ, _+_, _^_, _<_, _≤_}
-use lib.ListN.{length, length-append, length-map, getElem?}
+use mathlib.Core.List.{List, [], _++_, map, flatMap, List·Permᴰ, List·Memᴰ·eq-of-singleton, Memᴰ·cast, Memᴰ·map, Memᴰ·of-map}
+use Prim.Native.Nat.{ℕ, _+_, _*_, _%_, _^_, _<_, _≤_}
+use lib.ListN.{length, take, drop, length-append, length-map, getElem?}
 use borrow.Author.Tests.{lt-ltb}
 use Rattle.lists.specs.Lists.{_∈_}
 use Rattle.lists.proofs.Members.{flat-same}
+use Rattle.fields.specs.Check.{checkSum, checkOf}
+use Rattle.fields.specs.CheckLaws.{checkSum-append, check-cut}
 use Rattle.lattice.specs.Sets.{sets}
 use Rattle.walk.specs.Parsed.{got}
 use Rattle.walk.specs.Limits.{Bytes}
@@ -211,3 +213,13 @@ module _ (s u : List ℕ) (t : Records) (b : Bytes s) (e : readTable s ≡ got t
     x .answer ∙ ap (λ (o : Outcome). answerOf (within (length l) o)) (sym rearranged-built) ∙ sym (y .answer),
     x .output ∙ ap (λ (o : Outcome). leftOf (within (length l) o) l) (sym rearranged-built) ∙ sym (y .output),
   )
+
+-- ---- C-13: the check word in parts
+
+-- The sum over words cut in two between any of them is that of both parts, added modulo 2 to the power 32;
+pub words-in-parts : (us vs : List ℕ) → checkSum (us ++ vs) ≡ (checkSum us + checkSum vs) % 2 ^ 32
+words-in-parts us vs = checkSum-append us vs
+
+-- so is the check word of a file's bytes cut in two at any multiple of four.
+pub check-in-parts : (s : List ℕ) (k : ℕ) → checkOf s ≡ (checkOf (take (4 * k) s) + checkOf (drop (4 * k) s)) % 2 ^ 32
+check-in-parts s k = check-cut k s
