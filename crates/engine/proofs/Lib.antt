@@ -7,6 +7,10 @@ pub mod Runs
 pub mod Totals
 pub mod Counts
 pub mod Groups
+pub mod Sorted
+pub mod Refined
+pub mod Longer
+pub mod Examples
 pub mod Indexed
 pub mod Gathered
 pub mod CellCodes

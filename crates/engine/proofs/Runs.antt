@@ -1,22 +1,22 @@
--- The runs of a list of rows in the order of their keys: where a run ends, which keys the runs have, and which rows.
+-- The runs of a list of rows in the order of their keys: where a run ends, which keys the runs have, and which rows; the runs of lists one behind the other.
 use mathlib.Core.Path.{_≡_, refl, ap, _∙_}
 use mathlib.Core.Logic.{_⊎_, inl, inr}
 use mathlib.Core.Bool.{true, false}
-use mathlib.Core.List.{List, [], _∷_, map, List·Memᴰ·head, List·Memᴰ·tail, List·Memᴰ·not-nil, List·Memᴰ·cases-cons, List·Memᴰ·eq-of-singleton, Memᴰ·map}
+use mathlib.Core.List.{List, [], _∷_, _++_, map, flatMap, List·Memᴰ·head, List·Memᴰ·tail, List·Memᴰ·not-nil, List·Memᴰ·cases-cons, List·Memᴰ·eq-of-singleton, Memᴰ·map}
 use Prim.Native.Nat.{ℕ, zero, suc, _+_, _-_, _≤_, _<_}
 use native.Mathlib.Omega.{arith}
 use lib.Dec.{ltb}
 use lib.ListN.{length, getD, drop, drop-of-length-le}
 use lib.Seq.{drop-cons, slice, slice-empty, slice-cons}
 use borrow.Author.Tests.{ltb-true, ltb-false}
-use Rattle.lists.specs.Lists.{_∈_, keep}
+use Rattle.lists.specs.Lists.{_∈_, keep, Pairwise}
 use Rattle.lists.specs.Order.{earlier, insert, sort, Rising}
 use Rattle.lists.proofs.Tests.{cases, truth}
-use Rattle.lists.proofs.Members.{keep-none}
+use Rattle.lists.proofs.Members.{keep-none, flat-in}
 use Rattle.lists.proofs.Places.{pairwise-at}
 use Rattle.lists.proofs.Order.{by-codes, same-eq, same-refl, not-same}
 use Rattle.lists.proofs.Sorted.{sort-rising}
-use Rattle.engine.specs.Runs.{Run, runs, attach, Ends}
+use Rattle.engine.specs.Runs.{Run, members, runs, attach, Ends}
 use Rattle.engine.proofs.Arranged.{Ordered, alike, before-all}
 
 module _ (key : ℕ → List ℕ) where
@@ -128,3 +128,49 @@ module _ (key : ℕ → List ℕ) where
       (λ q. rw (q, same-refl (key x), s) (ap (λ (t : List ℕ). x ∷ t) (runs-whole (y ∷ l) (o .1) (rw (f .2) (List·Memᴰ·head refl)))))
       (λ i. whole-more x (y ∷ l) r (rw s ((rw (f .2) at (runs-rising (y ∷ l) (o .1))) .0 (cellOf r) (Memᴰ·map cellOf i)))
       (runs-whole (y ∷ l) (o .1) (rw (f .2) (List·Memᴰ·tail i)))))
+
+  attach-members : (x : ℕ) (rs : List Run) → flatMap members (attach key x rs) ≡ x ∷ flatMap members rs
+  unfolding flatMap
+  attach-members x [] = refl
+  attach-members x (r ∷ rs) = cases (truth (earlier (key x) (cellOf r))) (λ e. rw e) (λ e. rw e)
+
+  -- the rows of the runs are those of the list
+  pub runs-members : (l : List ℕ) → flatMap members (runs key l) ≡ l
+  unfolding runs flatMap
+  runs-members [] = refl
+  runs-members (x ∷ l) = attach-members x (runs key l) ∙ ap (λ (m : List ℕ). x ∷ m) (runs-members l)
+
+  -- ---- lists one behind the other, the rows of each before those of the next
+
+  attach-append : (x : ℕ) (r : Run) (rs qs : List Run) → attach key x (r ∷ rs ++ qs) ≡ attach key x (r ∷ rs) ++ qs
+  attach-append x r rs qs = cases (truth (earlier (key x) (cellOf r))) (λ e. rw e) (λ e. rw e)
+
+  runs-append : (l m : List ℕ) → ((x y : ℕ) → x ∈ l → y ∈ m → earlier (key x) (key y) ≡ true) → runs key (l ++ m) ≡ runs key l ++ runs key m
+  unfolding runs
+  runs-append [] m h = refl
+  runs-append (x ∷ []) [] h = refl
+  runs-append (x ∷ []) (y ∷ m) h = runs-part x y m (h x y (List·Memᴰ·head refl) (List·Memᴰ·head refl))
+  runs-append (x ∷ y ∷ l) m h =
+      let f = attach-first y (runs key l) in
+      ap (attach key x) (runs-append (y ∷ l) m (λ z w i j. h z w (List·Memᴰ·tail i) j))
+      ∙ rw (f .2) (attach-append x (record { first = y; more = f .0 }) (f .1) (runs key m))
+
+  pub runs-flat : {A : Type 0} (f : A → List ℕ) (l : List A) → Pairwise (λ a b. (x y : ℕ) → x ∈ f a → y ∈ f b → earlier (key x) (key y) ≡ true) l
+      → runs key (flatMap f l) ≡ flatMap (λ a. runs key (f a)) l
+  unfolding runs flatMap
+  runs-flat f [] p = refl
+  runs-flat f (a ∷ l) p =
+      runs-append (f a) (flatMap f l) (λ x y i j. let r = flat-in f l j in p .0 (r .0) (r .1) x y i (r .2)) ∙ ap (λ (rs : List Run). runs key (f a) ++ rs) (runs-flat f l (p .1))
+
+-- keys by which rows come in the same order make the same runs
+module _ (key other : ℕ → List ℕ) where
+  attach-same : (x : ℕ) (rs : List Run) → ((r : Run) → r ∈ rs → earlier (key x) (cellOf key r) ≡ earlier (other x) (cellOf other r)) → attach key x rs ≡ attach other x rs
+  attach-same x [] h = refl
+  attach-same x (r ∷ rs) h = rw (h r (List·Memᴰ·head refl))
+
+  pub runs-same : (l : List ℕ) → ((x y : ℕ) → x ∈ l → y ∈ l → earlier (key x) (key y) ≡ earlier (other x) (other y)) → runs key l ≡ runs other l
+  unfolding runs
+  runs-same [] h = refl
+  runs-same (x ∷ l) h =
+      ap (attach key x) (runs-same l (λ y z i j. h y z (List·Memᴰ·tail i) (List·Memᴰ·tail j)))
+      ∙ attach-same x (runs other l) (λ r m. h x (r .first) (List·Memᴰ·head refl) (List·Memᴰ·tail (runs-in other l m)))

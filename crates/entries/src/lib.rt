@@ -44,9 +44,9 @@ fn is_after(s: &[u8], n: usize, p: usize, q: usize) -> bool
     fields::read_words(s, p, &mut before[..n]);
     fields::read_words(s, q, &mut mine[..n]);
     match rows::compare(&before[..n], &mine[..n], 255) {
-        Order::Before => true,
+        Order::Before(_) => true,
         Order::Equal => false,
-        Order::After => false,
+        Order::After(_) => false,
     }
 }
 

@@ -3,7 +3,7 @@
 -- gets tells a stop from a success), Examples.antt (the worked examples of document 01).
 use mathlib.Core.Path.{_≡_, refl, sym, ap, ap₂, subst, _∙_}
 use mathlib.Core.Logic.{_↔_}
-use mathlib.Core.Bool.{true}
+use mathlib.Core.Bool.{true, false, not, _&&_}
 use mathlib.Core.Option.{some as just}
 use mathlib.Core.List.{List, [], _++_, map, flatMap, List·Permᴰ, List·Memᴰ·eq-of-singleton, Memᴰ·cast, Memᴰ·map, Memᴰ·of-map}
 use Prim.Native.Nat.{ℕ, _+_, _*_, _%_, _^_, _<_, _≤_}
@@ -13,12 +13,12 @@ use Rattle.lists.specs.Lists.{_∈_}
 use Rattle.lists.proofs.Members.{flat-same}
 use Rattle.fields.specs.Check.{checkSum, checkOf}
 use Rattle.fields.specs.CheckLaws.{checkSum-append, check-cut}
-use Rattle.lattice.specs.Sets.{sets}
+use Rattle.lattice.specs.Sets.{sets, holds}
 use Rattle.walk.specs.Parsed.{got}
 use Rattle.walk.specs.Limits.{Bytes}
 use Rattle.cube.specs.declared.Total.{Total}
 use Rattle.cube.specs.Measure.{sums, Row, codesOf}
-use Rattle.cube.specs.Codes.{plain}
+use Rattle.cube.specs.Codes.{agree, plain}
 use Rattle.cube.proofs.Codes.{plain-laws}
 use Rattle.cube.proofs.Normals.{base-within}
 use Rattle.cube.specs.Cube.{Exists, total, grouped, complete}
@@ -26,6 +26,14 @@ use Rattle.cube.specs.Condensed.{Entry, base, normal, Answer, no-record, found,
 use Rattle.cube.proofs.Sums.{sums-add}
 use Rattle.cube.proofs.Folding.{grouped-folded}
 use Rattle.cube.proofs.Promises.{base-rows, any-expands, ours-condensed, no-record-iff, answer, one-entry, fewest-entries, as-few, shortest-list}
+use Rattle.rows.specs.declared.Order.the-variants.{Equal}
+use Rattle.rows.specs.Rows.{cut}
+use Rattle.rows.specs.Compare.{compared, named, has, FirstDifference, added, Longer}
+use Rattle.rows.proofs.Parting as parting
+use Rattle.rows.proofs.Longer as carrying
+use Rattle.engine.specs.Index.{key, Indexed}
+use Rattle.engine.specs.Runs.{runs, again}
+use Rattle.engine.proofs.Longer as grouping
 use Rattle.table.specs.Layout.{Records, TableLimits}
 use Rattle.table.specs.Reading.{readTable, baseRows}
 use Rattle.table.specs.Rearranged.{Rearranged}
@@ -223,3 +231,40 @@ words-in-parts us vs = checkSum-append us vs
 -- so is the check word of a file's bytes cut in two at any multiple of four.
 pub check-in-parts : (s : List ℕ) (k : ℕ) → checkOf s ≡ (checkOf (take (4 * k) s) + checkOf (drop (4 * k) s)) % 2 ^ 32
 check-in-parts s k = check-cut k s
+
+-- ---- C-16: where two rows part
+
+module _ (s : ℕ) (x y : List ℕ) where
+  -- Compared under a set, two rows are equal just if they agree on it,
+  pub compared-equal : (compared s x y ≡ Equal) ↔ (agree s x y ≡ true)
+  compared-equal = parting.compared-equal s x y
+
+  -- and otherwise the first dimension of the set at which they differ is named, with before or after by the codes there.
+  pub compared-first : length x ≡ length y → agree s x y ≡ false → FirstDifference s x y (compared s x y)
+  compared-first = parting.compared-first s x y
+
+  module _ (d t : ℕ) (l : length x ≤ d) (b : s < 2 ^ d) (h : holds d t s ≡ true) where
+    -- Under a longer set that holds it the result is the same, if every added dimension comes after the one named,
+    pub compared-same : agree s x y ≡ false → ((i : ℕ) → has (added t s) i ≡ true → named (compared s x y) < i) → compared t x y ≡ compared s x y
+    compared-same = carrying.compared-same d s t x y l b h
+
+    -- and for rows that are equal under the shorter set it is that of the added dimensions alone:
+    pub compared-added : compared s x y ≡ Equal → compared t x y ≡ compared (added t s) x y
+    compared-added e = carrying.agree-added d s t x y l b h (compared-equal .0 e)
+
+-- those that the longer set has and the shorter one has not.
+pub added-has : (d s t i : ℕ) → i ≤ d → s < 2 ^ d → holds d t s ≡ true → has (added t s) i ≡ has t i && not (has s i)
+added-has = carrying.added-has
+
+-- So grouping carries over to a longer set, each of whose added dimensions comes after all of the shorter set. Let two indexes have the rows' numbers in the order of these sets.
+module _ {n d s t : ℕ} {codes short long : List ℕ} (x : Indexed n d s codes short) (y : Indexed n d t codes long) (h : Longer d s t) where
+  abbrev keys : ℕ → ℕ → List ℕ
+  keys u = key u (cut d n codes)
+
+  -- The longer set's is the shorter set's with the rows of each group ordered anew by the added dimensions alone,
+  pub order-carried : long ≡ flatMap (again (keys (added t s))) (runs (keys s) short)
+  order-carried = grouping.order-carried x y h
+
+  -- and its groups are those that the rows of each group make by the added dimensions alone.
+  pub groups-carried : runs (keys t) long ≡ flatMap (λ r. runs (keys (added t s)) (again (keys (added t s)) r)) (runs (keys s) short)
+  groups-carried = grouping.groups-carried x y h

@@ -96,9 +96,9 @@ fn cell_before(mine: &[u32], cell: &[u32]) -> bool
         return set < other;
     }
     match rows::compare(mine, cell, 255) {
-        rows::Order::Before => true,
+        rows::Order::Before(_) => true,
         rows::Order::Equal => false,
-        rows::Order::After => false,
+        rows::Order::After(_) => false,
     }
 }
 

@@ -1,52 +1,57 @@
--- The order of two rows under a set: one dimension after the other, and what each answer says of their cells.
-use mathlib.Core.Path.{_≡_, refl, sym}
-use mathlib.Core.Logic.{_↔_}
-use mathlib.Core.Bool.{Bool, true, false}
+-- Two rows compared under a set, one dimension after the other.
+use mathlib.Core.Path.{_≡_, refl, sym, ap, _∙_}
+use mathlib.Core.Bool.{true}
 use mathlib.Core.List.{List}
-use Prim.Native.Nat.{ℕ, _+_, _/_, _%_, _≤_, _<_}
+use Prim.Native.Nat.{ℕ, suc, _+_, _/_, _%_, _≤_, _<_}
+use native.Mathlib.Nat.{zero-add}
 use native.Mathlib.Numerals.{add-one}
 use native.Mathlib.Omega.{arith}
 use lib.ListN.{length, getD, drop, drop-of-length-le}
 use lib.Seq.{drop-cons}
-use Rattle.lists.specs.Order.{earlier}
-use Rattle.lists.proofs.Order.{earlier-lt, earlier-gt, earlier-skip}
-use Rattle.cube.specs.Codes.{shown, cell}
+use borrow.Author.Tests.{eq-eqb, lt-ltb, le-ltb}
+use Rattle.cube.specs.Codes.{alike}
+use Rattle.rows.specs.declared.Order.{Order}
 use Rattle.rows.specs.declared.Order.the-variants.{Before, Equal, After}
-use Rattle.rows.specs.Compare.{ordered, compared}
+use Rattle.rows.specs.Compare.{next, compared}
+use Rattle.rows.proofs.Parting.{parts-alike}
 
--- ---- one dimension after the other
+-- a dimension counted after the first k, counted from the first
+abbrev pub further : ℕ → Order → Order
+further k (Before i) = Before (k + i)
+further k Equal = Equal
+further k (After i) = After (k + i)
 
--- codes of a dimension that the set has not are shown the same
-pub shown-out : (n a b : ℕ) → (n % 2 ≡ 1 → ⊥) → shown (n % 2) a ≡ shown (n % 2) b
-shown-out n a b h = let e : n % 2 ≡ 0 = omega arith in rw e
+further-next : (k : ℕ) (p : Order) → further (suc k) p ≡ further k (next p)
+further-next k (Before i) = let e : suc k + i ≡ k + suc i = omega arith in ap Before e
+further-next k Equal = refl
+further-next k (After i) = let e : suc k + i ≡ k + suc i = omega arith in ap After e
 
-pub compared-done : (set : ℕ) (xs ys : List ℕ) (i : ℕ) → length xs ≤ i → length ys ≤ i → compared set (drop i xs) (drop i ys) ≡ Equal
+-- at the start all dimensions are left
+pub further-none : (p : Order) → further 0 p ≡ p
+further-none (Before i) = ap Before (zero-add i)
+further-none Equal = refl
+further-none (After i) = ap After (zero-add i)
+
+pub alike-in : (n a b : ℕ) → n % 2 ≡ 1 → a ≡ b → alike (n % 2) a b ≡ true
+alike-in n a b h e = rw h (eq-eqb a b e)
+
+pub compared-done : (set : ℕ) (xs ys : List ℕ) (k : ℕ) → length xs ≤ k → length ys ≤ k → further k (compared set (drop k xs) (drop k ys)) ≡ Equal
 unfolding compared
-compared-done set xs ys i h k = rw (drop-of-length-le xs h, drop-of-length-le ys k)
+compared-done set xs ys k h l = rw (drop-of-length-le xs h, drop-of-length-le ys l)
 
--- one dimension more: where the cells have the same code, and where one has the lower
-module _ (set : ℕ) (xs ys : List ℕ) (i : ℕ) (h : i < length xs) (k : i < length ys) where
-  pub compared-skip : shown (set % 2) (getD xs i 0) ≡ shown (set % 2) (getD ys i 0)
-      → compared (set / 2) (drop (i + 1) xs) (drop (i + 1) ys) ≡ compared set (drop i xs) (drop i ys)
+-- one dimension more: where the codes are alike, and where one is lower
+module _ (set : ℕ) (xs ys : List ℕ) (k : ℕ) (h : k < length xs) (l : k < length ys) where
+  pub compared-skip : alike (set % 2) (getD xs k 0) (getD ys k 0) ≡ true
+      → further (k + 1) (compared (set / 2) (drop (k + 1) xs) (drop (k + 1) ys)) ≡ further k (compared set (drop k xs) (drop k ys))
   unfolding compared
-  compared-skip e = rw (add-one, drop-cons xs i 0, drop-cons ys i 0, earlier-skip _ _ _ _ e, earlier-skip _ _ _ _ (sym e))
+  compared-skip e =
+      let p = compared (set / 2) (drop (suc k) xs) (drop (suc k) ys) in
+      rw (add-one k, drop-cons xs k 0, drop-cons ys k 0) (further-next k p ∙ ap (further k) (sym (parts-alike (set % 2) (getD xs k 0) (getD ys k 0) (next p) e)))
 
-  pub compared-less : shown (set % 2) (getD xs i 0) < shown (set % 2) (getD ys i 0) → compared set (drop i xs) (drop i ys) ≡ Before
+  pub compared-less : set % 2 ≡ 1 → getD xs k 0 < getD ys k 0 → further k (compared set (drop k xs) (drop k ys)) ≡ Before (k + 1)
   unfolding compared
-  compared-less l = rw (drop-cons xs i 0, drop-cons ys i 0, earlier-lt _ _ _ _ l)
+  compared-less e g = rw (drop-cons xs k 0, drop-cons ys k 0, e, lt-ltb (getD xs k 0) (getD ys k 0) g)
 
-  pub compared-more : shown (set % 2) (getD ys i 0) < shown (set % 2) (getD xs i 0) → compared set (drop i xs) (drop i ys) ≡ After
+  pub compared-more : set % 2 ≡ 1 → getD ys k 0 < getD xs k 0 → further k (compared set (drop k xs) (drop k ys)) ≡ After (k + 1)
   unfolding compared
-  compared-more l = rw (drop-cons xs i 0, drop-cons ys i 0, earlier-gt _ _ _ _ l, earlier-lt _ _ _ _ l)
-
--- ---- what the answer 'before' says
-
-is-before : (p q : Bool) → ordered p q ≡ Before → p ≡ true
-is-before true q e = refl
-is-before false true e = cc
-is-before false false e = cc
-
-module _ (s : ℕ) (x y : List ℕ) where
-  pub compared-before : (compared s x y ≡ Before) ↔ (earlier (cell s x) (cell s y) ≡ true)
-  unfolding compared
-  compared-before = (is-before (earlier (cell s x) (cell s y)) (earlier (cell s y) (cell s x)), λ e. rw e)
+  compared-more e g = rw (drop-cons xs k 0, drop-cons ys k 0, e, le-ltb (getD xs k 0) (getD ys k 0) (omega arith), lt-ltb (getD ys k 0) (getD xs k 0) g)

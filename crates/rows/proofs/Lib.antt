@@ -2,5 +2,8 @@
 pub mod Rows
 pub mod Flat
 pub mod Agree
+pub mod Parting
+pub mod Longer
+pub mod Examples
 pub mod Compared
 pub mod Singles

@@ -45,14 +45,14 @@ pub fn is_single(codes: &[u32], rows: usize, dims: usize, row: usize, set: u32) 
     alone
 }
 
-// How two rows are ordered under a set.
+// How two rows are ordered under a set: before or after at a dimension, counted from 1, or equal.
 pub enum Order {
-    Before,
+    Before(usize),
     Equal,
-    After,
+    After(usize),
 }
 
-// The order of two rows under a set: the first dimension of the set at which they differ decides.
+// The order of two rows under a set: the first dimension of the set at which they differ decides, and is named.
 pub fn compare(mine: &[u32], other: &[u32], set: u32) -> Order
     requires { ⌜ length (now mine) ≡ length (now other) ⌝ }
     ensures { λ r. ⌜ r ≡ compared set (now (mine .entry)) (now (other .entry)) ⌝ }
@@ -63,10 +63,10 @@ pub fn compare(mine: &[u32], other: &[u32], set: u32) -> Order
         let y = other[d];
         if rest % 2 == 1 {
             if x < y {
-                return Order::Before;
+                return Order::Before(d + 1);
             }
             if y < x {
-                return Order::After;
+                return Order::After(d + 1);
             }
         }
         rest = rest / 2;

@@ -8,7 +8,8 @@ use Rattle.lists.specs.Order.{earlier}
 use Rattle.lattice.specs.Sets.{size}
 use Rattle.cube.specs.Codes.{set-of, keys}
 use Rattle.cube.proofs.Keys.{keys-size, keys-set, keys-codes}
-use Rattle.entries.proofs.After.{isBefore, earlier-compared}
+use Rattle.rows.specs.Compare.{isBefore}
+use Rattle.entries.proofs.After.{earlier-compared}
 use Rattle.questions.proofs.cell_before.Statement.{statement}
 use Rattle.questions.proofs.cell_before.Tie as tie
 
