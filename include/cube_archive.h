@@ -15,6 +15,10 @@
  *   expansion   all cuboids in lattice order: sets of fewer dimensions first,
  *               then the smaller set number
  *
+ * A table without rows has one cell, all ALL, with sum 0 and count 0, which is
+ * the one normal entry of its archive (32 + 8 D bytes). Every other cell needs a
+ * row.
+ *
  * The check word is the sum of all 32-bit words before it, modulo 2^32. A code
  * is less than its dimension's size. In a set number dimension i, counted from
  * 1, adds 2^(i-1).
@@ -84,7 +88,7 @@ enum cube_stop {
  * enough; n is the table's row count or the archive's base count. That a call
  * which is lent as much does not stop for want of output is proved of these
  * formulas (crates/promises/proofs/Room.antt). Arguments are evaluated more than
- * once.
+ * once. A table without rows needs the room of one with one row.
  *
  * Cuboid: a cell of 4d + 12 bytes for each base row at most. Expansion: 2^d
  * cuboids. Archive: 4d + 20 bytes are fields that occur once, and a base entry
@@ -93,10 +97,11 @@ enum cube_stop {
  * listed set number, or half of a normal cell, in which another row falls too.
  */
 #define CUBE_TABLE_LENGTH(d, n) (16 + 4 * (size_t)(d) + (size_t)(n) * (4 * (size_t)(d) + 4))
+#define CUBE_AT_LEAST_1(n) ((size_t)(n) == 0 ? 1 : (size_t)(n))
 #define CUBE_ARCHIVE_ROOM(d, n)                                                                        \
     (20 + 4 * (size_t)(d) +                                                                            \
-     (size_t)(n) * (4 * (size_t)(d) + 16 + (((size_t)1 << (d)) - 1) * (2 * (size_t)(d) + 6)))
-#define CUBE_CUBOID_ROOM(d, n) (4 + (size_t)(n) * (4 * (size_t)(d) + 12))
+     CUBE_AT_LEAST_1(n) * (4 * (size_t)(d) + 16 + (((size_t)1 << (d)) - 1) * (2 * (size_t)(d) + 6)))
+#define CUBE_CUBOID_ROOM(d, n) (4 + CUBE_AT_LEAST_1(n) * (4 * (size_t)(d) + 12))
 #define CUBE_EXPANSION_ROOM(d, n) (CUBE_CUBOID_ROOM(d, n) << (d))
 
 /* Builds the archive of a table: its length. Stops: 1 to 6, 10, 11, 15. */
@@ -111,7 +116,8 @@ uint64_t cube_check(const uint8_t *archive, size_t archive_len);
  * Looks up the cell of a question, which has a code or CUBE_ALL for each
  * dimension: 1, with the cell's sum, its count and the number of the entry that
  * carries them stored (from 0 through base, then normal entries); or 0 for 'no
- * record', with nothing stored. Stops: 1 to 13, with nothing stored.
+ * record', with nothing stored. An archive without rows answers all ALL with sum
+ * 0, count 0, entry 0. Stops: 1 to 13, with nothing stored.
  */
 uint64_t cube_look_up(const uint8_t *archive, size_t archive_len, const uint32_t *question,
                       size_t question_len, int64_t *sum, uint32_t *count, uint32_t *entry);

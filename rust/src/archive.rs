@@ -59,6 +59,17 @@ impl Archive {
     /// The sum and count of a cell, or `None` for 'no record'. The question has a code, or `None` for ALL, for each dimension.
     ///
     /// Stop 13 if it has other than D codes, or a code that is not below its size; `Some(65_535)` is such a code.
+    ///
+    /// An archive without rows has one cell, all ALL:
+    ///
+    /// ```
+    /// use cube_archive::{Archive, Found, Table};
+    ///
+    /// let quarter = Archive::build(&Table::new(&[7, 6])?.to_bytes())?;
+    /// assert_eq!(quarter.look_up(&[None, None])?, Some(Found { sum: 0, count: 0, entry: 0 }));
+    /// assert_eq!(quarter.look_up(&[Some(0), None])?, None, "no record");
+    /// # Ok::<(), Box<dyn std::error::Error>>(())
+    /// ```
     pub fn look_up(&self, question: &[Code]) -> Result<Option<Found>, Stop> {
         let question: Vec<u32> = question.iter().copied().map(to_word).collect();
         raw::look_up(&self.bytes, &question)

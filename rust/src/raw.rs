@@ -7,10 +7,10 @@
 //! use cube_archive::{raw, Stop, Table};
 //!
 //! let table = Table::new(&[1])?.to_bytes();
-//! let mut out = [0xEE; 25];
-//! assert_eq!(raw::build(&table, &mut out), Ok(24));
-//! assert_eq!(out[24], 0xEE);
-//! assert_eq!(raw::build(&table, &mut out[..23]), Err(Stop::Output));
+//! let mut out = [0xEE; 41];
+//! assert_eq!(raw::build(&table, &mut out), Ok(40));
+//! assert_eq!(out[40], 0xEE);
+//! assert_eq!(raw::build(&table, &mut out[..39]), Err(Stop::Output));
 //! # Ok::<(), cube_archive::TableError>(())
 //! ```
 use crate::stop::Stop;

@@ -88,10 +88,13 @@ fn the_expansion_has_a_line_for_each_of_30_cells() {
 #[test]
 fn an_archive_without_rows() {
     let archive = Records { sizes: vec![1, 1], rows: vec![] }.archive().into_bytes();
-    answers("check", &archive, "0 base entries, 0 normal entries\n");
-    answers("cell * *", &archive, "* * : no record\n");
-    answers("cuboid 0", &archive, "");
-    answers("expand", &archive, "");
+    answers("check", &archive, "0 base entries, 1 normal entries\n");
+    answers("cell * *", &archive, "* * 0 0 : entry 0\n");
+    answers("cell 0 *", &archive, "0 * : no record\n");
+    answers("cell 0 0", &archive, "0 0 : no record\n");
+    answers("cuboid 0", &archive, "* * 0 0\n");
+    answers("cuboid 3", &archive, "");
+    answers("expand", &archive, "* * 0 0\n");
 }
 
 /// Every row of five dimensions with four codes each, so that no cell outside the full set is single.

@@ -15,6 +15,14 @@ fn a_table_is_written() {
     assert_eq!((status.code(), stdout, stderr), (Some(0), Records::five().table(), vec![]));
 }
 
+/// A quarter without a record.
+#[test]
+fn a_header_alone_is_an_empty_table() {
+    let Output { status, stdout, stderr } = run(b"chip:7,port,reading\n");
+    let empty = Records { sizes: vec![7, 1], rows: vec![] };
+    assert_eq!((status.code(), stdout, stderr), (Some(0), empty.table(), vec![]));
+}
+
 #[test]
 fn a_fault_is_named_and_nothing_is_written() {
     let Output { status, stdout, stderr } = run(b"chip,port,reading\n0,1,50\n0,one,50\n");

@@ -2,22 +2,37 @@
 mod cube;
 
 use cube::Records;
-use cube_archive::{Code, Counts, Found, Stop, Table, TableError};
+use cube_archive::{Archive, Cell, Code, Counts, Found, Stop, Table, TableError};
 
+/// One cell, all ALL, with sum 0 and count 0; every other needs a row.
 #[test]
 fn no_rows() {
-    for dims in 1..=8 {
-        let empty = Records { sizes: vec![1; dims], rows: vec![] };
+    for (dims, size) in (1..=8).flat_map(|dims| [(dims, 1), (dims, 65_535)]) {
+        let empty = Records { sizes: vec![size; dims], rows: vec![] };
         let archive = empty.archive();
-        assert_eq!(archive.as_bytes().len(), 20 + 4 * dims);
-        assert_eq!(archive.check(), Ok(Counts { bases: 0, normals: 0 }));
-        assert_eq!(archive.look_up(&vec![None; dims]), Ok(None));
-        assert_eq!(archive.look_up(&vec![Some(0); dims]), Ok(None));
+        assert_eq!(archive.as_bytes().len(), 32 + 8 * dims);
+        assert_eq!(Archive::open(archive.as_bytes().to_vec()).as_ref(), Ok(&archive));
+        assert_eq!(archive.check(), Ok(Counts { bases: 0, normals: 1 }));
+        assert_eq!(archive.look_up(&vec![None; dims]), Ok(Some(Found { sum: 0, count: 0, entry: 0 })));
+        for set in 1..1 << dims {
+            let question: Vec<Code> = (0..dims).map(|i| (set >> i & 1 == 1).then_some(size - 1)).collect();
+            assert_eq!(archive.look_up(&question), Ok(None), "{question:?}");
+        }
+        let all = Cell { codes: vec![None; dims], sum: 0, count: 0 };
+        assert_eq!(archive.list_cuboid(0).unwrap().cells, std::slice::from_ref(&all));
         let cube = archive.expand().unwrap();
-        assert!(cube.len() == 1 << dims && cube.iter().all(|cuboid| cuboid.cells.is_empty()));
+        assert!(cube.len() == 1 << dims && cube[0].cells == [all] && cube[1..].iter().all(|cuboid| cuboid.cells.is_empty()));
+        assert_eq!(cube, empty.cube());
     }
-    let empty = Records { sizes: vec![1], rows: vec![] }.archive();
-    assert_eq!(empty.as_bytes()[20..], 0x4542_5545u32.to_le_bytes());
+}
+
+/// The archive of an empty table has 40 bytes at D 1; the 24 that lack the cell are refused.
+#[test]
+fn no_rows_and_no_cell() {
+    let empty = Records { sizes: vec![1], rows: vec![] }.archive().into_bytes();
+    assert_eq!((empty.len(), &empty[36..]), (40, &0x4543_5545u32.to_le_bytes()[..]));
+    let before: Vec<u8> = [0x4542_5543, 1, 1, 0, 0, 0x4542_5545u32].into_iter().flat_map(u32::to_le_bytes).collect();
+    assert_eq!((before.len(), Archive::open(before)), (24, Err(Stop::Entries)));
 }
 
 #[test]

@@ -37,23 +37,24 @@ fn the_five_rows() {
 fn no_rows() {
     let empty = Records { sizes: vec![1], rows: vec![] };
     let (table, archive) = (empty.table(), empty.archive().into_bytes());
-    try_lengths(24, room::archive(1, 0), |out| raw::build(&table, out));
-    try_lengths(4, room::cuboid(1, 0), |out| raw::list_cuboid(&archive, 0, out));
-    try_lengths(8, room::expansion(1, 0), |out| raw::expand(&archive, out));
+    try_lengths(40, room::archive(1, 0), |out| raw::build(&table, out));
+    try_lengths(20, room::cuboid(1, 0), |out| raw::list_cuboid(&archive, 0, out));
+    try_lengths(4, room::cuboid(1, 0), |out| raw::list_cuboid(&archive, 1, out));
+    try_lengths(24, room::expansion(1, 0), |out| raw::expand(&archive, out));
 }
 
-/// The bounds are reached: by two rows that share a cell of the one other set, by base rows under the full set, by one row.
+/// The bounds are reached: by two rows that share a cell of the one other set, by base rows under the full set, by one row, and under the
+/// empty set by no row.
 #[test]
 fn the_rooms_are_no_longer_than_needed() {
     let two = Records { sizes: vec![2], rows: vec![(vec![0], 1), (vec![1], 1)] };
     assert_eq!(two.archive().as_bytes().len(), room::archive(1, 2));
     for dims in 1..=8 {
         let rows = |n: u16| Records { sizes: vec![9; dims], rows: (0..n).map(|i| (vec![i; dims], 1)).collect() };
-        assert_eq!(rows(0).archive().as_bytes().len(), room::archive(dims, 0));
         let full = (1 << dims) - 1;
-        for n in [0, 1, 9] {
+        for (n, set) in [(0, 0), (1, full), (9, full)] {
             let mut out = vec![0; room::cuboid(dims, n.into())];
-            assert_eq!(raw::list_cuboid(rows(n).archive().as_bytes(), full, &mut out), Ok(out.len()));
+            assert_eq!(raw::list_cuboid(rows(n).archive().as_bytes(), set, &mut out), Ok(out.len()));
         }
         let mut out = vec![0; room::expansion(dims, 1)];
         assert_eq!(raw::expand(rows(1).archive().as_bytes(), &mut out), Ok(out.len()));
@@ -66,4 +67,14 @@ fn the_largest_rooms() {
     assert_eq!(room::archive(8, 1_024), 52 + 1_024 * (48 + 255 * 22));
     assert_eq!(room::cuboid(8, 1_024), 45_060);
     assert_eq!(room::expansion(8, 1_024), 11_535_360);
+}
+
+/// An empty table has a cell too.
+#[test]
+fn no_rows_need_the_room_of_one() {
+    for dims in 1..=8 {
+        assert_eq!(room::archive(dims, 0), room::archive(dims, 1));
+        assert_eq!(room::cuboid(dims, 0), room::cuboid(dims, 1));
+        assert_eq!(room::expansion(dims, 0), room::expansion(dims, 1));
+    }
 }

@@ -1,5 +1,5 @@
 /*
- * The header and the five functions from C: document 01's five-row example, its empty table, and each stop.
+ * The header and the five functions from C: document 01's five-row example, the empty table (document 02, C-14), and each stop.
  * Prints a line for each failed check, and 'N passed, M failed' as the last line.
  */
 #include <stdio.h>
@@ -108,9 +108,15 @@ static void macros(void)
     CHECK(!CUBE_IS_STOP(CUBE_STOP_BIT - 1) && CUBE_IS_STOP(CUBE_STOP_BIT));
     CHECK(CUBE_BASE_COUNT(UINT64_C(0x1FE0000000400)) == 1024 && CUBE_NORMAL_COUNT(UINT64_C(0x1FE0000000400)) == 130560);
     CHECK(CUBE_TABLE_LENGTH(3, 5) == 108 && CUBE_TABLE_LENGTH(8, 1024) == 36912);
-    CHECK(CUBE_ARCHIVE_ROOM(1, 0) == 24 && CUBE_ARCHIVE_ROOM(8, 1024) == 52 + 1024 * (48 + 255 * 22));
+    CHECK(CUBE_ARCHIVE_ROOM(1, 2) == 80 && CUBE_ARCHIVE_ROOM(8, 1024) == 52 + 1024 * (48 + 255 * 22));
     CHECK(CUBE_CUBOID_ROOM(3, 5) == 124 && CUBE_EXPANSION_ROOM(3, 5) == 8 * 124);
     CHECK(CUBE_EXPANSION_ROOM(8, 1024) == 11535360);
+    CHECK(CUBE_ARCHIVE_ROOM(1, 0) == 52 && CUBE_CUBOID_ROOM(1, 0) == 20 && CUBE_EXPANSION_ROOM(1, 0) == 40);
+    for (unsigned d = 1; d <= 8; d++) {
+        CHECK_CASE(d, CUBE_ARCHIVE_ROOM(d, 0) == CUBE_ARCHIVE_ROOM(d, 1));
+        CHECK_CASE(d, CUBE_CUBOID_ROOM(d, 0) == CUBE_CUBOID_ROOM(d, 1));
+        CHECK_CASE(d, CUBE_EXPANSION_ROOM(d, 0) == CUBE_EXPANSION_ROOM(d, 1));
+    }
 }
 
 static void building(void)
@@ -187,19 +193,88 @@ static void expanding(void)
     check_written(expand, &archive, 0, CUBE_EXPANSION_ROOM(D, BASES), &expansion);
 }
 
-/* D 1, size 1, no rows. */
-static void empty_table(void)
+/* The empty table: D sizes, and no rows. */
+static struct file empty_table(uint32_t d, uint32_t size)
 {
-    const uint32_t fields[] = {1, 1, 0, 0}, all = CUBE_ALL;
-    struct file table = file_of(TABLE, fields, 3), archive = file_of(ARCHIVE, fields, 4);
-    struct file no_cells = {{0}, 4}, expansion = {{0}, 8};
+    struct file f = {{0}, 0};
+    put_word(&f, TABLE);
+    put_word(&f, d);
+    for (uint32_t i = 0; i < d; i++)
+        put_word(&f, size);
+    put_word(&f, 0);
+    put_check_word(&f);
+    return f;
+}
+
+/* All ALL, with a sum and a count. */
+static void put_total(struct file *f, uint32_t d, int64_t sum, uint32_t count)
+{
+    for (uint32_t i = 0; i < d; i++)
+        put_word(f, CUBE_ALL);
+    put_sum(f, sum);
+    put_word(f, count);
+}
+
+/* Its archive, but with so many normal entries, all ALL with this sum and count: right with one, 0 and 0. */
+static struct file empty_archive(uint32_t d, uint32_t size, uint32_t normals, int64_t sum, uint32_t count)
+{
+    struct file f = empty_table(d, size);
+    set_word(&f, 0, ARCHIVE);
+    f.length -= 4;
+    put_word(&f, normals);
+    for (uint32_t i = 0; i < normals; i++)
+        put_total(&f, d, sum, count);
+    put_check_word(&f);
+    return f;
+}
+
+/* All ALL has sum 0 and count 0, from entry 0; every other cell needs a row. */
+static void looking_up_no_rows(const struct file *archive, uint32_t d, uint32_t size)
+{
+    uint32_t question[8];
     struct numbers n;
-    CHECK(archive.length == 24 && word_at(&archive, 20) == 0x45425545);
-    check_written(build, &table, 0, CUBE_ARCHIVE_ROOM(1, 0), &archive);
-    CHECK(cube_check(archive.bytes, archive.length) == 0);
-    CHECK(look_up(&archive, &all, 1, &n) == 0 && nothing_stored(&n));
-    check_written(list_cuboid, &archive, 0, CUBE_CUBOID_ROOM(1, 0), &no_cells);
-    check_written(expand, &archive, 0, CUBE_EXPANSION_ROOM(1, 0), &expansion);
+    for (uint32_t set = 0; set < UINT32_C(1) << d; set++) {
+        for (uint32_t i = 0; i < d; i++)
+            question[i] = set >> i & 1 ? size - 1 : CUBE_ALL;
+        uint64_t answer = look_up(archive, question, d, &n);
+        if (set == 0)
+            CHECK_CASE(d, answer == 1 && guards_kept(&n) && n.sum == 0 && n.count == 0 && n.entry == 0);
+        else
+            CHECK_CASE(set, answer == 0 && nothing_stored(&n));
+    }
+}
+
+/* A cuboid of the one cell for set 0, and a count of 0 for each other set. */
+static void listing_no_rows(const struct file *archive, uint32_t d)
+{
+    struct file one_cell = {{0}, 0}, no_cells = {{0}, 4};
+    put_word(&one_cell, 1);
+    put_total(&one_cell, d, 0, 0);
+    check_written(list_cuboid, archive, 0, CUBE_CUBOID_ROOM(d, 0), &one_cell);
+    for (uint32_t i = 0; i < d; i++)
+        check_written(list_cuboid, archive, UINT32_C(1) << i, CUBE_CUBOID_ROOM(d, 0), &no_cells);
+    check_written(list_cuboid, archive, (UINT32_C(1) << d) - 1, CUBE_CUBOID_ROOM(d, 0), &no_cells);
+    check_stopped(list_cuboid, archive, UINT32_C(1) << d, ROOM, CUBE_STOP_SET);
+    struct file expansion = one_cell;
+    expansion.length += 4 * (((size_t)1 << d) - 1);
+    check_written(expand, archive, 0, CUBE_EXPANSION_ROOM(d, 0), &expansion);
+}
+
+static void no_rows(void)
+{
+    static const uint32_t sizes[2] = {1, 65535};
+    for (uint32_t i = 0; i < 16; i++) {
+        uint32_t d = 1 + i / 2, size = sizes[i % 2];
+        struct file table = empty_table(d, size), archive = empty_archive(d, size, 1, 0, 0);
+        CHECK_CASE(d, archive.length == 32 + 8 * d);
+        check_written(build, &table, 0, CUBE_ARCHIVE_ROOM(d, 0), &archive);
+        uint64_t counts = cube_check(archive.bytes, archive.length);
+        CHECK_CASE(d, !CUBE_IS_STOP(counts) && CUBE_BASE_COUNT(counts) == 0 && CUBE_NORMAL_COUNT(counts) == 1);
+        looking_up_no_rows(&archive, d, size);
+        listing_no_rows(&archive, d);
+    }
+    struct file example = empty_archive(1, 1, 1, 0, 0);
+    CHECK(example.length == 40 && word_at(&example, 36) == 0x45435545);
 }
 
 /* D 1, size 1, rows (0) 5 and (0) -5: one base entry with sum 0, count 2 and the list of the empty set; no normal entry. */
@@ -302,6 +377,30 @@ static void stops_of_entries(void)
     }
 }
 
+/* Without rows: no normal entry (document 01's 24 bytes at D 1), one too many, another sum, count or code. With a row: count 0, and a zero total beside it. */
+static void stops_of_no_rows(void)
+{
+    for (uint32_t d = 1; d <= 8; d++) {
+        const struct file wrong[] = {
+            empty_archive(d, 1, 0, 0, 0),     empty_archive(d, 1, 2, 0, 0),         empty_archive(d, 1, 1, 1, 0),
+            empty_archive(d, 1, 1, -1, 0),    empty_archive(d, 1, 1, INT64_MIN, 0), empty_archive(d, 1, 1, 0, 1),
+            empty_archive(d, 1, 1, 0, 65536),
+        };
+        CHECK_CASE(d, wrong[0].length == 20 + 4 * d);
+        for (size_t i = 0; i < sizeof wrong / sizeof *wrong; i++)
+            check_archive_stopped(&wrong[i], CUBE_STOP_ENTRIES);
+        for (uint32_t i = 0; i < d; i++) {
+            struct damage code = {16 + 4 * d + 4 * i, i % 2 ? UINT32_MAX : 0, CUBE_STOP_ENTRIES};
+            struct file other = damaged(empty_archive(d, 1, 1, 0, 0), &code);
+            check_archive_stopped(&other, CUBE_STOP_ENTRIES);
+        }
+    }
+    const uint32_t beside[] = {1, 1, 1, 0, 5, 0, 1, 1, 0, 1, CUBE_ALL, 0, 0, 0}, none[] = {1, 1, 1, 0, 0, 0, 0, 1, 0, 1, CUBE_ALL, 0, 0, 0};
+    struct file row = file_of(ARCHIVE, beside, 14), no_count = file_of(ARCHIVE, none, 14);
+    check_archive_stopped(&row, CUBE_STOP_ENTRIES);
+    check_archive_stopped(&no_count, CUBE_STOP_AMOUNT);
+}
+
 /* Stops on a question or a set number; a code that is its size, and ALL plus 1, are no codes. */
 static void stops_of_questions(void)
 {
@@ -328,10 +427,11 @@ int main(void)
     looking_up_everything();
     listing();
     expanding();
-    empty_table();
+    no_rows();
     rows_that_cancel();
     stops_of_both_files();
     stops_of_entries();
+    stops_of_no_rows();
     stops_of_questions();
     printf("%u passed, %u failed\n", passed, failed);
     return failed == 0 ? 0 : 1;

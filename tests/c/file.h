@@ -11,7 +11,7 @@
 #define ARCHIVE 0x45425543
 
 struct file {
-    uint8_t bytes[1024];
+    uint8_t bytes[2048];
     size_t length;
 };
 

@@ -5,7 +5,7 @@
 #include <stddef.h>
 #include <stdint.h>
 
-enum { GUARD = 64, ROOM = 1024 };
+enum { GUARD = 64, ROOM = 16384 };
 
 struct lent {
     uint8_t bytes[GUARD + ROOM + GUARD];

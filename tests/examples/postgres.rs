@@ -68,7 +68,6 @@ fn copied((codes, reading): &Row) -> String {
 }
 
 /// Loads rows and asks for their cube. GROUPING has a one for each dimension outside the set, the last one named in the lowest place.
-/// An empty table has no cells in document 01, but for PostgreSQL a grand total with count 0: HAVING drops that one line.
 fn script(dims: usize, rows: &[Row]) -> String {
     let names: Vec<String> = (1..=dims).map(|dim| format!("c{dim}")).collect();
     let columns: String = names.iter().map(|name| format!("{name} integer NOT NULL, ")).collect();
@@ -79,22 +78,20 @@ fn script(dims: usize, rows: &[Row]) -> String {
         "CREATE TEMPORARY TABLE facts ({columns}reading integer NOT NULL);
 COPY facts FROM STDIN;
 {rows}\\.
-SELECT GROUPING({turned}), {codes}, SUM(reading)::bigint, COUNT(*) FROM facts GROUP BY CUBE ({codes}) HAVING COUNT(*) > 0;
+SELECT GROUPING({turned}), {codes}, SUM(reading)::bigint, COUNT(*) FROM facts GROUP BY CUBE ({codes});
 DROP TABLE facts;"
     )
 }
 
-/// The cell in a line of PostgreSQL's answer, where ALL is null and printed as nothing.
+/// The cell in a line of PostgreSQL's answer, where ALL is null and printed as nothing. So is the sum of an empty table's one cell, whose count
+/// is 0: document 02 has the sum 0 there, and only the count is compared.
 fn answered(dims: usize, line: &str) -> Cell {
     let fields: Vec<&str> = line.split('|').collect();
     let number = |i: usize| fields[i].parse::<i64>().unwrap_or_else(|e| panic!("{line}: {e}"));
     let code = |i: usize| if fields[i].is_empty() { ALL } else { number(i) as u32 };
-    Cell {
-        set: cube::full(dims) - number(0) as u32,
-        codes: (1..=dims).map(code).collect(),
-        sum: number(dims + 1),
-        count: number(dims + 2) as u32,
-    }
+    let count = number(dims + 2) as u32;
+    let sum = if count == 0 && fields[dims + 1].is_empty() { 0 } else { number(dims + 1) };
+    Cell { set: cube::full(dims) - number(0) as u32, codes: (1..=dims).map(code).collect(), sum, count }
 }
 
 /// The library's expansion of a table.

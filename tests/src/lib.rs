@@ -4,7 +4,7 @@
 //! * `library`: the calls through the C interface of libcube_archive.a
 //! * `good`: the calls as fast plain Rust, for times
 //! * `program`: the builder and the lister
-//! * `model`: the calls and the programs done naively, written from document 01
+//! * `model`: the calls and the programs done naively, written from documents 01 and 02
 //! * `write`: tables, archives and listings as bytes
 //! * `lent`: an output between guards
 //! * `compare`: the library and `good` held to the model; `printed`: the programs held to it

@@ -1,5 +1,5 @@
-//! A naive model of the five calls and the two programs, written from document 01 alone: its definitions in `cube`, its stops in checking
-//! order in `fields` and here, what the programs print in `listing` and `programs`.
+//! A naive model of the five calls and the two programs, written from documents 01 and 02 alone: their definitions in `cube`, their stops in
+//! checking order in `fields` and here, what the programs print in `listing` and `programs`.
 pub mod cube;
 pub mod fields;
 mod listing;
@@ -59,14 +59,14 @@ impl Accepted {
         (self.bases.len() as u32, self.normals.len() as u32)
     }
 
-    /// The cell that a question names, from the rows that fall in it, with the entry that stands for it.
+    /// The cell that a question names, from the rows that fall in it, with the entry that stands for it. An empty table's cell has no row.
     pub fn look_up(&self, question: &[u32]) -> Result<Option<Found>, Stop> {
         if question.len() != self.dims() || question.iter().zip(&self.sizes).any(|(code, size)| code >= size && *code != ALL) {
             return Err(13);
         }
         let set = (0..self.dims()).filter(|&i| question[i] != ALL).map(|i| 1 << i).sum();
         let total = cube::Total::over(self.rows.iter().filter(|row| cube::agree(&row.codes, question, set)));
-        if total.rows == 0 {
+        if total.rows == 0 && !cube::empty(&self.rows, set) {
             return Ok(None);
         }
         Ok(Some(Found { sum: total.sum, count: total.count, entry: self.entry(question, set, total) }))
@@ -88,7 +88,7 @@ impl Accepted {
         if set > cube::full(self.dims()) {
             return Err(14);
         }
-        let cells = cube::cells(&self.rows, set).into_iter();
+        let cells = cube::cells(self.dims(), &self.rows, set).into_iter();
         Ok(cuboid_bytes(&cells.map(|(codes, total)| Row { codes, sum: total.sum, count: total.count }).collect::<Vec<_>>()))
     }
 

@@ -1,5 +1,5 @@
 //! Tables, archives and listings as bytes.
-use crate::model::{Base, Row};
+use crate::model::{Base, Row, ALL};
 
 /// A file that grows field by field.
 #[derive(Clone)]
@@ -46,6 +46,11 @@ impl File {
 
     pub fn normal(self, codes: &[u32], sum: i64, count: u32) -> File {
         self.words(codes).sum(sum).word(count)
+    }
+
+    /// The normal count and the normal entry of an archive without rows.
+    pub fn no_rows(self, dims: usize) -> File {
+        self.word(1).normal(&vec![ALL; dims], 0, 0)
     }
 
     /// The file as it is, without a check word.

@@ -1,4 +1,4 @@
-//! The examples of document 01, and the places where it says that builders of cubes go astray.
+//! The examples of document 01, its empty table as document 02 has it (C-14), and the places where builders of cubes go astray.
 use calls::calls::{Found, Stop};
 use calls::cases::{five_archive, five_rows, five_table, FIVE_TEXT};
 use calls::compare::subjects;
@@ -139,19 +139,38 @@ fn all_four_rows_of_two_codes() {
     assert_eq!(normals, cells);
 }
 
-/// 43 55 42 45, D 1, size 1, no base entry, no normal entry, the check word 45425545 (hexadecimal).
-const EMPTY: [u8; 24] = [0x43, 0x55, 0x42, 0x45, 1, 0, 0, 0, 1, 0, 0, 0, 0, 0, 0, 0, 0, 0, 0, 0, 0x45, 0x55, 0x42, 0x45];
+/// 43 55 42 45, D 1, size 1, no base entry, one normal entry: all ALL, sum 0, count 0; the check word 45435545 (hexadecimal).
+const EMPTY: [u8; 40] = [
+    0x43, 0x55, 0x42, 0x45, 1, 0, 0, 0, 1, 0, 0, 0, 0, 0, 0, 0, 1, 0, 0, 0, 0xFF, 0xFF, 0, 0, 0, 0, 0, 0, 0, 0, 0, 0, 0, 0, 0, 0, 0x45,
+    0x55, 0x43, 0x45,
+];
+
+/// The same without its normal entry, as document 01 had it before document 02: check word 45425545 (hexadecimal).
+const BEFORE: [u8; 24] = [0x43, 0x55, 0x42, 0x45, 1, 0, 0, 0, 1, 0, 0, 0, 0, 0, 0, 0, 0, 0, 0, 0, 0x45, 0x55, 0x42, 0x45];
 
 #[test]
-fn no_rows_make_24_bytes() {
+fn no_rows_make_40_bytes() {
     assert_eq!(build(&[1], &[]), Ok(EMPTY.to_vec()));
-    assert_eq!(u32::from_le_bytes(EMPTY[20..].try_into().unwrap()), 0x4542_5545);
+    assert_eq!(u32::from_le_bytes(EMPTY[36..].try_into().unwrap()), 0x4543_5545);
     for (name, calls) in subjects() {
-        assert_eq!(calls.check(&EMPTY), Ok((0, 0)), "{name}");
-        assert_eq!(calls.look_up(&EMPTY, &[ALL]), Ok(None), "{name}");
+        assert_eq!(calls.check(&EMPTY), Ok((0, 1)), "{name}");
+        assert_eq!(calls.look_up(&EMPTY, &[ALL]), Ok(Some(Found { sum: 0, count: 0, entry: 0 })), "{name}");
         assert_eq!(calls.look_up(&EMPTY, &[0]), Ok(None), "{name}");
-        assert_eq!(written(|out| calls.list_cuboid(&EMPTY, 0, out)), Ok(vec![0; 4]), "{name}");
-        assert_eq!(written(|out| calls.expand(&EMPTY, out)), Ok(vec![0; 8]), "{name}");
+        let all = File::table().word(1).normal(&[ALL], 0, 0).cut()[4..].to_vec();
+        assert_eq!(written(|out| calls.list_cuboid(&EMPTY, 0, out)), Ok(all.clone()), "{name}");
+        assert_eq!(written(|out| calls.list_cuboid(&EMPTY, 1, out)), Ok(vec![0; 4]), "{name}");
+        assert_eq!(written(|out| calls.expand(&EMPTY, out)), Ok([&all[..], &[0; 4]].concat()), "{name}");
+    }
+}
+
+#[test]
+fn the_24_bytes_without_the_total_stop_with_12() {
+    assert_eq!(u32::from_le_bytes(BEFORE[20..].try_into().unwrap()), 0x4542_5545);
+    for (name, calls) in subjects() {
+        assert_eq!(calls.check(&BEFORE), Err(12), "{name}");
+        assert_eq!(calls.look_up(&BEFORE, &[ALL]), Err(12), "{name}");
+        assert_eq!(written(|out| calls.list_cuboid(&BEFORE, 0, out)), Err(12), "{name}");
+        assert_eq!(written(|out| calls.expand(&BEFORE, out)), Err(12), "{name}");
     }
 }
 
@@ -161,16 +180,6 @@ fn each_bit_of_the_empty_archive_is_checked() {
         let mut b = EMPTY;
         b[bit / 8] ^= 1 << (bit % 8);
         assert!(calls.check(&b).is_err(), "{name}: bit {bit}");
-    }
-}
-
-#[test]
-fn no_rows_expand_to_a_zero_count_for_each_set() {
-    for dims in 1..=8 {
-        let archive = build(&vec![3; dims], &[]).unwrap();
-        for (name, calls) in subjects() {
-            assert_eq!(written(|out| calls.expand(&archive, out)), Ok(vec![0; 4 << dims]), "{name}: D {dims}");
-        }
     }
 }
 

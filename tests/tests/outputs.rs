@@ -40,9 +40,13 @@ fn an_expansion() {
 fn results_without_rows() {
     let table = calls::write::table_bytes(&[3, 3], &[]);
     let archive = model::build(&table).unwrap();
+    let accepted = model::open(&archive).unwrap();
     every_length(&archive, "build", |calls, out| calls.build(&table, out));
-    every_length(&[0; 4], "list", |calls, out| calls.list_cuboid(&archive, 3, out));
-    every_length(&[0; 16], "expand", |calls, out| calls.expand(&archive, out));
+    for set in cube::lattice(2) {
+        let cuboid = accepted.list_cuboid(set).unwrap();
+        every_length(&cuboid, &format!("set {set}"), |calls, out| calls.list_cuboid(&archive, set, out));
+    }
+    every_length(&accepted.expand(), "expand", |calls, out| calls.expand(&archive, out));
 }
 
 /// The set's stop comes before the output's.

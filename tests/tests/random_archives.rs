@@ -41,6 +41,25 @@ fn archives_with_any_lists_and_normal_entries() {
     compare.had(CHECK, &[0, 12]);
 }
 
+/// Archives without rows, each with everything that can be changed in it changed.
+#[test]
+fn archives_without_rows() {
+    let mut random = Random::seeded(109);
+    let mut compare = Compare::new();
+    for i in 0..160 {
+        let s = random.our_archive(1 + i % 8, 0);
+        let what = format!("archive {i}");
+        let accepted = compare.archive(&s, &what).unwrap();
+        assert_eq!(accepted.counts(), (0, 1));
+        let mut see = |b: &[u8], done: &str| drop(compare.archive(b, &format!("{what}: {done}")));
+        damage::cuts(&s, &mut see);
+        damage::fields(&s, &mut random.part(), &mut see);
+        damage::bytes(&s, 20, &mut random.part(), &mut see);
+        damage::entries(&accepted, 30, &mut random.part(), &mut see);
+    }
+    compare.had(CHECK, &[0, 1, 2, 3, 4, 5, 6, 8, 10, 11, 12]);
+}
+
 #[test]
 fn archives_of_up_to_1024_rows() {
     let mut random = Random::seeded(103);
@@ -118,5 +137,5 @@ fn bytes_of_no_archive() {
         mend(&mut s);
         drop(compare.archive(&s, &format!("words {i}, check word mended")));
     }
-    compare.had(CHECK, &[0, 1, 2, 3, 4, 5, 6, 7, 8, 10, 11, 12]);
+    compare.had(CHECK, &[1, 2, 3, 4, 5, 6, 7, 8, 10, 11, 12]);
 }

@@ -14,8 +14,8 @@ use Rattle.lattice.specs.Sets.{full, sets, setsFrom}
 use Rattle.lattice.proofs.Sets.{sets-of, sets-length, full-lt}
 use Rattle.lattice.proofs.Turns.{from-full, from-on, from-off, from-done}
 use Rattle.cube.specs.Codes.{plain}
-use Rattle.cube.specs.Condensed.{proper, shared, normals}
-use Rattle.cube.proofs.Normals.{normals-length}
+use Rattle.cube.specs.Condensed.{proper, shared, common}
+use Rattle.cube.proofs.Normals.{common-length}
 use Rattle.rows.specs.Rows.{cut}
 use Rattle.rows.proofs.Rows.{cut-length}
 use Rattle.singles.specs.Marks.{picked}
@@ -52,17 +52,17 @@ module _ {d n : ℕ} {codes : List ℕ} {sums : List ℤ} {counts : List ℕ} (r
   module _ {store lens : List ℕ} {cells k : ℕ} (m : Listing d n codes store lens cells k) where
     -- no more cells than all rows share, of which there are not many
     pub listing-few : cells ≤ 262144
-    unfolding normals
+    unfolding common
     listing-few =
         let f = shared (plain d) xs in
-        let all : length (normals (plain d) xs) ≡ length (flatMap f (m .done)) + length (flatMap f (setsFrom (full d) k)) =
+        let all : length (common (plain d) xs) ≡ length (flatMap f (m .done)) + length (flatMap f (setsFrom (full d) k)) =
         ap (λ (l : List ℕ). length (flatMap f l)) (sym (m .left)) ∙ ap length (flat-append f (m .done) (setsFrom (full d) k)) ∙ length-append (flatMap f (m .done)) (flatMap f (setsFrom (full d) k)) in
         let rows : length xs ≤ 1024 = rw cut-length (ready .few) in
         let few : length (sets d) * length xs ≤ 256 * 1024 = mul-le-mul (le-trans (sets-length d) (pow-mono (ready .dims))) rows in
-        omega (arith, m .count, all, normals-length (plain d) xs)
+        omega (arith, m .count, all, common-length (plain d) xs)
 
-    pub listing-done : 256 ≤ k → (listsOf n store lens ≡ ourLists d xs) × (cells ≡ length (normals (plain d) xs))
-    unfolding normals
+    pub listing-done : 256 ≤ k → (listsOf n store lens ≡ ourLists d xs) × (cells ≡ length (common (plain d) xs))
+    unfolding common
     listing-done h =
         let all : m .done ≡ proper (plain d) = sym (append-nil (m .done)) ∙ ap (λ (l : List ℕ). m .done ++ l) (sym (from-done (full d) k h)) ∙ m .left in
         (m .lists ∙ ap (partly d xs) all ∙ partly-all d xs, m .count ∙ ap (λ (l : List ℕ). length (flatMap (shared (plain d) xs) l)) all)

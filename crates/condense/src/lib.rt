@@ -207,7 +207,7 @@ pub fn list_rows(
         }
         cells += list_set(codes, sums, counts, rows, dims, set, sets, lens);
     }
-    cells
+    singles::blanks(rows) + cells
 }
 
 // The cells of a set that rows share, each with its total, into the arrays that are lent; the lists are ours. Returns how many there are.

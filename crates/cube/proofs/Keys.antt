@@ -2,24 +2,26 @@
 use mathlib.Core.Path.{_≡_, sym, _∙_, ap}
 use mathlib.Core.Logic.{_≢_}
 use mathlib.Core.Bool.{Bool, true, not}
-use mathlib.Core.List.{List, _∷_, flatMap}
+use mathlib.Core.List.{List, [], _∷_, flatMap, List·Memᴰ·not-nil}
 use Prim.Native.Nat.{ℕ}
+use native.Mathlib.Omega.{arith}
 use lib.Dec.{eqb, leb, ltb}
 use lib.ListN.{length}
 use Rattle.lists.specs.Lists.{_∈_}
 use Rattle.lists.specs.Order.{Strict, Rising, earlier}
 use Rattle.lists.proofs.Tests.{cases}
-use Rattle.lists.proofs.Pairwise.{pairwise-flat, pairwise-imp, pairwise-keep}
+use Rattle.lists.proofs.Pairwise.{pairwise-append, pairwise-flat, pairwise-imp, pairwise-keep}
 use Rattle.lists.proofs.Order.{earlier-lt, earlier-eq, earlier-skip, earlier-differs, by-codes}
 use Rattle.lattice.specs.Sets.{size, before, full, sets}
 use Rattle.lattice.proofs.Sets.{before-is, sets-rising}
 use Rattle.cube.specs.Codes.{set-of, keys, plain}
-use Rattle.cube.specs.Cube.{within, cuboid}
-use Rattle.cube.specs.Condensed.{proper, shared, normals, Base}
+use Rattle.cube.specs.Cube.{within, blank, cuboid}
+use Rattle.cube.specs.Condensed.{proper, shared, common, normals, Base}
 use Rattle.cube.proofs.Codes.{plain-laws}
 use Rattle.cube.proofs.Cells.{cuboid-rising}
+use Rattle.cube.proofs.Existing.{blank-within}
 use Rattle.cube.proofs.Nodes.{proper-in}
-use Rattle.cube.proofs.Normals.{shared-in}
+use Rattle.cube.proofs.Normals.{shared-in, common-in}
 
 -- cells are ordered by their keys
 abbrev pub comesBefore : List ℕ → List ℕ → Bool
@@ -80,6 +82,15 @@ module _ (d : ℕ) (xs : List (List ℕ)) (b : Base (plain d) xs) where
       let x = shared-in (plain d) (plain-laws d) xs b s m .0 in
       ap set-of (x .2) ∙ plain-laws d .node-cell s (x .0) (b .valid (x .0) (x .1)) (proper-in (plain d) (plain-laws d) h .0)
 
+  common-rising : Rising comesBefore (common (plain d) xs)
+  unfolding common
+  common-rising = keys-rising (λ c. c) (shared (plain d) xs) (proper (plain d)) proper-rising (λ s h. shared-rising s) shared-set
+
   pub normals-rising : Rising comesBefore (normals (plain d) xs)
   unfolding normals
-  normals-rising = keys-rising (λ c. c) (shared (plain d) xs) (proper (plain d)) proper-rising (λ s h. shared-rising s) shared-set
+  normals-rising = pairwise-append (λ c e. comesBefore c e ≡ true) (blank (plain d) xs) (common (plain d) xs) (blank-rising xs) common-rising
+      (λ c e m n. absurd (omega (arith, blank-within (plain d) xs m e, common-in (plain d) (plain-laws d) xs b n)))
+    where
+      blank-rising : (l : List (List ℕ)) → Rising comesBefore (blank (plain d) l)
+      blank-rising [] = (λ y i. absurd (List·Memᴰ·not-nil i), tt)
+      blank-rising (x ∷ l) = tt

@@ -6,6 +6,7 @@ pub mod Singles
 pub mod Smallest
 pub mod Reach
 pub mod Cells
+pub mod Existing
 pub mod Normals
 pub mod Keys
 pub mod Counting
@@ -13,6 +14,7 @@ pub mod Fewest
 pub mod Ours
 pub mod Questions
 pub mod Expansion
+pub mod Empty
 pub mod Regroup
 pub mod Folding
 pub mod Reordering

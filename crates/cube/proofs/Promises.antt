@@ -1,23 +1,24 @@
 -- The front page: what demands 2 and 3 of the user say of rows, entries and cells, for tables of any number of dimensions.
 use mathlib.Core.Path.{_≡_, _∙_}
-use mathlib.Core.Logic.{_↔_}
+use mathlib.Core.Logic.{_⊎_, _↔_}
 use mathlib.Core.Bool.{true, not}
 use mathlib.Core.Option.{some as just}
-use mathlib.Core.List.{List, [], _∷_, map, List·Permᴰ}
+use mathlib.Core.List.{List, [], _∷_, map, flatMap, List·Permᴰ}
 use Prim.Native.Nat.{ℕ, _+_, _≤_}
 use lib.Dec.{leb}
-use lib.ListN.{length, getElem?}
+use lib.ListN.{length, getElem?, replicate}
 use Rattle.lists.specs.Lists.{_∈_}
 use Rattle.lists.specs.Order.{Rising, earlier}
 use Rattle.lattice.specs.Sets.{sets, holds}
 use Rattle.cube.specs.declared.Total.{Total}
-use Rattle.cube.specs.Measure.{sums, Row, totalOf, totalAt, codesOf}
-use Rattle.cube.specs.Codes.{Coded, cell, plain}
-use Rattle.cube.specs.Cube.{within, Exists, total, complete}
-use Rattle.cube.specs.Condensed.{Entry, no-record, found, lookup, proper, single, listed, reach, normals, Base, own, stands, Condensed, ours, expansion}
+use Rattle.cube.specs.Measure.{nothing, sums, Row, totalOf, totalAt, codesOf}
+use Rattle.cube.specs.Codes.{ALL, Coded, cell, falls, plain}
+use Rattle.cube.specs.Cube.{within, blank, Exists, total, grouped, complete}
+use Rattle.cube.specs.Condensed.{Entry, normal as normal-entry, no-record, found, lookup, proper, single, listed, reach, normals, Base, own, stands, Condensed, ours, expansion}
 use Rattle.cube.specs.Table.{Table, folded, listed-before}
 use Rattle.cube.proofs.Sums.{sums-add}
 use Rattle.cube.proofs.Codes.{plain-laws}
+use Rattle.cube.proofs.Empty as empties
 use Rattle.cube.proofs.Complete as completes
 use Rattle.cube.proofs.Folding as folding
 use Rattle.cube.proofs.Singles as singles
@@ -38,7 +39,7 @@ module _ (d : ℕ) (rows : List (Row Total)) (t : Table d rows) where
   abbrev based : List (Row Total)
   based = folded sums d rows
 
-  -- One cell for each group that has a record, with its exact sum and count;
+  -- One cell for each group that has a record, with its exact sum and count (and that of an empty table: below);
   pub complete-cells : (r : Row Total) → (r ∈ complete (plain d) sums rows) ↔ (Exists (plain d) (codesOf rows) (r .codes) × (r .total ≡ total (plain d) sums rows (r .codes)))
   complete-cells = completes.complete-iff (plain d) (plain-laws d) sums rows (folding.coded d rows t)
 
@@ -89,6 +90,34 @@ module _ (d : ℕ) {rows others : List (Row Total)} (o : List·Permᴰ rows othe
   pub any-order-cube : complete (plain d) sums rows ≡ complete (plain d) sums others
   any-order-cube = reorderings.complete-reordered o (plain d) sums sums-add
 
+-- ---- C-14: the empty table
+
+module _ (d : ℕ) where
+  -- all ALL, with sum 0 and count 0
+  abbrev empty-total : Row Total
+  empty-total = record { codes = replicate d ALL; total = nothing }
+
+  -- An empty table has no base row and one cell, all ALL, with sum 0 and count 0, held as one normal entry: asked for it, entry 0 answers.
+  pub empty-base : folded sums d [] ≡ []
+  empty-base = folding.folded-none sums d
+
+  pub empty-cube : complete (plain d) sums [] ≡ empty-total ∷ []
+  empty-cube = empties.complete-none (plain d) (plain-laws d) sums
+
+  pub empty-entries : ours (plain d) sums [] ≡ normal-entry empty-total ∷ []
+  empty-entries = empties.ours-none (plain d) (plain-laws d) sums
+
+  pub empty-answer : lookup (plain d) (replicate d ALL) (ours (plain d) sums []) ≡ found 0 nothing
+  empty-answer = empties.lookup-none (plain d) (plain-laws d) sums
+
+  -- With a row, the complete cube is that of the groups, and every cell needs a row.
+  pub cube-of-rows : (rows : List (Row Total)) → 1 ≤ length rows → complete (plain d) sums rows ≡ flatMap (grouped (plain d) sums rows) (sets d)
+  cube-of-rows = empties.complete-rows (plain d) sums
+
+  pub cell-of-rows : (r : Row Total) (rows : List (Row Total)) (c : List ℕ) → Exists (plain d) (codesOf (r ∷ rows)) c
+      ↔ ((x : List ℕ) × (x ∈ codesOf (r ∷ rows)) × (falls c x ≡ true))
+  cell-of-rows r rows = empties.exists-rows (plain d) (r .codes) (codesOf rows)
+
 -- ---- Demands 2 and 3, of base rows
 
 module _ (d : ℕ) (rows : List (Row Total)) (b : Base (plain d) (codesOf rows)) where
@@ -96,8 +125,8 @@ module _ (d : ℕ) (rows : List (Row Total)) (b : Base (plain d) (codesOf rows))
   abbrev entries : List (Entry Total)
   entries = ours (plain d) sums rows
 
-  -- Our normal cells are those in which two or more base rows fall: a row's cell of a set is one just if the row is not single on it.
-  pub normal-cells : (c : List ℕ) → (c ∈ normals (plain d) (codesOf rows)) ↔ (2 ≤ length (within (plain d) (codesOf rows) c))
+  -- Our normal cells are those in which two or more base rows fall, and that of an empty table: a row's cell of a set is one just if the row is not single on it.
+  pub normal-cells : (c : List ℕ) → (c ∈ normals (plain d) (codesOf rows)) ↔ ((2 ≤ length (within (plain d) (codesOf rows) c)) ⊎ (c ∈ blank (plain d) (codesOf rows)))
   normal-cells = normal.normals-iff (plain d) (plain-laws d) (codesOf rows) b
 
   pub not-single : {s : ℕ} {x : List ℕ} → s ∈ sets d → x ∈ codesOf rows → leb 2 (length (within (plain d) (codesOf rows) (cell s x))) ≡ not (single (plain d) (codesOf rows) s x)
@@ -107,7 +136,8 @@ module _ (d : ℕ) (rows : List (Row Total)) (b : Base (plain d) (codesOf rows))
   pub ours-condensed : Condensed (plain d) sums rows entries
   ours-condensed = our.ours-condensed (plain d) (plain-laws d) sums sums-add rows b
 
-  -- A question gets 'no record' just if no base row falls in the cell; otherwise the cell's sum and count, and the number of an entry that stands for it,
+  -- A question gets 'no record' just if the cell does not exist: no base row falls in it, and it is not that of an empty table. Otherwise it gets the cell's sum
+  -- and count, and the number of an entry that stands for it,
   pub no-record-iff : (c : List ℕ) → (lookup (plain d) c entries ≡ no-record) ↔ (Exists (plain d) (codesOf rows) c → ⊥)
   no-record-iff = questions.lookup-none-iff (plain d) sums rows ours-condensed
 

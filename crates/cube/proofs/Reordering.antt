@@ -9,10 +9,11 @@ use Rattle.lattice.specs.Sets.{full}
 use Rattle.cube.specs.Measure.{Measure, Adds, Row, totalOf, codesOf}
 use Rattle.cube.specs.Lattice.{Lattice}
 use Rattle.cube.specs.Codes.{plain}
-use Rattle.cube.specs.Cube.{cuboid, total, filled, grouped, complete}
+use Rattle.cube.specs.Cube.{cuboid, existing, total, filled, grouped, cells, complete}
 use Rattle.cube.specs.Condensed.{ours}
 use Rattle.cube.specs.Table.{folded}
 use Rattle.cube.proofs.Cells.{cuboid-same}
+use Rattle.cube.proofs.Existing.{existing-same}
 use Rattle.cube.proofs.Regroup.{sum-cons, more-swap}
 
 -- The running total is the same in whichever order the rows come.
@@ -34,6 +35,9 @@ module _ {A : Type 0} {rows others : List (Row A)} (o : List·Permᴰ rows other
     pub cuboid-reordered : (s : ℕ) → cuboid L (codesOf rows) s ≡ cuboid L (codesOf others) s
     cuboid-reordered s = cuboid-same L (codesOf rows) (codesOf others) s codes-in codes-back
 
+    existing-reordered : (s : ℕ) → existing L (codesOf rows) s ≡ existing L (codesOf others) s
+    existing-reordered s = existing-same L (codesOf rows) (codesOf others) s codes-in codes-back
+
     module _ (M : Measure A) (E : Adds M) where
       -- with the same totals,
       pub total-reordered : (c : List ℕ) → total L M rows c ≡ total L M others c
@@ -46,9 +50,15 @@ module _ {A : Type 0} {rows others : List (Row A)} (o : List·Permᴰ rows other
           map-same (filled L M rows) (filled L M others) (cuboid L (codesOf rows) s) (λ c m. ap (λ (a : A). record { codes = c; total = a }) (total-reordered c))
           ∙ ap (map (filled L M others)) (cuboid-reordered s)
 
+      pub cells-reordered : (s : ℕ) → cells L M rows s ≡ cells L M others s
+      unfolding cells
+      cells-reordered s =
+          map-same (filled L M rows) (filled L M others) (existing L (codesOf rows) s) (λ c m. ap (λ (a : A). record { codes = c; total = a }) (total-reordered c))
+          ∙ ap (map (filled L M others)) (existing-reordered s)
+
       pub complete-reordered : complete L M rows ≡ complete L M others
       unfolding complete
-      complete-reordered = flat-same (grouped L M rows) (grouped L M others) (L .nodes) (λ s m. grouped-reordered s)
+      complete-reordered = flat-same (cells L M rows) (cells L M others) (L .nodes) (λ s m. cells-reordered s)
 
   -- and the same base rows, repeated rows too: so the same entries, lists and normal cells.
   pub folded-reordered : (M : Measure A) → Adds M → (d : ℕ) → folded M d rows ≡ folded M d others

@@ -6,8 +6,8 @@ use Rattle.fields.specs.Words.{words, wordAt, wordsBytes}
 use Rattle.fields.specs.Twos.{sumAt, sumBytes, readingAt, readingBytes}
 use Rattle.fields.specs.Check.{checkOf}
 
--- the archive of a table of no rows, D 1 and size 1, has the check word 45425545 (hexadecimal)
-empty-check : checkOf ((0x43 ∷ 0x55 ∷ 0x42 ∷ 0x45 ∷ []) ++ wordsBytes (1 ∷ 1 ∷ 0 ∷ 0 ∷ [])) ≡ 0x45425545
+-- the archive of a table of no rows, D 1 and size 1, has the check word 45435545 (hexadecimal): no base entry, and one normal entry, all ALL
+empty-check : checkOf ((0x43 ∷ 0x55 ∷ 0x42 ∷ 0x45 ∷ []) ++ wordsBytes (1 ∷ 1 ∷ 0 ∷ 1 ∷ 65535 ∷ 0 ∷ 0 ∷ 0 ∷ [])) ≡ 0x45435545
 unfolding checkOf words wordsBytes
 empty-check = refl
 

@@ -15,8 +15,8 @@ use Rattle.cube.specs.declared.Total.{Total}
 use Rattle.cube.specs.Measure.{Row}
 use Rattle.cube.specs.Bounds.{canMake}
 use Rattle.cube.specs.Codes.{ALL}
-use Rattle.cube.specs.Cube.{cuboid, total, grouped}
-use Rattle.cube.specs.Condensed.{Entry, Answer, no-record, found, proper, single, listed, shared, normals, reach}
+use Rattle.cube.specs.Cube.{cuboid, existing, total, grouped, cells as cellsOf}
+use Rattle.cube.specs.Condensed.{Entry, Answer, no-record, found, proper, single, listed, shared, common, normals, reach}
 use Rattle.cube.specs.Table.{folded}
 use Rattle.cube.proofs.Examples.{Said, Example, examples}
 use Rattle.table.specs.Layout.{tableBytes}
@@ -85,10 +85,10 @@ abbrev file : ℕ → ℕ → File
 file n w = record { length = n; check = w }
 
 abbrev files : List File
-files = file 324 0x454c5b58 ∷ file 48 0x45425549 ∷ file 124 0x45455566 ∷ file 224 0x45485572 ∷ file 24 0x45425545 ∷ file 104 0x454255a3 ∷ []
+files = file 324 0x454c5b58 ∷ file 48 0x45425549 ∷ file 124 0x45455566 ∷ file 224 0x45485572 ∷ file 40 0x45435545 ∷ file 104 0x454255a3 ∷ []
 
 pub as-document-01-says : map onBytes examples ≡ expects examples files
-unfolding builds expands looksUp expansionBytes cuboidBytes readTable body row reading readingAt tableBytes folded readArchive walkArchive header field word sum sumAt room many codes rising fair amount list entry bases entries cell cells close wordAt checkOf words archiveBytes required layout baseBytes cellBytes listed single canMake normals shared proper cuboid total grouped reach sets ones onesIn wordsBytes flatMap
+unfolding builds expands looksUp expansionBytes cuboidBytes readTable body row reading readingAt tableBytes folded readArchive walkArchive header field word sum sumAt room many codes rising fair amount list entry bases entries cell cells close wordAt checkOf words archiveBytes required layout baseBytes cellBytes listed single canMake normals common shared proper cuboid existing total grouped cellsOf reach sets ones onesIn wordsBytes flatMap
 as-document-01-says = refl
 
 -- ---- The five rows: 108 bytes, 324 bytes, ten entries; an output of 324 bytes suffices and one of 323 does not; a cuboid; a set that is none.
@@ -103,25 +103,26 @@ abbrev five : List ℕ
 five = tableBytes (record { sizes = 7 ∷ 6 ∷ 3 ∷ []; rows = read (0 ∷ 1 ∷ 1 ∷ []) 50 ∷ read (1 ∷ 1 ∷ 1 ∷ []) 100 ∷ read (2 ∷ 3 ∷ 1 ∷ []) 60 ∷ read (4 ∷ 5 ∷ 1 ∷ []) 70 ∷ read (6 ∷ 5 ∷ 2 ∷ []) 80 ∷ [] })
 
 pub five-lengths : map length (five ∷ bytesOf (builds five) ∷ bytesOf (within 324 (builds five)) ∷ []) ≡ 108 ∷ 324 ∷ 324 ∷ []
-unfolding builds readTable body row reading readingAt tableBytes folded header field word room many codes close wordAt checkOf words archiveBytes required layout baseBytes cellBytes listed single normals shared proper cuboid total grouped sets ones onesIn wordsBytes flatMap
+unfolding builds readTable body row reading readingAt tableBytes folded header field word room many codes close wordAt checkOf words archiveBytes required layout baseBytes cellBytes listed single normals common shared proper cuboid existing total grouped cellsOf sets ones onesIn wordsBytes flatMap
 five-lengths = refl
 
 pub five-short : within 323 (builds five) ≡ stopped 15
-unfolding builds readTable body row reading readingAt tableBytes folded header field word room many codes close wordAt checkOf words archiveBytes required layout baseBytes cellBytes listed single normals shared proper cuboid total grouped sets ones onesIn wordsBytes flatMap
+unfolding builds readTable body row reading readingAt tableBytes folded header field word room many codes close wordAt checkOf words archiveBytes required layout baseBytes cellBytes listed single normals common shared proper cuboid existing total grouped cellsOf sets ones onesIn wordsBytes flatMap
 five-short = refl
 
 pub five-checked : checks (bytesOf (builds five)) ≡ Check.Entries 5 5
-unfolding checks builds readTable body row reading readingAt tableBytes folded readArchive walkArchive header field word sum sumAt room many codes rising fair amount list entry bases entries cell cells close wordAt checkOf words archiveBytes required layout baseBytes cellBytes listed single canMake normals shared proper cuboid total grouped sets ones onesIn wordsBytes flatMap
+unfolding checks builds readTable body row reading readingAt tableBytes folded readArchive walkArchive header field word sum sumAt room many codes rising fair amount list entry bases entries cell cells close wordAt checkOf words archiveBytes required layout baseBytes cellBytes listed single canMake normals common shared proper cuboid existing total grouped cellsOf sets ones onesIn wordsBytes flatMap
 five-checked = refl
 
 pub five-listed : map (listsCuboid (bytesOf (builds five))) (2 ∷ 8 ∷ [])
     ≡ bytes (section cellBytes (many-read (ALL ∷ 1 ∷ ALL ∷ []) 150 2 ∷ many-read (ALL ∷ 3 ∷ ALL ∷ []) 60 1 ∷ many-read (ALL ∷ 5 ∷ ALL ∷ []) 150 2 ∷ [])) ∷ stopped 14 ∷ []
-unfolding listsCuboid cuboidBytes builds readTable body row reading readingAt tableBytes folded readArchive walkArchive header field word sum sumAt room many codes rising fair amount list entry bases entries cell cells close wordAt checkOf words archiveBytes required layout baseBytes cellBytes listed single canMake normals shared proper cuboid total grouped sets ones onesIn wordsBytes flatMap
+unfolding listsCuboid cuboidBytes builds readTable body row reading readingAt tableBytes folded readArchive walkArchive header field word sum sumAt room many codes rising fair amount list entry bases entries cell cells close wordAt checkOf words archiveBytes required layout baseBytes cellBytes listed single canMake normals common shared proper cuboid existing total grouped cellsOf sets ones onesIn wordsBytes flatMap
 five-listed = refl
 
--- ---- No rows at D 1, size 1: 24 bytes that end with the check word 45425545 (hexadecimal)
+-- ---- No rows at D 1, size 1: 40 bytes that end with the check word 45435545 (hexadecimal)
 
 pub empty-built : builds (tableBytes (record { sizes = 1 ∷ []; rows = [] }))
-    ≡ bytes (0x43 ∷ 0x55 ∷ 0x42 ∷ 0x45 ∷ 1 ∷ 0 ∷ 0 ∷ 0 ∷ 1 ∷ 0 ∷ 0 ∷ 0 ∷ 0 ∷ 0 ∷ 0 ∷ 0 ∷ 0 ∷ 0 ∷ 0 ∷ 0 ∷ 0x45 ∷ 0x55 ∷ 0x42 ∷ 0x45 ∷ [])
-unfolding builds readTable body row reading readingAt tableBytes folded header field word room many codes close wordAt checkOf words archiveBytes required layout baseBytes cellBytes listed single normals shared proper cuboid total grouped sets ones onesIn wordsBytes flatMap
+    ≡ bytes (0x43 ∷ 0x55 ∷ 0x42 ∷ 0x45 ∷ 1 ∷ 0 ∷ 0 ∷ 0 ∷ 1 ∷ 0 ∷ 0 ∷ 0 ∷ 0 ∷ 0 ∷ 0 ∷ 0 ∷ 1 ∷ 0 ∷ 0 ∷ 0
+    ∷ 0xFF ∷ 0xFF ∷ 0 ∷ 0 ∷ 0 ∷ 0 ∷ 0 ∷ 0 ∷ 0 ∷ 0 ∷ 0 ∷ 0 ∷ 0 ∷ 0 ∷ 0 ∷ 0 ∷ 0x45 ∷ 0x55 ∷ 0x43 ∷ 0x45 ∷ [])
+unfolding builds readTable body row reading readingAt tableBytes folded header field word room many codes close wordAt checkOf words archiveBytes required layout baseBytes cellBytes listed single normals common shared proper cuboid existing total grouped cellsOf sets ones onesIn wordsBytes flatMap
 empty-built = refl

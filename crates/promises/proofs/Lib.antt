@@ -1,5 +1,6 @@
 -- The demands on the calls, and the worked examples.
 pub mod Promises
+pub mod Empty
 pub mod Room
 pub mod Examples
 pub mod Numbers

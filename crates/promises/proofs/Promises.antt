@@ -1,6 +1,6 @@
 -- The front page: the user's demands 2 and 3 on bytes, and what the change requests ask to be shown. Demand 1 is the contracts of the five calls (src/lib.rt of crates build and archive), each an equation
 -- with its definition in crate calls, specs/Calls.antt. Beside this page: Room.antt (outputs that are always enough), Numbers.antt (the number that another language
--- gets tells a stop from a success), Examples.antt (the worked examples of document 01).
+-- gets tells a stop from a success), Empty.antt (an archive without base rows), Examples.antt (the worked examples of document 01).
 use mathlib.Core.Path.{_≡_, refl, sym, ap, ap₂, subst, _∙_}
 use mathlib.Core.Logic.{_↔_}
 use mathlib.Core.Bool.{true, false, not, _&&_}
@@ -21,10 +21,10 @@ use Rattle.cube.specs.Measure.{sums, Row, codesOf}
 use Rattle.cube.specs.Codes.{agree, plain}
 use Rattle.cube.proofs.Codes.{plain-laws}
 use Rattle.cube.proofs.Normals.{base-within}
-use Rattle.cube.specs.Cube.{Exists, total, grouped, complete}
+use Rattle.cube.specs.Cube.{Exists, total, cells, complete}
 use Rattle.cube.specs.Condensed.{Entry, base, normal, Answer, no-record, found, lookup, normals, listed, reach, Base, own, stands, Permitted, Condensed, ours, expansion}
 use Rattle.cube.proofs.Sums.{sums-add}
-use Rattle.cube.proofs.Folding.{grouped-folded}
+use Rattle.cube.proofs.Folding.{cells-folded}
 use Rattle.cube.proofs.Promises.{base-rows, any-expands, ours-condensed, no-record-iff, answer, one-entry, fewest-entries, as-few, shortest-list}
 use Rattle.rows.specs.declared.Order.the-variants.{Equal}
 use Rattle.rows.specs.Rows.{cut}
@@ -90,11 +90,11 @@ module _ (s : List ℕ) (a : Held) (b : Bytes s) (e : readArchive s ≡ got a []
   rows-base = let l = archive-forth s a [] b e .0 in limits-base (a .sizes) rows l
 
   module _ (q : List ℕ) (k : asks (a .sizes) q ≡ true) where
-    looked : looksUp s q ≡ told (lookup (plain d) q (ours (plain d) sums rows))
+    pub looked : looksUp s q ≡ told (lookup (plain d) q (ours (plain d) sums rows))
     unfolding looksUp
     looked = rw (e, k) (ap (λ (l : List (Entry Total)). told (lookup (plain d) q l)) entries-ours)
 
-    -- A question gets 'no record' just if no base row falls in the cell;
+    -- A question gets 'no record' just if the cell does not exist: no base row falls in it, and it is not that of an archive without rows;
     pub no-record-just-if : (looksUp s q ≡ Find.NoRecord) ↔ (Exists (plain d) (codesOf rows) q → ⊥)
     no-record-just-if =
         let r = no-record-iff d rows rows-base q in
@@ -139,7 +139,7 @@ module _ (s : List ℕ) (t : Records) (b : Bytes s) (e : readTable s ≡ got t [
   -- its cuboids are those of the table's own rows, each cell with the exact sum and count of its rows,
   cuboid-built : (set : ℕ) → cuboidBytes D (baseRows t) set ≡ cuboidBytes D (t .rows) set
   unfolding cuboidBytes
-  cuboid-built set = ap (section cellBytes) (grouped-folded sums D (t .rows) (table-rows t limits) (plain D) sums-add set)
+  cuboid-built set = ap (section cellBytes) (cells-folded sums D (t .rows) (table-rows t limits) (plain D) sums-add set)
 
   pub built-lists : (set : ℕ) → set < 2 ^ D → listsCuboid ourArchive set ≡ bytes (cuboidBytes D (t .rows) set)
   unfolding listsCuboid
@@ -156,7 +156,7 @@ module _ (s : List ℕ) (t : Records) (b : Bytes s) (e : readTable s ≡ got t [
       ∙ ap bytes (flat-same (cuboidBytes D (baseRows t)) (cuboidBytes D (t .rows)) (sets D) (λ set m. cuboid-built set))
 
   -- The cells of that cube, set by set, are those of CUBE BY.
-  pub expanded-cells : flatMap (grouped (plain D) sums (t .rows)) (sets D) ≡ complete (plain D) sums (t .rows)
+  pub expanded-cells : flatMap (cells (plain D) sums (t .rows)) (sets D) ≡ complete (plain D) sums (t .rows)
   unfolding complete
   expanded-cells = refl
 

@@ -1,7 +1,7 @@
 -- Outputs that are always enough: no result is longer than its room, so no call that is lent as much stops with 15.
-use mathlib.Core.Path.{_≡_}
-use mathlib.Core.List.{List, [], flatMap, Memᴰ·map}
-use Prim.Native.Nat.{ℕ, _+_, _-_, _*_, _^_, _≤_}
+use mathlib.Core.Path.{_≡_, ap}
+use mathlib.Core.List.{List, [], _∷_, map, flatMap, Memᴰ·map}
+use Prim.Native.Nat.{ℕ, zero, suc, _+_, _-_, _*_, _^_, _≤_}
 use native.Mathlib.Nat.{le-refl, le-trans, add-le-add, mul-le-mul-right}
 use native.Mathlib.Omega.{arith}
 use lib.Dec.{ltb}
@@ -16,9 +16,12 @@ use Rattle.walk.specs.Limits.{Bytes}
 use Rattle.cube.specs.declared.Total.{Total}
 use Rattle.cube.specs.Measure.{Row, sums, codesOf}
 use Rattle.cube.specs.Codes.{plain}
-use Rattle.cube.specs.Condensed.{listed, normals}
+use Rattle.cube.specs.Cube.{blank, existing, filled, cells}
+use Rattle.cube.specs.Condensed.{listed, common}
 use Rattle.cube.specs.Table.{Table as Rows}
-use Rattle.cube.proofs.Cells.{grouped-few}
+use Rattle.cube.proofs.Existing.{existing-few}
+use Rattle.singles.specs.Blank.{blanks}
+use Rattle.singles.proofs.Blank.{normals-count}
 use Rattle.cube.proofs.Folding.{folded-few}
 use Rattle.cube.proofs.Counting.{plain-counts}
 use Rattle.table.specs.Layout.{Records, TableLimits}
@@ -34,7 +37,7 @@ use Rattle.cuboids.proofs.Lengths.{cuboid-length}
 use Rattle.calls.specs.Answers.{bytes, within}
 use Rattle.calls.specs.Calls.{builds, dims, listsCuboid, expands}
 use Rattle.build.proofs.Folded.{folded-within}
-use Rattle.promises.specs.Room.{cuboidRoom, expansionRoom, archiveRoom}
+use Rattle.promises.specs.Room.{atLeast1, cuboidRoom, expansionRoom, archiveRoom}
 use Rattle.promises.proofs.Promises.{built}
 
 pub coded : (zs : List ℕ) (rows : List (Row Total)) → Limits zs rows → Rows (length zs) rows
@@ -42,9 +45,25 @@ coded zs rows l r m = limits-base zs rows l .valid (r .codes) (Memᴰ·map (λ q
 
 -- ---- the results
 
+cells-few : (d : ℕ) (rows : List (Row Total)) (set : ℕ) → length (cells (plain d) sums rows set) ≤ atLeast1 (length rows)
+unfolding cells
+cells-few d rows set = go rows (existing-few (plain d) (codesOf rows) set) (length-map (existing (plain d) (codesOf rows) set) (filled (plain d) sums rows))
+  where
+    go : (l : List (Row Total)) → length (existing (plain d) (codesOf rows) set) ≤ length (blank (plain d) (codesOf l)) + length (codesOf l)
+        → length (map (filled (plain d) sums rows) (existing (plain d) (codesOf rows) set)) ≡ length (existing (plain d) (codesOf rows) set)
+        → length (map (filled (plain d) sums rows) (existing (plain d) (codesOf rows) set)) ≤ atLeast1 (length l)
+    go [] h e = omega (arith, h, e)
+    go (r ∷ l) h e = omega (arith, h, e, length-map l (λ q. q .codes))
+
+least-mono : (m n : ℕ) → m ≤ n → atLeast1 m ≤ atLeast1 n
+least-mono zero zero h = omega arith
+least-mono zero (suc n) h = omega arith
+least-mono (suc m) zero h = absurd (omega arith)
+least-mono (suc m) (suc n) h = h
+
 module _ (d : ℕ) (rows : List (Row Total)) (t : Rows d rows) where
   pub cuboid-room : (set : ℕ) → length (cuboidBytes d rows set) ≤ cuboidRoom d (length rows)
-  cuboid-room set = omega (arith, cuboid-length d rows set t, mul-le-mul-right (4 * d + 12) (grouped-few (plain d) sums rows set))
+  cuboid-room set = omega (arith, cuboid-length d rows set t, mul-le-mul-right (4 * d + 12) (cells-few d rows set))
 
   pub expansion-room : length (expansionBytes d rows) ≤ expansionRoom d (length rows)
   unfolding expansionBytes
@@ -56,18 +75,24 @@ module _ (d : ℕ) (rows : List (Row Total)) (t : Rows d rows) where
 shared-out : (d n p lists cells : ℕ) → lists + 2 * cells ≤ p * n → n * (4 * d + 16) + 4 * lists + cells * (4 * d + 12) ≤ n * (4 * d + 16 + p * (2 * d + 6))
 shared-out d n p lists cells h = omega (arith, mul-le-mul-right (2 * d + 6) h)
 
+-- with the entry of an empty table
+all-out : (d n p lists cells : ℕ) → lists + 2 * cells ≤ p * n → n * (4 * d + 16) + 4 * lists + (blanks n + cells) * (4 * d + 12) ≤ atLeast1 n * (4 * d + 16 + p * (2 * d + 6))
+all-out d zero p lists cells h = let z : cells ≡ 0 = omega (arith, h) in rw z (omega (arith, h))
+all-out d (suc n) p lists cells h = let z : blanks (suc n) + cells ≡ cells = omega arith in rw z (shared-out d (suc n) p lists cells h)
+
 pub archive-room : (zs : List ℕ) (rows : List (Row Total)) → Limits zs rows → length (archiveBytes zs rows) ≤ archiveRoom (length zs) (length rows)
 unfolding required
 archive-room zs rows l =
     let d = length zs in
     let xs = codesOf rows in
     let count = rw (length-map rows (λ r. r .codes)) at (plain-counts d xs (limits-base zs rows l)) in
-    let rest = shared-out d (length rows) (2 ^ d - 1) (length (flatMap (listed (plain d) xs) xs)) (length (normals (plain d) xs)) count in
-    omega (arith, archive-length zs rows l, sets-listed d rows rows, rest)
+    let rest = all-out d (length rows) (2 ^ d - 1) (length (flatMap (listed (plain d) xs) xs)) (length (common (plain d) xs)) count in
+    let all = rw (length-map rows (λ r. r .codes)) at (normals-count (plain d) xs) in
+    omega (arith, archive-length zs rows l, sets-listed d rows rows, rest, ap (λ (n : ℕ). n * (4 * d + 12)) all)
 
 -- where it was built, by the rows of the table too
 pub built-room : (t : Records) → TableLimits t → length (archiveBytes (t .sizes) (baseRows t)) ≤ archiveRoom (length (t .sizes)) (length (t .rows))
-built-room t l = le-trans (archive-room (t .sizes) (baseRows t) (folded-within t l)) (add-le-add (le-refl _) (mul-le-mul-right _ (folded-few sums (length (t .sizes)) (t .rows))))
+built-room t l = le-trans (archive-room (t .sizes) (baseRows t) (folded-within t l)) (add-le-add (le-refl _) (mul-le-mul-right _ (least-mono _ _ (folded-few sums (length (t .sizes)) (t .rows)))))
 
 -- ---- the calls
 

@@ -1,13 +1,15 @@
 -- Which entry answers a question: none where no row falls in the cell, the row's where it is single on the cell's set, and otherwise the normal entry at the cell.
 use mathlib.Core.Path.{_≡_, refl, sym, ap, subst, _∙_}
+use mathlib.Core.Logic.{inl}
 use mathlib.Core.Bool.{true, false, false≢true}
 use mathlib.Core.Option.{some as just}
-use mathlib.Core.List.{List, [], _∷_}
+use mathlib.Core.List.{List, [], _∷_, List·Memᴰ·not-nil}
 use Prim.Native.Nat.{ℕ, zero, suc, _+_, _*_, _≤_, _<_}
 use native.Mathlib.Omega.{arith}
 use lib.ListN.{length, getD, getElem?, length-map}
 use Rattle.lists.specs.Lists.{_∈_}
 use Rattle.lists.specs.Search.{Between}
+use Rattle.lists.proofs.Tests.{cases}
 use Rattle.lists.proofs.Members.{at-in, in-at}
 use Rattle.lists.proofs.Places.{map-at}
 use Rattle.lists.proofs.Search.{rising-found}
@@ -17,16 +19,16 @@ use Rattle.cube.specs.Measure.{Row, sums as measure, codesOf}
 use Rattle.cube.specs.Bounds.{Summable}
 use Rattle.cube.specs.Codes.{falls, cell, set-of, plain}
 use Rattle.cube.specs.Cube.{within, total}
-use Rattle.cube.specs.Condensed.{Answer, no-record, found, single, normals, Base, lookup, ours}
+use Rattle.cube.specs.Condensed.{Answer, found, single, normals, Base, lookup, ours}
 use Rattle.cube.proofs.Codes.{plain-laws}
 use Rattle.cube.proofs.Cells.{single-within, crowd-within}
 use Rattle.cube.proofs.Keys.{comesBefore, by-keys, normals-rising}
-use Rattle.cube.proofs.Promises.{normal-cells, ours-condensed, row-answers, normal-answers}
+use Rattle.cube.proofs.Promises.{empty-entries, normal-cells, ours-condensed, row-answers, normal-answers}
 use Rattle.cube.proofs.Questions.{lookup-none}
 use Rattle.rows.specs.Rows.{rowAt}
 use Rattle.rows.proofs.Flat.{blank}
 use Rattle.entries.specs.Places.{rowThere}
-use Rattle.questions.specs.Questions.{First, entryBefore, NormalsAt}
+use Rattle.questions.specs.Questions.{rowless, First, entryBefore, NormalsAt}
 use Rattle.questions.proofs.Stored.{held-count, held-there}
 
 -- the member at a place
@@ -34,6 +36,15 @@ just-at : {A : Type 0} (a : A) (l : List A) (k : ℕ) → k < length l → getEl
 just-at a [] k h = absurd (omega arith)
 just-at a (x ∷ l) zero h = refl
 just-at a (x ∷ l) (suc k) h = just-at a l k (omega arith)
+
+-- no row falls in the cell
+pub answer-none : (d : ℕ) (rows : List (Row Total)) (b : Base (plain d) (codesOf rows)) (c : List ℕ) → First c (codesOf rows) (length rows)
+    → rowless d (length rows) c ≡ lookup (plain d) c (ours (plain d) measure rows)
+answer-none d [] b c f = sym (ap (lookup (plain d) c) (empty-entries d))
+answer-none d (r ∷ rows) b c f = sym (lookup-none (plain d) measure (r ∷ rows) (ours-condensed d (r ∷ rows) b) c
+    (λ x. cases x
+    (λ h. let k = in-at [] (h .1) in false≢true (sym (f .before (k .0) (omega (arith, k .1, length-map (r ∷ rows) (λ q. q .codes)))) ∙ ap (falls c) (k .2) ∙ h .2))
+    (λ m. List·Memᴰ·not-nil m)))
 
 module _ (d : ℕ) (rows : List (Row Total)) (b : Base (plain d) (codesOf rows)) (c : List ℕ) where
   abbrev xs : List (List ℕ)
@@ -44,10 +55,6 @@ module _ (d : ℕ) (rows : List (Row Total)) (b : Base (plain d) (codesOf rows))
 
   abbrev answer : Answer Total
   answer = lookup (plain d) c (ours (plain d) measure rows)
-
-  pub answer-none : First c xs (length rows) → answer ≡ no-record
-  answer-none f = lookup-none (plain d) measure rows (ours-condensed d rows b) c
-      (λ h. let k = in-at [] (h .1) in false≢true (sym (f .before (k .0) (rw length-map at (k .1))) ∙ ap (falls c) (k .2) ∙ h .2))
 
   -- where a row falls in the cell, the cell is the row's of the cell's set
   module _ (i : ℕ) (h : i < length rows) (f : falls c (rowAt xs i) ≡ true) where
@@ -64,7 +71,7 @@ module _ (d : ℕ) (rows : List (Row Total)) (b : Base (plain d) (codesOf rows))
 
     pub shared-cell : single (plain d) xs (set-of c) (rowAt xs i) ≡ false → c ∈ cells
     shared-cell e =
-        normal-cells d rows b c .1 (subst (λ (y : List ℕ). 2 ≤ length (within (plain d) xs y)) (sym (own .1)) (crowd-within (plain d) (plain-laws d) xs b (own .0) there e))
+        normal-cells d rows b c .1 (inl (subst (λ (y : List ℕ). 2 ≤ length (within (plain d) xs y)) (sym (own .1)) (crowd-within (plain d) (plain-laws d) xs b (own .0) there e)))
 
   -- the search among the normal entries, which rise by their keys, finds the one at the cell
   module _ {s : List ℕ} {at n k : ℕ} (held : NormalsAt s at n d rows) (m : Summable rows) (e : length c ≡ d) (g : Between (entryBefore s at c) n k k) (i : c ∈ cells) where

@@ -21,8 +21,8 @@ use Rattle.entries.proofs.Limits.{normals-few}
 use Rattle.singles.specs.Ready.{Ready}
 use Rattle.singles.proofs.Ready.{ready-base}
 use Rattle.questions.specs.declared.Look.{Look}
-use Rattle.questions.specs.declared.Look.the-variants.{NoRecord, Cell}
-use Rattle.questions.specs.Questions.{looked, First, entryBefore, NormalsAt}
+use Rattle.questions.specs.declared.Look.the-variants.{Cell}
+use Rattle.questions.specs.Questions.{looked, rowless, First, entryBefore, NormalsAt}
 use Rattle.questions.proofs.Stored.{held-count, held-room, held-within}
 use Rattle.questions.proofs.Answers.{answer-none, answer-row, shared-cell, found-here, answer-normal}
 
@@ -50,8 +50,10 @@ module _ {d n : ℕ} {codes : List ℕ} {sums : List ℤ} {counts : List ℕ} (r
   asked-room held = held-room held base (ready .summable)
 
   -- no row falls in the cell
-  pub asked-none : First c (cut d n codes) n → NoRecord ≡ asked
-  asked-none f = sym (ap looked (answer-none d table base c (rw (same-codes, rows-length) f)))
+  pub asked-none : First c (cut d n codes) n → looked (rowless d n c) ≡ asked
+  asked-none f =
+      ap (λ (k : ℕ). looked (rowless d k c)) (sym (rows-length d n codes sums counts))
+      ∙ ap looked (answer-none d table base c (rw (same-codes, rows-length) f))
 
   module _ (i : ℕ) (h : i < n) (f : First c (cut d n codes) i) where
     inside : i < length table

@@ -10,7 +10,7 @@ ghost use Rattle.cube.specs.Codes.{falls, set-of, keys, plain};
 ghost use Rattle.cube.specs.Condensed.{ours, lookup};
 ghost use Rattle.rows.specs.Rows.{cut, rowsOf};
 ghost use Rattle.singles.specs.Ready.{Ready};
-ghost use Rattle.questions.specs.Questions.{asks, looked, First, entryBefore, NormalsAt};
+ghost use Rattle.questions.specs.Questions.{asks, looked, rowless, First, entryBefore, NormalsAt};
 
 // What a question is answered by: no entry, or the sum and the count that an entry carries, and its number.
 pub enum Look {
@@ -132,6 +132,23 @@ fn find_cell(s: &[u8], at: usize, n: usize, cell: &[u32]) -> usize
     low
 }
 
+// The answer for a cell that no row falls in: an empty table has all ALL, and its entry is the first.
+fn without_rows(rows: usize, cell: &[u32]) -> Look
+    requires { ⌜ length (now cell) ≤ 8 ⌝ }
+    ensures { λ r. ⌜ r ≡ looked (rowless (length (now (cell .entry))) rows (now (cell .entry))) ⌝ }
+{
+    if rows != 0 {
+        return Look::NoRecord;
+    }
+    if set_of(cell) != 0 {
+        return Look::NoRecord;
+    }
+    let sum = 0;
+    let count = 0;
+    let entry = 0;
+    Look::Cell { sum, count, entry }
+}
+
 // The entry that stands for a cell: that of the one row that falls in it, or else the normal entry at the cell. The n normal entries stand in the bytes s from a place on.
 pub fn answer(
     s: &[u8],
@@ -150,7 +167,7 @@ pub fn answer(
 {
     let i = first_row(codes, rows, dims, cell);
     if i == rows {
-        return Look::NoRecord;
+        return without_rows(rows, cell);
     }
     if rows::is_single(codes, rows, dims, i, set_of(cell)) {
         let sum = sums[i];

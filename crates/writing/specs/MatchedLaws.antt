@@ -59,3 +59,18 @@ matched-told {s} {xs} {at} e m = subst (λ (u : Walk). Matched s at xs u) e m
 -- what was written over a front is what the front is compared as
 pub front-matched : {xs l m s : List ℕ} {at n : ℕ} {w : Walk} → Wrote xs l m n → Matched s at (take n m) w → Matched s at xs w
 front-matched wrote h = matched-as (wrote-front wrote) h
+
+-- ---- two parts, one behind the other
+
+module _ {s xs : List ℕ} {at : ℕ} (ys : List ℕ) where
+  -- what stops a part stops the whole
+  pub matched-stop : {n : ℕ} → Matched s at xs (Stop n) → Matched s at (xs ++ ys) (Stop n)
+  matched-stop m = record { meets = (m .meets .0, startsWith-append (drop at s) xs ys ∙ rw (m .meets .1)) }
+
+  -- the first part stands there, so the second settles it
+  starts-then : {k : ℕ} → Matched s at xs (At k) → startsWith (drop at s) (xs ++ ys) ≡ startsWith (drop k s) ys
+  starts-then m = startsWith-append (drop at s) xs ys ∙ rw (m .meets .0, drop-drop (length xs) at s) (ap (λ (j : ℕ). startsWith (drop j s) ys) (sym (m .meets .1)))
+
+  pub matched-then : {k : ℕ} (w : Walk) → Matched s at xs (At k) → Matched s k ys w → Matched s at (xs ++ ys) w
+  matched-then (Stop n) m v = record { meets = (v .meets .0, starts-then m ∙ v .meets .1) }
+  matched-then (At j) m v = record { meets = (starts-then m ∙ v .meets .0, omega (arith, v .meets .1, m .meets .1, length-append xs ys), v .meets .2) }

@@ -31,20 +31,25 @@ impl Records {
         Archive::build(&self.table()).unwrap()
     }
 
-    /// The sum and the count over the rows that fall in a cell.
-    pub fn total(&self, cell: &[Code]) -> (i64, u32) {
+    /// The sum and the count over the rows that fall in a cell; none if none do, but for all ALL of an empty table.
+    pub fn total(&self, cell: &[Code]) -> Option<(i64, u32)> {
         let falls = |codes: &[u16]| cell.iter().zip(codes).all(|(wanted, code)| wanted.is_none() || *wanted == Some(*code));
         let readings = self.rows.iter().filter(|(codes, _)| falls(codes)).map(|(_, reading)| i64::from(*reading));
-        readings.fold((0, 0), |(sum, count), reading| (sum + reading, count + 1))
+        let (sum, count) = readings.fold((0, 0), |(sum, count), reading| (sum + reading, count + 1));
+        let empty = self.rows.is_empty() && cell.iter().all(Option::is_none);
+        (count > 0 || empty).then_some((sum, count))
     }
 
-    /// The cells of a set that have a row, by codes.
+    /// The cells of a set that have a row, by codes. An empty table has one cell, all ALL.
     pub fn cuboid(&self, set: u32) -> Cuboid {
         let code = |i: usize, code: u16| (set >> i & 1 == 1).then_some(code);
         let cells = self.rows.iter().map(|(codes, _)| (0..self.dims()).map(|i| code(i, codes[i])).collect());
-        let cells: BTreeSet<Vec<Code>> = cells.collect();
+        let mut cells: BTreeSet<Vec<Code>> = cells.collect();
+        if self.rows.is_empty() && set == 0 {
+            cells.insert(vec![None; self.dims()]);
+        }
         let total = |codes: Vec<Code>| {
-            let (sum, count) = self.total(&codes);
+            let (sum, count) = self.total(&codes).unwrap();
             Cell { codes, sum, count }
         };
         Cuboid { set, cells: cells.into_iter().map(total).collect() }

@@ -6,19 +6,19 @@ use crate::write::{check_word, mend, File};
 pub struct Kind {
     open: fn() -> File,
     other: fn() -> File,
-    /// The rest of a file without rows.
-    empty: fn(File) -> File,
+    /// The rest of a file without rows, for D.
+    empty: fn(File, usize) -> File,
     /// The answer on a file without rows, for D.
     answer: fn(u32) -> (u32, u32),
 }
 
-pub const TABLE: Kind = Kind { open: File::table, other: File::archive, empty: |f| f, answer: |dims| (dims, 0) };
-pub const ARCHIVE: Kind = Kind { open: File::archive, other: File::table, empty: |f| f.word(0), answer: |_| (0, 0) };
+pub const TABLE: Kind = Kind { open: File::table, other: File::archive, empty: |f, _| f, answer: |dims| (dims, 0) };
+pub const ARCHIVE: Kind = Kind { open: File::archive, other: File::table, empty: File::no_rows, answer: |_| (0, 1) };
 
 impl Kind {
     /// A right file without rows.
     fn right(&self, sizes: &[u32]) -> Vec<u8> {
-        (self.empty)((self.open)().head(sizes, 0)).closed()
+        (self.empty)((self.open)().head(sizes, 0), sizes.len()).closed()
     }
 
     fn accepted(&self, c: &mut Cases, name: &str, bytes: Vec<u8>, dims: u32) {
@@ -53,7 +53,7 @@ fn stop_1(c: &mut Cases, kind: &Kind) {
         mend(&mut b);
         c.stop(&format!("byte {i} of the opening has another bit {bit:#x}"), b, 1);
     }
-    c.stop("the opening of the other file", (kind.empty)((kind.other)().head(&[1], 0)).closed(), 1);
+    c.stop("the opening of the other file", (kind.empty)((kind.other)().head(&[1], 0), 1).closed(), 1);
     c.stop("a zero byte before the opening", [&[0], &kind.right(&[1])[..]].concat(), 1);
     c.stop("the opening backwards", opening.iter().rev().copied().chain(kind.right(&[1])[4..].iter().copied()).collect(), 1);
     c.stop("just the opening", opening, 2);
@@ -70,14 +70,14 @@ fn stop_2(c: &mut Cases, kind: &Kind) {
         c.stop(&format!("{n} bytes of a count of 4,294,967,295"), open().words(&[1, 5]).raw(&[255; 3][..n]).cut(), 2);
         let file = kind.right(&[3, 4]);
         c.stop(&format!("{n} bytes of the check word"), file[..file.len() - 4 + n].to_vec(), 2);
-        let wrong = (kind.empty)(open().head(&[3, 4], 0)).raw(&[7; 3][..n]).cut();
+        let wrong = (kind.empty)(open().head(&[3, 4], 0), 2).raw(&[7; 3][..n]).cut();
         c.stop(&format!("{n} bytes of a wrong check word"), wrong, 2);
     }
     c.stop("no D", open().cut(), 2);
     c.stop("no size", open().word(1).cut(), 2);
     c.stop("D 8 and seven sizes", open().word(8).words(&[9; 7]).cut(), 2);
     c.stop("no count", open().words(&[1, 5]).cut(), 2);
-    c.stop("no check word", (kind.empty)(open().head(&[5], 0)).cut(), 2);
+    c.stop("no check word", (kind.empty)(open().head(&[5], 0), 1).cut(), 2);
     kind.accepted(c, "nothing missing", kind.right(&[3, 4]), 2);
 }
 
@@ -86,7 +86,7 @@ fn stop_3(c: &mut Cases, kind: &Kind) {
     let open = kind.open;
     for d in [0, 9, 10, 255, 256, 257, 264, 65_537, 1 << 24, 1 << 31, u32::MAX] {
         c.stop(&format!("D {d} and nothing behind"), open().word(d).cut(), 3);
-        c.stop(&format!("D {d} and sizes"), (kind.empty)(open().word(d).words(&[2; 9]).word(0)).closed(), 3);
+        c.stop(&format!("D {d} and sizes"), (kind.empty)(open().word(d).words(&[2; 9]).word(0), 9).closed(), 3);
     }
     c.stop("D 9 before a size of 0", open().words(&[9, 0]).cut(), 3);
     c.stop("D 9 in a whole file", kind.right(&[2; 9]), 3);

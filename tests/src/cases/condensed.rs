@@ -12,6 +12,8 @@ pub fn add(c: &mut Cases) {
     normal_counts(c);
     normal_entries(c);
     normal_fields(c);
+    no_rows(c);
+    one_row_and_a_zero_total(c);
     after_10_and_11(c);
 }
 
@@ -92,20 +94,20 @@ fn normal_counts(c: &mut Cases) {
         c.stop(&format!("normal entry {i} twice"), five(LISTS, &normals).closed(), 12);
     }
     c.stop("no normal entry", five(LISTS, &[]).closed(), 12);
-    let more: [(usize, Normal, &str); 4] = [
+    let more: [(usize, Normal, &str); 7] = [
         (1, ([0, ALL, ALL], 50, 1), "a cell of one row"),
         (5, ([ALL, 5, 1], 70, 1), "a cell of one row at the end"),
         (5, ([0, 1, 1], 50, 1), "a cell of the full set"),
         (4, ([ALL, ALL, 0], 0, 0), "a cell that does not exist"),
+        (0, ([ALL, ALL, ALL], 0, 0), "the total of no row before that of all rows"),
+        (1, ([ALL, ALL, ALL], 0, 0), "the total of no row behind that of all rows"),
+        (5, ([ALL, ALL, ALL], 0, 0), "the total of no row at the end"),
     ];
     for (at, cell, name) in more {
         let mut normals = NORMALS.to_vec();
         normals.insert(at, cell);
         c.stop(&format!("{name} besides"), five(LISTS, &normals).closed(), 12);
     }
-    let empty = |normals: u32| (0..normals).fold(File::archive().head(&[1], 0).word(normals), |f, _| f.normal(&[ALL], 0, 0)).closed();
-    c.pass("no entry at all", empty(0), 0, 0);
-    c.stop("a normal entry of no row", empty(1), 12);
 }
 
 fn normal_entries(c: &mut Cases) {
@@ -130,6 +132,47 @@ fn normal_fields(c: &mut Cases) {
             c.stop(&format!("the word at {at} {name}, the check word mended"), b, 12);
         }
     }
+}
+
+/// An archive without rows has one normal entry: all ALL, with sum 0 and count 0.
+fn no_rows(c: &mut Cases) {
+    for dims in 1..=8 {
+        let head = |normals: u32| File::archive().head(&vec![3; dims], 0).word(normals);
+        let one = |codes: &[u32], sum: i64, count: u32| head(1).normal(codes, sum, count).closed();
+        let all = vec![ALL; dims];
+        c.pass(&format!("no row at D {dims}"), one(&all, 0, 0), 0, 1);
+        c.stop(&format!("no row at D {dims}, and no normal entry"), head(0).closed(), 12);
+        c.stop(&format!("no row at D {dims}, and the total twice"), head(2).normal(&all, 0, 0).normal(&all, 0, 0).closed(), 12);
+        for sum in [1, -1, 1 << 31, 1 << 32, i64::MAX, i64::MIN] {
+            c.stop(&format!("no row at D {dims}, and the sum {sum}"), one(&all, sum, 0), 12);
+        }
+        for count in [1, 2, 1 << 16, 1 << 31, u32::MAX] {
+            c.stop(&format!("no row at D {dims}, and the count {count}"), one(&all, 0, count), 12);
+        }
+        for (dim, code) in (0..dims).flat_map(|dim| [0, 1, 2, 65_534, 65_536, u32::MAX].map(|code| (dim, code))) {
+            let mut codes = all.clone();
+            codes[dim] = code;
+            c.stop(&format!("no row at D {dims}, and a cell with code {code}"), one(&codes, 0, 0), 12);
+            let two = head(2).normal(&all, 0, 0).normal(&codes, 0, 0).closed();
+            c.stop(&format!("no row at D {dims}, and a cell with code {code} besides"), two, 12);
+        }
+    }
+}
+
+/// A row's total is its own; a base entry of count 0 is stop 8 and one of ALL stop 6, also where the rest is that of an empty table.
+fn one_row_and_a_zero_total(c: &mut Cases) {
+    for dims in 1..=8 {
+        let base = |codes: &[u32], count: u32| File::archive().head(&vec![3; dims], 1).base(codes, 0, count, &[0]);
+        let (zeros, all) = (vec![0; dims], vec![ALL; dims]);
+        c.pass(&format!("a row of sum 0 at D {dims}"), base(&zeros, 1).word(0).closed(), 1, 0);
+        c.stop(&format!("a row of sum 0 and the total of no row at D {dims}"), base(&zeros, 1).no_rows(dims).closed(), 12);
+        c.stop(&format!("a base entry of count 0 at D {dims}"), base(&zeros, 0).word(0).closed(), 8);
+        c.stop(&format!("the same and the total of no row at D {dims}"), base(&zeros, 0).no_rows(dims).closed(), 8);
+        c.stop(&format!("a base entry all ALL of count 0 at D {dims}"), base(&all, 0).word(0).closed(), 6);
+    }
+    let two = File::archive().head(&[3], 2).base(&[0], 5, 1, &[]).base(&[1], -5, 1, &[]).word(1);
+    c.pass("two rows that add up to 0", two.clone().normal(&[ALL], 0, 2).closed(), 2, 1);
+    c.stop("two rows, and the total of no row for theirs", two.normal(&[ALL], 0, 0).closed(), 12);
 }
 
 fn after_10_and_11(c: &mut Cases) {

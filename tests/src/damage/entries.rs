@@ -7,12 +7,12 @@ use crate::write::archive_bytes;
 pub fn entries(archive: &Accepted, times: usize, random: &mut Random, mut see: impl FnMut(&[u8], &str)) {
     for _ in 0..times {
         let Accepted { mut sizes, rows, mut bases, mut normals } = archive.clone();
-        let done = match random.below(8) {
+        let done = match random.below(9) {
             0 => change_size(&mut sizes, random),
             1 | 2 if !bases.is_empty() => change_base(&mut bases, random),
             3 | 4 if !bases.is_empty() => change_list(sizes.len(), &mut bases, random),
             5 if !rows.is_empty() => add_normal(sizes.len(), &rows, &mut normals, random),
-            _ if !normals.is_empty() => change_normal(&mut normals, random),
+            6 | 7 if !normals.is_empty() => change_normal(&mut normals, random),
             _ => add_empty(sizes.len(), &mut normals),
         };
         see(&archive_bytes(&sizes, &bases, &normals), &done);
@@ -94,8 +94,8 @@ fn add_normal(dims: usize, rows: &[Row], normals: &mut Vec<Row>, random: &mut Ra
 }
 
 fn add_empty(dims: usize, normals: &mut Vec<Row>) -> String {
-    normals.push(Row { codes: vec![cube::ALL; dims], sum: 0, count: 0 });
-    "a normal entry of no row put in".into()
+    normals.insert(0, Row { codes: vec![cube::ALL; dims], sum: 0, count: 0 });
+    "the total of no row put in".into()
 }
 
 fn change_normal(normals: &mut Vec<Row>, random: &mut Random) -> String {

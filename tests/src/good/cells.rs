@@ -17,6 +17,11 @@ pub fn cell(dims: usize, codes: Key, total: (i64, u32)) -> [u8; WIDEST] {
     bytes
 }
 
+/// The bytes of an empty table's one cell, all ALL with sum 0 and count 0.
+pub fn empty(dims: usize) -> [u8; WIDEST] {
+    cell(dims, Key::MAX, (0, 0))
+}
+
 /// Writes a cuboid of so many cells into bytes that just hold it.
 pub fn write_cuboid(rows: &Rows, set: usize, cells: usize, sorter: &mut Sorter, out: &mut [u8]) {
     let (count, out) = out.split_at_mut(4);
@@ -27,6 +32,10 @@ pub fn write_cuboid(rows: &Rows, set: usize, cells: usize, sorter: &mut Sorter, 
         for (place, (&key, &total)) in places.zip(rows.keys.iter().zip(&rows.totals)) {
             place.copy_from_slice(&cell(rows.dims, key, total)[..width]);
         }
+        return;
+    }
+    if rows.keys.is_empty() {
+        places.for_each(|place| place.copy_from_slice(&empty(rows.dims)[..width]));
         return;
     }
     let all = !mask(set);

@@ -1,5 +1,5 @@
 //! Our lists and normal entries for base rows.
-use super::cells::cell;
+use super::cells::{cell, empty};
 use super::keys::{lattice, mask, row, Sorter};
 use super::rows::{RowSet, Rows};
 use std::ops::Range;
@@ -55,6 +55,9 @@ impl Condensed {
         }
         let (all, width) = (!mask(set), rows.width());
         let first = self.normals.len() / width;
+        if set == 0 && rows.keys.is_empty() {
+            self.normals.extend_from_slice(&empty(rows.dims)[..width]);
+        }
         for group in sorter.groups(&rows.keys, set, alone.others(rows.len())) {
             let i = row(group[0]);
             if group.len() == 1 {

@@ -1,4 +1,4 @@
-//! The cube in exact terms: each definition of document 01 as plainly as it is said there.
+//! The cube in exact terms: each definition of document 01, with document 02's cell of the empty table, as plainly as it is said there.
 use std::collections::BTreeMap;
 
 /// The value that stands for ALL.
@@ -86,9 +86,17 @@ pub fn cell(codes: &[u32], set: u32) -> Vec<u32> {
     (0..codes.len()).map(|i| if set >> i & 1 == 1 { codes[i] } else { ALL }).collect()
 }
 
+/// Whether a cell of the set is the one of an empty table: all ALL, with sum 0 and count 0.
+pub fn empty(rows: &[Row], set: u32) -> bool {
+    rows.is_empty() && set == 0
+}
+
 /// The cells of a set, by codes.
-pub fn cells(rows: &[Row], set: u32) -> BTreeMap<Vec<u32>, Total> {
+pub fn cells(dims: usize, rows: &[Row], set: u32) -> BTreeMap<Vec<u32>, Total> {
     let mut cells: BTreeMap<Vec<u32>, Total> = BTreeMap::new();
+    if empty(rows, set) {
+        cells.insert(vec![ALL; dims], Total::default());
+    }
     for row in rows {
         let total = cells.entry(cell(&row.codes, set)).or_default();
         *total = total.with(row.sum, row.count);
@@ -96,10 +104,10 @@ pub fn cells(rows: &[Row], set: u32) -> BTreeMap<Vec<u32>, Total> {
     cells
 }
 
-/// Our normal entries: the cells outside the full set in which two or more base rows fall.
+/// Our normal entries: the cells outside the full set in which two or more base rows fall, and that of an empty table.
 pub fn normals(dims: usize, rows: &[Row]) -> Vec<Row> {
     let sets = lattice(dims).into_iter().filter(|&set| set != full(dims));
-    let cells = sets.flat_map(|set| cells(rows, set)).filter(|(_, total)| total.rows >= 2);
+    let cells = sets.flat_map(|set| cells(dims, rows, set)).filter(|(_, total)| total.rows >= 2 || rows.is_empty());
     cells.map(|(codes, total)| Row { codes, sum: total.sum, count: total.count }).collect()
 }
 

@@ -1,6 +1,6 @@
 //! Random archives: ours, and those of other writers.
 use super::Random;
-use crate::model::{cube, our_archive, Base, Row};
+use crate::model::{cube, our_archive, Base, Row, ALL};
 use crate::write::archive_bytes;
 use crate::ROWS;
 
@@ -51,7 +51,7 @@ impl Random {
         rows
     }
 
-    /// Lists and normal entries of any value: no stop up to 11 looks at them.
+    /// Lists and normal entries of any value, now and then just that of an empty table: no stop up to 11 looks at them.
     pub fn any_entries(&mut self, dims: usize, rows: &[Row]) -> (Vec<Base>, Vec<Row>) {
         let longest = self.pick(&[0, 1, 4, 70]);
         let mut bases = Vec::new();
@@ -59,6 +59,9 @@ impl Random {
             let listed = if longest == 70 && self.one_in(3) { 70 } else { self.below(longest + 1) };
             let list = (0..listed).map(|_| self.any_word()).collect();
             bases.push(Base { row: row.clone(), list });
+        }
+        if self.one_in(4) {
+            return (bases, vec![Row { codes: vec![ALL; dims], sum: 0, count: 0 }]);
         }
         let normals = self.below(12) * self.below(3);
         let mut cell = || Row { codes: (0..dims).map(|_| self.any_word()).collect(), sum: self.draw() as i64, count: self.any_word() };

@@ -3,7 +3,8 @@ use super::Random;
 use crate::model::{cube, Accepted, ALL};
 
 impl Random {
-    /// A question for a cell that may exist: a row's codes on a set, now and then mixed with another row's or with any code.
+    /// A question for a cell that may exist: a row's codes on a set, now and then mixed with another row's or with any code; without rows
+    /// often all ALL.
     pub fn question(&mut self, archive: &Accepted) -> Vec<u32> {
         let mut codes = self.codes(&archive.sizes);
         if !archive.rows.is_empty() && !self.one_in(8) {
@@ -16,7 +17,8 @@ impl Random {
                 _ => {}
             }
         }
-        let set = self.below(1 << codes.len()) as u32;
+        let grand = archive.rows.is_empty() && self.one_in(2);
+        let set = if grand { 0 } else { self.below(1 << codes.len()) as u32 };
         cube::cell(&codes, set)
     }
 

@@ -1,68 +1,40 @@
--- `normals::match_normals` meets its contract: the normal entries of the sets from the present place on are left to compare.
-use mathlib.Core.Path.{sym, subst}
-use Prim.Native.Nat.{_-_, _≤_, _<_}
-use native.Mathlib.Omega.{arith}
-use mathlib.Core.List.{List}
-use lib.Pow.{pow-pos}
+-- `normals::match_normals` meets its contract: the entry of an empty table, and those of the sets at the place behind it.
+use mathlib.Core.Path.{_≡_}
+use mathlib.Core.List.{_++_}
 use denote.Ref.{now}
-use Rattle.lattice.specs.Sets.{full}
 use Rattle.rows.specs.Rows.{rowsOf}
-use Rattle.writing.specs.Matched.{Matching}
-use Rattle.writing.specs.MatchedLaws.{matching-none, matched-told}
-use Rattle.writing.proofs.Turns.{turns, match-skip, match-more, match-off, match-done}
-use Rattle.normals.specs.Normals.{sharedBytes, normalBytes}
-use Rattle.normals.proofs.Sections.{turns-start}
+use Rattle.rows.proofs.Flat.{rows-length}
+use Rattle.writing.specs.MatchedLaws.{matched-told, matched-as, matched-stop, matched-then}
+use Rattle.normals.specs.Normals.{commonBytes, blankBytes, normalBytes}
+use Rattle.normals.proofs.Sections.{normal-parts}
 use borrow.Author.Needs.{needs}
 use Rattle.normals.proofs.match_normals.Statement.{statement}
 use Rattle.normals.proofs.match_normals.Tie as tie
 
-abbrev Inv-loop : tie.InvT-loop
-Inv-loop s start codes sums counts rows dims sets lens all at₀ k₀ at k =
-    (k ≤ 256) × Matching (normalBytes dims (rowsOf dims rows codes sums counts)) (turns (sharedBytes dims (rowsOf dims rows codes sums counts)) (full dims) k) s start at
-
-abbrev μ-loop : tie.MeasureT-loop
-μ-loop s start codes sums counts rows dims sets lens all at₀ k₀ at k = 256 - k
-
-cast-sets-of : tie.Need-cast-sets-of Inv-loop μ-loop
-cast-sets-of c = omega (arith, c .before .before .before .before .before .pre .0 .ready .dims)
-
-sets-of-requires : tie.Need-sets-of-requires Inv-loop μ-loop
-sets-of-requires c κs = c .before .before .before .before .before .pre .0 .ready .dims
-
-sub-all : tie.Need-sub-all Inv-loop μ-loop
-sub-all c = omega (arith, c .sets-of .ensures, pow-pos (c .before .before .before .before .before .before .args .dims))
-
-loop-holds : tie.Need-loop-holds Inv-loop μ-loop
-loop-holds c =
-    let a = c .before .before .before .before .before .before .args in
+-- the two parts as a whole
+whole : (c : tie.Start) → (let a = c .args in
     let rows = rowsOf (a .dims) (a .rows) (now (a .codes)) (now (a .sums)) (now (a .counts)) in
-    let all = normalBytes (a .dims) rows in
-    (omega arith, subst (λ (x : List _). Matching all x (now (a .s)) (a .start) (a .start)) (sym (turns-start (a .dims) rows (c .before .before .before .before .before .before .pre .0 .ready .dims))) (matching-none all (now (a .s)) (a .start) (c .before .before .before .before .before .before .pre .1)))
+    blankBytes (a .dims) (a .rows) ++ commonBytes (a .dims) rows ≡ normalBytes (a .dims) rows)
+whole c =
+    let a = c .args in
+    rw (rows-length (a .dims) (a .rows) (now (a .codes)) (now (a .sums)) (now (a .counts))) at (normal-parts (a .dims) (rowsOf (a .dims) (a .rows) (now (a .codes)) (now (a .sums)) (now (a .counts))))
 
-loop-again : tie.Need-loop-again Inv-loop μ-loop
-loop-again c =
-    let k = c .before .before .loop-test .taken in
-    (omega (arith, k), match-skip _ (full (c .before .before .before .before .before .before .before .before .before .before .args .dims)) k (c .before .set-at .ensures) (c .before .before .before .loop .inv .1) (omega (arith, c .if1 .taken, c .before .before .before .before .sets-of .ensures)))
+returns : tie.Need-returns
+returns c =
+    let a = c .before .before .before .before .before .before .before .before .before .args in
+    let rows = rowsOf (a .dims) (a .rows) (now (a .codes)) (now (a .sums)) (now (a .counts)) in
+    matched-as (whole (c .before .before .before .before .before .before .before .before .before)) (matched-stop (commonBytes (a .dims) rows) (matched-told (c .before .n .given .1) (c .before .before .before .match-blank .ensures)))
 
--- the set has its turn
-has-turn : (c : tie.Else1 Inv-loop μ-loop) → c .before .set-at .result < full (c .before .before .before .before .before .before .before .before .before .before .args .dims)
-has-turn c = omega (arith, c .if1 .left, c .before .before .before .before .sets-of .ensures)
+match-common-requires : tie.Need-match-common-requires
+match-common-requires c κs = (c .before .before .before .before .before .before .before .before .before .pre .0, matched-told (c .before .next .given .1) (c .before .before .before .match-blank .ensures) .meets .2)
 
-match-shared-requires : tie.Need-match-shared-requires Inv-loop μ-loop
-match-shared-requires c κs = (c .before .before .before .before .before .before .before .before .before .before .pre .0, has-turn c, c .before .before .before .loop .inv .1 .within)
-
-returns : tie.Need-returns Inv-loop μ-loop
-returns c = match-off _ (full (c .before .before .before .before .before .before .before .before .before .before .before .before .before .before .args .dims)) (c .before .before .before .before .before .before .loop-test .taken) (c .before .before .before .before .before .set-at .ensures) (c .before .before .before .before .before .before .before .loop .inv .1) (has-turn (c .before .before .before .before)) (matched-told (c .before .n .given .1) (c .before .before .before .match-shared .ensures))
-
-loop-again-2 : tie.Need-loop-again-2 Inv-loop μ-loop
-loop-again-2 c =
-    let k = c .before .before .before .before .before .before .loop-test .taken in
-    (omega (arith, k), match-more _ (full (c .before .before .before .before .before .before .before .before .before .before .before .before .before .before .args .dims)) k (c .before .before .before .before .before .set-at .ensures) (c .before .before .before .before .before .before .before .loop .inv .1) (has-turn (c .before .before .before .before)) (matched-told (c .before .next .given .1) (c .before .before .before .match-shared .ensures)))
-
-returns-2 : tie.Need-returns-2 Inv-loop μ-loop
-returns-2 c = match-done _ (full (c .before .before .before .before .before .before .before .before .args .dims)) (c .before .loop .inv .1) (c .loop-test .left)
+returns-2 : tie.Need-returns-2
+returns-2 c =
+    let a = c .before .before .before .before .before .before .before .before .before .before .args in
+    let rows = rowsOf (a .dims) (a .rows) (now (a .codes)) (now (a .sums)) (now (a .counts)) in
+    matched-as (whole (c .before .before .before .before .before .before .before .before .before .before)) (matched-then (commonBytes (a .dims) rows) (c .match-common .result) (matched-told (c .before .before .next .given .1) (c .before .before .before .before .match-blank .ensures)) (c .match-common .ensures))
 
 pub match-normals-spec : {M : Type 1} → statement M
 match-normals-spec =
     tie.close
-    (tie.spec Inv-loop μ-loop cast-sets-of sets-of-requires sub-all loop-holds (λ c κs. search needs) (λ c. search needs) (λ c. search needs) loop-again match-shared-requires (λ c. search needs) returns (λ c. search needs) (λ c. search needs) (λ c. search needs) loop-again-2 returns-2)
+    (tie.spec (λ c κs. search needs) (λ c. search needs) returns (λ c. search needs) match-common-requires returns-2)

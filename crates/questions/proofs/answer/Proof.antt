@@ -13,7 +13,7 @@ use Rattle.cube.specs.Condensed.{single}
 use Rattle.rows.specs.Rows.{cut, rowAt}
 use Rattle.rows.proofs.Rows.{cut-length}
 use Rattle.questions.specs.declared.Look.the-variants.{Cell}
-use Rattle.questions.specs.Questions.{First}
+use Rattle.questions.specs.Questions.{looked, rowless, First}
 use Rattle.questions.proofs.Asked.{Entry, asked, asked-room, asked-none, asked-row, asked-normal}
 use borrow.Author.Needs.{needs, sfits-of}
 use Rattle.questions.proofs.answer.Statement.{statement}
@@ -46,9 +46,10 @@ entry c =
 
 returns : tie.Need-returns
 returns c =
-    let p = c .before .before .before .before .before .before in
+    let p = c .before .before .before .before .before .before .before in
     let a = p .args in
-    asked-none (p .pre .0 .0) (now (a .cell)) (subst (First (now (a .cell)) (cut (a .dims) (a .rows) (now (a .codes)))) (c .if1 .taken) (c .before .first-row .ensures))
+    c .without-rows .ensures ∙ ap (λ (d : ℕ). looked (rowless d (a .rows) (now (a .cell)))) (p .pre .0 .1)
+    ∙ asked-none (p .pre .0 .0) (now (a .cell)) (subst (First (now (a .cell)) (cut (a .dims) (a .rows) (now (a .codes)))) (c .before .if1 .taken) (c .before .before .first-row .ensures))
 
 is-single-requires : tie.Need-is-single-requires
 is-single-requires c κs =
@@ -116,4 +117,4 @@ returns-3 c =
 pub answer-spec : {M : Type 1} → statement M
 answer-spec =
     tie.close
-    (tie.spec (λ c κs. search needs) returns (λ c κs. search needs) is-single-requires mul-sum shared-slice-copy-out-sum mul-count shared-slice-read-count cast-entry returns-2 find-cell-requires (λ c. search needs) (λ c. search needs) mul-place-2 add-place-2 (λ c. search needs) add-place-3 sum-at-requires add-word-at word-at-requires add-entry cast-entry-2 returns-3)
+    (tie.spec (λ c κs. search needs) (λ c κs. search needs) returns (λ c κs. search needs) is-single-requires mul-sum shared-slice-copy-out-sum mul-count shared-slice-read-count cast-entry returns-2 find-cell-requires (λ c. search needs) (λ c. search needs) mul-place-2 add-place-2 (λ c. search needs) add-place-3 sum-at-requires add-word-at word-at-requires add-entry cast-entry-2 returns-3)

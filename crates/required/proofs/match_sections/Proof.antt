@@ -12,9 +12,9 @@ use Rattle.rows.proofs.Rows.{rows-codes}
 use Rattle.rows.proofs.Flat.{rows-length}
 use Rattle.bases.specs.Listed.{ourBases}
 use Rattle.normals.specs.Normals.{normalBytes}
-use Rattle.writing.specs.MatchedLaws.{matched-told, matched-as}
+use Rattle.writing.specs.MatchedLaws.{matched-told, matched-as, matched-stop, matched-then}
 use Rattle.required.specs.Read.{sections}
-use Rattle.required.proofs.Parts.{matched-stop, matched-then, four-parts}
+use Rattle.required.proofs.Parts.{four-parts}
 use borrow.Author.Needs.{needs}
 use Rattle.required.proofs.match_sections.Statement.{statement}
 use Rattle.required.proofs.match_sections.Tie as tie
