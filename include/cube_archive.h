@@ -14,6 +14,7 @@
  *   cuboid      number of cells, then the cells by codes
  *   expansion   all cuboids in lattice order: sets of fewer dimensions first,
  *               then the smaller set number
+ *   keys        number of keys, then their set numbers in lattice order
  *
  * A table without rows has one cell, all ALL, with sum 0 and count 0, which is
  * the one normal entry of its archive (32 + 8 D bytes). Every other cell needs a
@@ -79,7 +80,8 @@ enum cube_stop {
     CUBE_STOP_ENTRIES = 12,   /* a list, the normal count or a normal entry is not what the base entries require */
     CUBE_STOP_QUESTION = 13,  /* a question has other than D codes, or a code neither below its size nor CUBE_ALL */
     CUBE_STOP_SET = 14,       /* the set number is 2^D or more */
-    CUBE_STOP_OUTPUT = 15     /* the result is longer than the output */
+    CUBE_STOP_OUTPUT = 15,    /* the result is longer than the output */
+    CUBE_STOP_DIMENSION = 16  /* the dimension is not 1 to D; looked at after 14 and before 15 */
 };
 
 /*
@@ -103,6 +105,8 @@ enum cube_stop {
      CUBE_AT_LEAST_1(n) * (4 * (size_t)(d) + 16 + (((size_t)1 << (d)) - 1) * (2 * (size_t)(d) + 6)))
 #define CUBE_CUBOID_ROOM(d, n) (4 + CUBE_AT_LEAST_1(n) * (4 * (size_t)(d) + 12))
 #define CUBE_EXPANSION_ROOM(d, n) (CUBE_CUBOID_ROOM(d, n) << (d))
+/* Keys: a count and at most 70 set numbers, as many as there can be of which none holds another. */
+#define CUBE_KEYS_ROOM ((size_t)284)
 
 /* Builds the archive of a table: its length. Stops: 1 to 6, 10, 11, 15. */
 uint64_t cube_build(const uint8_t *table, size_t table_len, uint8_t *out, size_t out_len);
@@ -128,6 +132,19 @@ uint64_t cube_list_cuboid(const uint8_t *archive, size_t archive_len, uint32_t s
 
 /* Expands an archive to the complete cube: the expansion's length. Stops: 1 to 12, 15. */
 uint64_t cube_expand(const uint8_t *archive, size_t archive_len, uint8_t *out, size_t out_len);
+
+/*
+ * Lists the smallest keys: the list's length. A key is a set on which no two base
+ * rows agree, and a smallest one holds no other key. With no base row or one, the
+ * empty set is the only smallest key. Stops: 1 to 12, 15.
+ */
+uint64_t cube_smallest_keys(const uint8_t *archive, size_t archive_len, uint8_t *out, size_t out_len);
+
+/*
+ * Whether a set fixes a dimension, counted from 1: base rows that agree on the set
+ * agree on the dimension too. 1 for yes, 0 for no. Stops: 1 to 12, 14, 16.
+ */
+uint64_t cube_fixes(const uint8_t *archive, size_t archive_len, uint32_t set, uint32_t dimension);
 
 #ifdef __cplusplus
 }

@@ -7,11 +7,15 @@
 //!                                      * 3 * 60 1
 //!                                      * 5 * 150 2
 //!     ask expand < ARCHIVE             the cells of all cuboids, in lattice order
+//!     ask keys < ARCHIVE               1 : 1
+//!     ask fixes 2 3 < ARCHIVE          no
 //!
 //! `cargo build --release --examples` makes the program, `target/release/examples/ask`.
 //!
 //! A cell's line has its codes (`*` is ALL), sum and count, as the lister prints a normal entry. `cell` adds the number of the
-//! entry that carries them, from 0 through base, then normal entries. All of the archive is checked before it is asked.
+//! entry that carries them, from 0 through base, then normal entries. `keys` has a line for each smallest key: its set number, a
+//! colon, its dimensions. `fixes` tells whether rows that agree on a set agree on a dimension. All of the archive is checked before
+//! it is asked.
 //!
 //! A stop is written to standard error as `refused`, its number in document 01 and what is wrong, and the exit status is 1; a
 //! question of another length, or with a code that is not below its size, is stop 13. Wrong usage has exit status 2.
@@ -24,13 +28,17 @@ const USAGE: &str = "\
 usage: ask check < ARCHIVE
        ask cell CODE .. < ARCHIVE    a code, or '*' for ALL, for each dimension
        ask cuboid SET < ARCHIVE      the sum of 2 to the power i-1 over the set's dimensions i, counted from 1
-       ask expand < ARCHIVE";
+       ask expand < ARCHIVE
+       ask keys < ARCHIVE            the smallest sets on which no two rows agree
+       ask fixes SET DIMENSION < ARCHIVE";
 
 enum Question {
     Check,
     Cell(Vec<Code>),
     Cuboid(u32),
     Expand,
+    Keys,
+    Fixes(u32, u32),
 }
 
 fn main() -> ExitCode {
@@ -64,6 +72,8 @@ fn question(words: &[&str]) -> Option<Question> {
         ["cell", codes @ ..] => codes.iter().map(|word| code(word)).collect::<Option<_>>().map(Question::Cell),
         ["cuboid", set] => number(set).map(Question::Cuboid),
         ["expand"] => Some(Question::Expand),
+        ["keys"] => Some(Question::Keys),
+        ["fixes", set, dimension] => Some(Question::Fixes(number(set)?, number(dimension)?)),
         _ => None,
     }
 }
@@ -76,7 +86,7 @@ fn code(word: &str) -> Option<Code> {
     }
 }
 
-/// An unsigned decimal number. One beyond 32 bits becomes the largest, which is no code and no set either.
+/// An unsigned decimal number. One beyond 32 bits becomes the largest, which is no code, no set and no dimension either.
 fn number(word: &str) -> Option<u32> {
     let digits = !word.is_empty() && word.bytes().all(|byte| byte.is_ascii_digit());
     digits.then(|| word.parse().unwrap_or(u32::MAX))
@@ -93,5 +103,13 @@ fn answer(archive: Vec<u8>, question: Question) -> Result<String, Stop> {
         },
         Question::Cuboid(set) => archive.list_cuboid(set)?.to_string(),
         Question::Expand => archive.expand()?.iter().map(Cuboid::to_string).collect(),
+        Question::Keys => archive.smallest_keys()?.into_iter().map(key).collect(),
+        Question::Fixes(set, dimension) => if archive.fixes(set, dimension)? { "yes\n" } else { "no\n" }.into(),
     })
+}
+
+/// A key's line: its set number, a colon, its dimensions.
+fn key(set: u32) -> String {
+    let dimensions = (1..=8).filter(|i| set >> (i - 1) & 1 == 1).map(|i| format!(" {i}"));
+    format!("{set} :{}\n", dimensions.collect::<String>())
 }

@@ -103,6 +103,50 @@ impl Archive {
         Ok(self.decoded(&bytes, &lattice(self.head.dims)))
     }
 
+    /// The smallest keys, in lattice order: each set on which no two base rows agree and which holds no other such set.
+    ///
+    /// A set is a key just if it holds one of them. With no base row or one, the empty set is the only one.
+    ///
+    /// ```
+    /// use cube_archive::{Archive, Table};
+    ///
+    /// let mut table = Table::new(&[2, 2, 9])?;
+    /// for (codes, reading) in [([0, 0, 4], 5), ([0, 1, 4], 6), ([1, 0, 7], 7), ([1, 1, 7], 8), ([1, 1, 7], 9)] {
+    ///     table.push(&codes, reading)?;
+    /// }
+    /// let archive = Archive::build(&table.to_bytes())?;
+    /// assert_eq!(archive.smallest_keys()?, [0b011, 0b110], "dimensions 1 and 2, and dimensions 2 and 3");
+    /// # Ok::<(), Box<dyn std::error::Error>>(())
+    /// ```
+    pub fn smallest_keys(&self) -> Result<Vec<u32>, Stop> {
+        let bytes = written(room::KEYS, |out| raw::smallest_keys(&self.bytes, out))?;
+        let mut fields = Fields(&bytes);
+        let keys = fields.word().and_then(|count| (0..count).map(|_| fields.word()).collect());
+        Ok(keys.expect("the library lists as many keys as it says"))
+    }
+
+    /// Whether a set fixes a dimension, counted from 1: base rows that agree on the set agree on the dimension too.
+    ///
+    /// A set is a key just if it fixes every dimension. Stop 14 if the set's number is 2 to the power D or more, then 16 if the
+    /// dimension is not 1 to D.
+    ///
+    /// ```
+    /// use cube_archive::{Archive, Stop, Table};
+    ///
+    /// let mut table = Table::new(&[3, 2])?;
+    /// for codes in [[0, 0], [1, 1], [2, 1]] {
+    ///     table.push(&codes, 1)?;
+    /// }
+    /// let archive = Archive::build(&table.to_bytes())?;
+    /// assert_eq!(archive.fixes(0b01, 2), Ok(true), "the first code says which the second is");
+    /// assert_eq!(archive.fixes(0b10, 1), Ok(false), "rows with second code 1 have first codes 1 and 2");
+    /// assert_eq!(archive.fixes(0b10, 3), Err(Stop::Dimension));
+    /// # Ok::<(), Box<dyn std::error::Error>>(())
+    /// ```
+    pub fn fixes(&self, set: u32, dimension: u32) -> Result<bool, Stop> {
+        raw::fixes(&self.bytes, set, dimension)
+    }
+
     /// The cuboids of these sets, which the bytes list one behind the other.
     fn decoded(&self, bytes: &[u8], sets: &[u32]) -> Vec<Cuboid> {
         let mut fields = Fields(bytes);

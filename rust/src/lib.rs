@@ -1,7 +1,7 @@
 //! The condensed cube archive, from Rust.
 //!
 //! A bench record is one to eight codes and a reading. A table of records becomes an archive: the exact sum and count for
-//! every grouping of the codes, stored without any cell for which one base row already stands. This crate wraps the five
+//! every grouping of the codes, stored without any cell for which one base row already stands. This crate wraps the
 //! calls of `libcube_archive.a`, whose results are proved; the crate itself only passes bytes to them and decodes theirs.
 //!
 //! ```
@@ -20,8 +20,8 @@
 //! ```
 //!
 //! * [`Table`]: the bytes of a table; [`csv`]: a table from CSV text
-//! * [`Archive`]: build, open, check, look up, list a cuboid, expand
-//! * [`Stop`]: why a call refuses its input, with document 01's numbers
+//! * [`Archive`]: build, open, check, look up, list a cuboid, expand, list the smallest keys, tell what a set fixes
+//! * [`Stop`]: why a call refuses its input, with the documents' numbers
 //! * [`raw`]: the calls on slices, into an output of the caller's; [`room`]: how long an output is enough
 //!
 //! # Stack

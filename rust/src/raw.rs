@@ -1,4 +1,4 @@
-//! The five calls on slices. Those that write take an output of the caller's and return the length of the result.
+//! The calls on slices. Those that write take an output of the caller's and return the length of the result.
 //!
 //! A call reads and checks its whole input each time. A stop leaves every byte of the output as it was, and so do bytes
 //! beyond the result. [`room`](crate::room) says how long an output is always enough.
@@ -31,6 +31,8 @@ mod ffi {
         ) -> u64;
         pub fn cube_list_cuboid(archive: *const u8, archive_len: usize, set: u32, out: *mut u8, out_len: usize) -> u64;
         pub fn cube_expand(archive: *const u8, archive_len: usize, out: *mut u8, out_len: usize) -> u64;
+        pub fn cube_smallest_keys(archive: *const u8, archive_len: usize, out: *mut u8, out_len: usize) -> u64;
+        pub fn cube_fixes(archive: *const u8, archive_len: usize, set: u32, dimension: u32) -> u64;
     }
 }
 
@@ -85,11 +87,23 @@ pub fn expand(archive: &[u8], out: &mut [u8]) -> Result<usize, Stop> {
     length(unsafe { ffi::cube_expand(archive.as_ptr(), archive.len(), out.as_mut_ptr(), out.len()) })
 }
 
+/// Lists the smallest keys; the length of the list. No two base rows agree on a key, and a smallest one holds no other key.
+pub fn smallest_keys(archive: &[u8], out: &mut [u8]) -> Result<usize, Stop> {
+    // SAFETY: two slices, and the output is apart from the input.
+    length(unsafe { ffi::cube_smallest_keys(archive.as_ptr(), archive.len(), out.as_mut_ptr(), out.len()) })
+}
+
+/// Whether a set fixes a dimension, counted from 1: base rows that agree on the set agree on the dimension too.
+pub fn fixes(archive: &[u8], set: u32, dimension: u32) -> Result<bool, Stop> {
+    // SAFETY: a slice.
+    Ok(answer(unsafe { ffi::cube_fixes(archive.as_ptr(), archive.len(), set, dimension) })? == 1)
+}
+
 /// The answer, or the stop: 2 to the power 63 plus its number.
 fn answer(answer: u64) -> Result<u64, Stop> {
     match answer.checked_sub(1 << 63) {
         None => Ok(answer),
-        Some(number) => Err(Stop::IN_ORDER[number as usize - 1]),
+        Some(number) => Err(Stop::numbered(number)),
     }
 }
 

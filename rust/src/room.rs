@@ -15,6 +15,9 @@ pub const fn cuboid(dims: usize, rows: usize) -> usize {
     4 + at_least_1(rows) * (4 * dims + 12)
 }
 
+/// For the smallest keys of any archive: a count, and at most 70 sets of which none holds another.
+pub const KEYS: usize = 4 + 4 * 70;
+
 /// For an expansion.
 pub const fn expansion(dims: usize, rows: usize) -> usize {
     cuboid(dims, rows) << dims

@@ -1,7 +1,7 @@
 //! Stops: why a call refuses what it is given.
 use std::fmt;
 
-/// A stop of document 01. Its number is `stop as u32`, or [`Stop::number`].
+/// A stop of documents 01 and 02. Its number is `stop as u32`, or [`Stop::number`].
 ///
 /// ```
 /// use cube_archive::{raw, Stop};
@@ -43,11 +43,13 @@ pub enum Stop {
     Set = 14,
     /// The result is longer than the lent output.
     Output = 15,
+    /// The dimension that a call is given is not 1 to D.
+    Dimension = 16,
 }
 
 impl Stop {
     /// All stops, in checking order.
-    pub const IN_ORDER: [Stop; 15] = [
+    pub const IN_ORDER: [Stop; 16] = [
         Stop::Opening,
         Stop::Cut,
         Stop::Dimensions,
@@ -62,12 +64,19 @@ impl Stop {
         Stop::Entries,
         Stop::Question,
         Stop::Set,
+        Stop::Dimension,
         Stop::Output,
     ];
 
-    /// The number in document 01's list.
+    /// The number in the documents' list.
     pub fn number(self) -> u32 {
         self as u32
+    }
+
+    /// The stop of a number that the library gave.
+    pub(crate) fn numbered(number: u64) -> Stop {
+        let stop = Stop::IN_ORDER.into_iter().find(|stop| u64::from(stop.number()) == number);
+        stop.expect("the library gives no other number")
     }
 
     /// What is wrong.
@@ -90,6 +99,7 @@ impl Stop {
             Stop::Question => "the question has not one code for each dimension, or a code that is not below its dimension's size",
             Stop::Set => "the set has a dimension that the archive has not",
             Stop::Output => "the result is longer than the output",
+            Stop::Dimension => "the dimension is not one of the archive's, which are counted from 1",
         }
     }
 }

@@ -13,6 +13,8 @@ usage: ask check < ARCHIVE
        ask cell CODE .. < ARCHIVE    a code, or '*' for ALL, for each dimension
        ask cuboid SET < ARCHIVE      the sum of 2 to the power i-1 over the set's dimensions i, counted from 1
        ask expand < ARCHIVE
+       ask keys < ARCHIVE            the smallest sets on which no two rows agree
+       ask fixes SET DIMENSION < ARCHIVE
 ";
 const QUESTION: &str = "13: the question has not one code for each dimension, or a code that is not below its dimension's size";
 
@@ -86,6 +88,24 @@ fn the_expansion_has_a_line_for_each_of_30_cells() {
 }
 
 #[test]
+fn a_key_has_a_line_with_its_dimensions() {
+    answers("keys", &five(), "1 : 1\n");
+    answers("keys", four().archive().as_bytes(), "3 : 1 2\n");
+    let one = Records { sizes: vec![2, 2], rows: vec![(vec![1, 0], 5)] };
+    answers("keys", one.archive().as_bytes(), "0 :\n");
+    let last = Records { sizes: vec![2; 8], rows: vec![(vec![0; 8], 5), ([vec![0; 7], vec![1]].concat(), 5)] };
+    answers("keys", last.archive().as_bytes(), "128 : 8\n");
+}
+
+#[test]
+fn a_set_fixes_a_dimension_or_does_not() {
+    answers("fixes 2 3", &five(), "no\n");
+    answers("fixes 1 3", &five(), "yes\n");
+    answers("fixes 4 3", &five(), "yes\n");
+    answers("fixes 0 1", &five(), "no\n");
+}
+
+#[test]
 fn an_archive_without_rows() {
     let archive = Records { sizes: vec![1, 1], rows: vec![] }.archive().into_bytes();
     answers("check", &archive, "0 base entries, 1 normal entries\n");
@@ -124,7 +144,7 @@ fn the_largest_code() {
 fn a_wrong_archive_is_refused() {
     let mut damaged = five();
     damaged[36] ^= 1;
-    for words in ["check", "cell * 5 1", "cell *", "cuboid 2", "cuboid 8", "expand"] {
+    for words in ["check", "cell * 5 1", "cell *", "cuboid 2", "cuboid 8", "expand", "keys", "fixes 2 3", "fixes 8 0"] {
         let opening = "1: the first four bytes are missing or are not the opening of such a file";
         stops(words, &[], opening);
         stops(words, &Records::five().table(), opening);
@@ -154,6 +174,12 @@ fn a_wrong_question_is_refused() {
     for words in ["cuboid 8", "cuboid 256", "cuboid 4294967295", "cuboid 4294967296"] {
         stops(words, &five(), "14: the set has a dimension that the archive has not");
     }
+    for words in ["fixes 8 1", "fixes 8 0", "fixes 4294967296 1"] {
+        stops(words, &five(), "14: the set has a dimension that the archive has not");
+    }
+    for words in ["fixes 7 0", "fixes 7 4", "fixes 0 4294967296"] {
+        stops(words, &five(), "16: the dimension is not one of the archive's, which are counted from 1");
+    }
 }
 
 /// The program ends before it reads, so the input is empty.
@@ -161,6 +187,9 @@ fn a_wrong_question_is_refused() {
 fn wrong_usage() {
     let wrong = ["", "chek", "Check", "check 1", "cell 1 x 2", "cell -1 * *", "cell +1 * *", "cell 1* * *", "cell 0x1 * *", "cell ** 5 1"];
     for words in wrong.into_iter().chain(["cuboid", "cuboid *", "cuboid two", "cuboid -1", "cuboid 1 2", "expand 1", "five-rows.cube"]) {
+        assert_eq!(ask(words, &[]), (Some(2), "".into(), USAGE.into()), "{words}");
+    }
+    for words in ["keys 1", "fixes", "fixes 1", "fixes 1 2 3", "fixes * 1", "fixes 1 *", "fixes -1 1"] {
         assert_eq!(ask(words, &[]), (Some(2), "".into(), USAGE.into()), "{words}");
     }
     for word in [b"".as_slice(), b"\xFF", b"1\xFF"] {

@@ -19,6 +19,8 @@ fn the_stack_is_enough() {
             raw::look_up(&archive, &question).unwrap();
             raw::list_cuboid(&archive, 1, &mut out).unwrap();
             raw::expand(&archive, &mut out).unwrap();
+            raw::smallest_keys(&archive, &mut out).unwrap();
+            raw::fixes(&archive, 1, 2).unwrap();
         };
         Builder::new().stack_size(STACK).spawn(calls).unwrap().join().unwrap();
     }

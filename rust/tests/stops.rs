@@ -4,7 +4,8 @@ mod cube;
 use cube::Records;
 use cube_archive::{raw, Archive, Stop, ALL};
 
-const STOPS: [(Stop, &str); 15] = [
+/// In checking order: the dimension is looked at after the set and before the output.
+const STOPS: [(Stop, &str); 16] = [
     (Stop::Opening, "the first four bytes are missing or are not the opening of such a file"),
     (Stop::Cut, "the file ends before the last byte of a field that its earlier fields demand"),
     (Stop::Dimensions, "the number of dimensions is not 1 to 8"),
@@ -19,13 +20,14 @@ const STOPS: [(Stop, &str); 15] = [
     (Stop::Entries, "a list, the normal count or a normal entry is not what the base entries require"),
     (Stop::Question, "the question has not one code for each dimension, or a code that is not below its dimension's size"),
     (Stop::Set, "the set has a dimension that the archive has not"),
+    (Stop::Dimension, "the dimension is not one of the archive's, which are counted from 1"),
     (Stop::Output, "the result is longer than the output"),
 ];
 
 #[test]
 fn numbers_and_words() {
     assert_eq!(STOPS.map(|(stop, _)| stop), Stop::IN_ORDER);
-    for (number, (stop, words)) in (1..).zip(STOPS) {
+    for (number, (stop, words)) in (1..=14).chain([16, 15]).zip(STOPS) {
         assert_eq!(stop.number(), number);
         assert_eq!(stop.to_string(), format!("stop {number}: {words}"));
     }
@@ -93,6 +95,8 @@ fn wrong_archives() {
         assert_eq!(raw::look_up(&file, &[]), Err(stop));
         assert_eq!(raw::list_cuboid(&file, 8, &mut []), Err(stop));
         assert_eq!(raw::expand(&file, &mut []), Err(stop));
+        assert_eq!(raw::smallest_keys(&file, &mut []), Err(stop));
+        assert_eq!(raw::fixes(&file, 8, 0), Err(stop));
         assert_eq!(Archive::open(file), Err(stop));
     }
 }
@@ -118,4 +122,16 @@ fn wrong_sets_and_short_outputs() {
     assert_eq!(raw::list_cuboid(archive.as_bytes(), 7, &mut []), Err(Stop::Output));
     assert_eq!(raw::expand(archive.as_bytes(), &mut []), Err(Stop::Output));
     assert_eq!(raw::build(&Records::five().table(), &mut []), Err(Stop::Output));
+    assert_eq!(raw::smallest_keys(archive.as_bytes(), &mut []), Err(Stop::Output));
+}
+
+/// The set goes before the dimension.
+#[test]
+fn wrong_dimensions() {
+    let archive = Records::five().archive();
+    for dimension in [0, 4, 8, 9, 256, 1 << 31, u32::MAX] {
+        assert_eq!(archive.fixes(7, dimension), Err(Stop::Dimension));
+        assert_eq!(archive.fixes(8, dimension), Err(Stop::Set));
+    }
+    assert_eq!(archive.fixes(u32::MAX, 1), Err(Stop::Set));
 }

@@ -1,4 +1,4 @@
-//! Times of the five calls on tables of 1,024 rows with eight dimensions, for the library and for `good`, in one run.
+//! Times of the calls on tables of 1,024 rows with eight dimensions, for the library and for `good`, in one run.
 //! `wrong check word` is `build` on the table with another check word: every field walked, every word summed, then stop 11.
 //! The last line is the check word alone: `check` on a file of 3.4 MB, of which it walks the first fields only and sums every word, then stop 11.
 //! Best of CUBE_REPEAT repetitions (5 if it is not set), or of as many as 80 ms for each of them allow.
@@ -15,11 +15,22 @@ use std::ops::Range;
 use std::time::{Duration, Instant};
 
 /// The columns, and the stop that a column's call ends with, if it has one.
-const CALLS: [(&str, Option<Stop>); 6] =
-    [("build", None), ("wrong check word", Some(11)), ("check", None), ("look up", None), ("list", None), ("expand", None)];
+const CALLS: [(&str, Option<Stop>); 8] = [
+    ("build", None),
+    ("wrong check word", Some(11)),
+    ("check", None),
+    ("look up", None),
+    ("list", None),
+    ("expand", None),
+    ("keys", None),
+    ("fixes", None),
+];
 
 /// The set whose cuboid is listed and on which the looked-up cell has codes: every other dimension.
 const SET: u32 = 0b0101_0101;
+
+/// The dimension of which it is asked whether the set fixes it; it is not in the set.
+const DIMENSION: u32 = 8;
 
 /// What the calls take of one table.
 struct Inputs {
@@ -54,7 +65,9 @@ fn run(calls: &dyn Calls, call: usize, inputs: &Inputs, out: &mut [u8]) -> Resul
         2 => calls.check(archive).map(|(bases, normals)| [bases as u64, normals as u64, 0]),
         3 => calls.look_up(archive, question).map(|found| found.map_or([u64::MAX; 3], |f| [f.sum as u64, f.count as u64, f.entry as u64])),
         4 => calls.list_cuboid(archive, SET, out).map(|length| [length as u64, 0, 0]),
-        _ => calls.expand(archive, out).map(|length| [length as u64, 0, 0]),
+        5 => calls.expand(archive, out).map(|length| [length as u64, 0, 0]),
+        6 => calls.smallest_keys(archive, out).map(|length| [length as u64, 0, 0]),
+        _ => calls.fixes(archive, SET, DIMENSION).map(|fixes| [fixes as u64, 0, 0]),
     }
 }
 
@@ -141,7 +154,7 @@ fn main() {
     let mut out = vec![0; 256 * (4 + 1_024 * 44)];
     let kinds = kinds(&mut Random::seeded(7)).into_iter().map(|(name, rows)| (name, Inputs::of(&rows, &mut out))).collect::<Vec<_>>();
     println!("1,024 rows, D 8: milliseconds of the library and of good, and library / good");
-    for calls in [0..3, 3..6] {
+    for calls in [0..3, 3..6, 6..8] {
         println!("{:15}{}", "", CALLS[calls.clone()].iter().map(|(name, _)| format!("{name:>26}")).collect::<String>());
         for (name, inputs) in &kinds {
             println!("{}", line(name, inputs, calls.clone(), &mut out, repeat));

@@ -1,5 +1,5 @@
 /*
- * The header and the five functions from C: document 01's five-row example, the empty table (document 02, C-14), and each stop.
+ * The header and the functions from C: document 01's five-row example, the empty table (document 02, C-14), keys (C-12), and each stop.
  * Prints a line for each failed check, and 'N passed, M failed' as the last line.
  */
 #include <stdio.h>
@@ -24,7 +24,7 @@ static void check(int holds, int line, const char *text, size_t number)
 #define CHECK(condition) CHECK_CASE(0, condition)
 #define CHECK_CASE(number, condition) check((condition) ? 1 : 0, __LINE__, #condition, (size_t)(number))
 
-/* The three calls that write an output, in one form; only a listing uses the set. */
+/* The calls that write an output, in one form; only a listing uses the set. */
 typedef uint64_t writer(const struct file *input, uint32_t set, uint8_t *out, size_t room);
 
 static uint64_t build(const struct file *input, uint32_t set, uint8_t *out, size_t room)
@@ -42,6 +42,12 @@ static uint64_t expand(const struct file *input, uint32_t set, uint8_t *out, siz
 {
     (void)set;
     return cube_expand(input->bytes, input->length, out, room);
+}
+
+static uint64_t smallest_keys(const struct file *input, uint32_t set, uint8_t *out, size_t room)
+{
+    (void)set;
+    return cube_smallest_keys(input->bytes, input->length, out, room);
 }
 
 /* The call stops so, and the output keeps every byte. */
@@ -97,12 +103,13 @@ static int nothing_stored(const struct numbers *n)
 
 static void macros(void)
 {
-    const enum cube_stop stops[15] = {
+    const enum cube_stop stops[16] = {
         CUBE_STOP_OPENING, CUBE_STOP_CUT, CUBE_STOP_DIMENSIONS, CUBE_STOP_SIZE, CUBE_STOP_ROWS,
         CUBE_STOP_CODE, CUBE_STOP_ORDER, CUBE_STOP_AMOUNT, CUBE_STOP_LIST, CUBE_STOP_TRAILING,
         CUBE_STOP_CHECK, CUBE_STOP_ENTRIES, CUBE_STOP_QUESTION, CUBE_STOP_SET, CUBE_STOP_OUTPUT,
+        CUBE_STOP_DIMENSION,
     };
-    for (unsigned i = 0; i < 15; i++)
+    for (unsigned i = 0; i < 16; i++)
         CHECK_CASE(i, (unsigned)stops[i] == i + 1);
     CHECK(CUBE_ALL == 65535);
     CHECK(!CUBE_IS_STOP(CUBE_STOP_BIT - 1) && CUBE_IS_STOP(CUBE_STOP_BIT));
@@ -117,6 +124,7 @@ static void macros(void)
         CHECK_CASE(d, CUBE_CUBOID_ROOM(d, 0) == CUBE_CUBOID_ROOM(d, 1));
         CHECK_CASE(d, CUBE_EXPANSION_ROOM(d, 0) == CUBE_EXPANSION_ROOM(d, 1));
     }
+    CHECK(CUBE_KEYS_ROOM == 284);
 }
 
 static void building(void)
@@ -191,6 +199,44 @@ static void expanding(void)
         cells += put_cuboid(&expansion, LATTICE_ORDER[i]);
     CHECK(cells == CELLS && expansion.length == 752);
     check_written(expand, &archive, 0, CUBE_EXPANSION_ROOM(D, BASES), &expansion);
+}
+
+/* Whether two of the five rows agree on a set. */
+static int agree(const struct row *a, const struct row *b, uint32_t set)
+{
+    for (int i = 0; i < D; i++)
+        if ((set >> i & 1) == 1 && a->codes[i] != b->codes[i])
+            return 0;
+    return 1;
+}
+
+/* Whether rows that agree on a set agree on a dimension, counted from 1: by brute force over the rows. */
+static int fixes(uint32_t set, uint32_t dimension)
+{
+    for (int a = 0; a < ROWS; a++)
+        for (int b = 0; b < ROWS; b++)
+            if (agree(&FIVE[a], &FIVE[b], set) && !agree(&FIVE[a], &FIVE[b], UINT32_C(1) << (dimension - 1)))
+                return 0;
+    return 1;
+}
+
+/* The first dimension is the one smallest key; the second does not fix the third. */
+static void keys(void)
+{
+    struct file archive = five_archive(), want = {{0}, 0};
+    put_word(&want, 1);
+    put_word(&want, 1);
+    check_written(smallest_keys, &archive, 0, CUBE_KEYS_ROOM, &want);
+    CHECK(cube_fixes(archive.bytes, archive.length, 2, 3) == 0);
+    for (uint32_t set = 0; set < SETS; set++) {
+        unsigned fixed = 0;
+        for (uint32_t dimension = 1; dimension <= D; dimension++) {
+            uint64_t answer = cube_fixes(archive.bytes, archive.length, set, dimension);
+            CHECK_CASE(set, answer == (uint64_t)fixes(set, dimension));
+            fixed += answer == 1;
+        }
+        CHECK_CASE(set, (fixed == D) == ((set & 1) == 1));
+    }
 }
 
 /* The empty table: D sizes, and no rows. */
@@ -298,6 +344,8 @@ static void check_archive_stopped(const struct file *archive, unsigned stop)
     check_stopped(list_cuboid, archive, SETS, ROOM, stop);
     check_stopped(list_cuboid, archive, 0, 0, stop);
     check_stopped(expand, archive, 0, ROOM, stop);
+    check_stopped(smallest_keys, archive, 0, ROOM, stop);
+    CHECK_CASE(stop, cube_fixes(archive->bytes, archive->length, SETS, 0) == CUBE_STOP_BIT + stop);
 }
 
 static void check_table_stopped(const struct file *table, unsigned stop)
@@ -418,6 +466,18 @@ static void stops_of_questions(void)
     check_stopped(list_cuboid, &archive, UINT32_MAX, ROOM, CUBE_STOP_SET);
 }
 
+/* Stops on a set and a dimension, the set first. */
+static void stops_of_fixes(void)
+{
+    static const uint32_t dimensions[] = {0, D + 1, UINT32_MAX};
+    struct file archive = five_archive();
+    for (size_t i = 0; i < sizeof dimensions / sizeof *dimensions; i++) {
+        CHECK_CASE(i, cube_fixes(archive.bytes, archive.length, 0, dimensions[i]) == CUBE_STOP_BIT + CUBE_STOP_DIMENSION);
+        CHECK_CASE(i, cube_fixes(archive.bytes, archive.length, SETS, dimensions[i]) == CUBE_STOP_BIT + CUBE_STOP_SET);
+    }
+    CHECK(cube_fixes(archive.bytes, archive.length, UINT32_MAX, 1) == CUBE_STOP_BIT + CUBE_STOP_SET);
+}
+
 int main(void)
 {
     macros();
@@ -427,12 +487,14 @@ int main(void)
     looking_up_everything();
     listing();
     expanding();
+    keys();
     no_rows();
     rows_that_cancel();
     stops_of_both_files();
     stops_of_entries();
     stops_of_no_rows();
     stops_of_questions();
+    stops_of_fixes();
     printf("%u passed, %u failed\n", passed, failed);
     return failed == 0 ? 0 : 1;
 }

@@ -1,6 +1,6 @@
-//! The five calls, as tests and times see them. Each implementation of them answers in the same way.
+//! The calls, as tests and times see them. Each implementation of them answers in the same way.
 
-/// A stop's number in document 01.
+/// A stop's number in documents 01 and 02.
 pub type Stop = u32;
 
 /// What a looked-up cell returns.
@@ -26,4 +26,10 @@ pub trait Calls: Sync {
 
     /// Writes the complete cube; its length.
     fn expand(&self, archive: &[u8], out: &mut [u8]) -> Result<usize, Stop>;
+
+    /// Writes the smallest keys; the length.
+    fn smallest_keys(&self, archive: &[u8], out: &mut [u8]) -> Result<usize, Stop>;
+
+    /// Whether a set fixes a dimension, counted from 1.
+    fn fixes(&self, archive: &[u8], set: u32, dimension: u32) -> Result<bool, Stop>;
 }

@@ -18,29 +18,33 @@ pub fn hex(s: &[u8]) -> String {
     format!("{} bytes: {shown}", s.len())
 }
 
-/// The places of the five calls in `Compare::seen`.
+/// The places of the calls in `Compare::seen`.
 pub const BUILD: usize = 0;
 pub const CHECK: usize = 1;
 pub const LOOK_UP: usize = 2;
 pub const LIST: usize = 3;
 pub const EXPAND: usize = 4;
+pub const KEYS: usize = 5;
+pub const FIXES: usize = 6;
 
-const NAMES: [&str; 5] = ["build", "check", "look up", "list", "expand"];
+const NAMES: [&str; 7] = ["build", "check", "look up", "list", "expand", "keys", "fixes"];
 
 /// The stops that each call can have.
-const STOPS: [&[usize]; 5] = [
+const STOPS: [&[usize]; 7] = [
     &[1, 2, 3, 4, 5, 6, 10, 11, 15],
     &[1, 2, 3, 4, 5, 6, 7, 8, 9, 10, 11, 12],
     &[1, 2, 3, 4, 5, 6, 7, 8, 9, 10, 11, 12, 13],
     &[1, 2, 3, 4, 5, 6, 7, 8, 9, 10, 11, 12, 14, 15],
     &[1, 2, 3, 4, 5, 6, 7, 8, 9, 10, 11, 12, 15],
+    &[1, 2, 3, 4, 5, 6, 7, 8, 9, 10, 11, 12, 15],
+    &[1, 2, 3, 4, 5, 6, 7, 8, 9, 10, 11, 12, 14, 16],
 ];
 
 /// What was compared so far.
 #[derive(Default)]
 pub struct Compare {
     /// How often each call had each answer: place 0 for answers without a stop.
-    pub seen: [[u64; 16]; 5],
+    pub seen: [[u64; 17]; 7],
     /// How many results were written, or refused, in a call with an output.
     outputs: usize,
 }
@@ -72,11 +76,14 @@ impl Compare {
     fn refused(&mut self, s: &[u8], stop: Stop, what: &str) {
         // If the file says D, the question fits it.
         let dims = s.get(4).map_or(0, |&d| d as usize % 9);
-        match self.seen[CHECK].iter().sum::<u64>() % 5 {
+        match self.seen[CHECK].iter().sum::<u64>() % 8 {
             0 => self.answer(LOOK_UP, s, Err(stop), what, |calls| calls.look_up(s, &vec![model::ALL; dims])),
             1 => self.answer(LOOK_UP, s, Err(stop), what, |calls| calls.look_up(s, &[])),
             2 => self.output(LIST, s, &Err(stop), what, |calls, out| calls.list_cuboid(s, 0, out)),
             3 => self.output(LIST, s, &Err(stop), what, |calls, out| calls.list_cuboid(s, u32::MAX, out)),
+            4 => self.output(KEYS, s, &Err(stop), what, |calls, out| calls.smallest_keys(s, out)),
+            5 => self.answer(FIXES, s, Err(stop), what, |calls| calls.fixes(s, 0, 1)),
+            6 => self.answer(FIXES, s, Err(stop), what, |calls| calls.fixes(s, u32::MAX, 0)),
             _ => self.output(EXPAND, s, &Err(stop), what, |calls, out| calls.expand(s, out)),
         }
     }
@@ -93,6 +100,15 @@ impl Compare {
 
     pub fn expand(&mut self, s: &[u8], accepted: &Accepted, what: &str) {
         self.output(EXPAND, s, &Ok(accepted.expand()), what, |calls, out| calls.expand(s, out));
+    }
+
+    pub fn keys(&mut self, s: &[u8], accepted: &Accepted, what: &str) {
+        self.output(KEYS, s, &Ok(accepted.smallest_keys()), what, |calls, out| calls.smallest_keys(s, out));
+    }
+
+    pub fn fixes(&mut self, s: &[u8], accepted: &Accepted, set: u32, dimension: u32, what: &str) {
+        let want = accepted.fixes(set, dimension);
+        self.answer(FIXES, s, want, &format!("{what}, set {set}, dimension {dimension}"), |calls| calls.fixes(s, set, dimension));
     }
 
     /// A call that answers with numbers alone.
@@ -136,8 +152,8 @@ impl Compare {
     /// The call had each of these answers, and none that it cannot have.
     pub fn had(&self, call: usize, answers: &[usize]) {
         let seen = self.seen[call];
-        println!("{}, answers 0 (no stop) to 15: {seen:?}", NAMES[call]);
-        for answer in 0..16 {
+        println!("{}, answers 0 (no stop) to 16: {seen:?}", NAMES[call]);
+        for answer in 0..seen.len() {
             assert!(seen[answer] > 0 || !answers.contains(&answer), "{}: no answer {answer} in {seen:?}", NAMES[call]);
             assert!(seen[answer] == 0 || answer == 0 || STOPS[call].contains(&answer), "{}: answer {answer} in {seen:?}", NAMES[call]);
         }

@@ -1,7 +1,8 @@
-//! The five calls as fast plain Rust: rows packed in one number each, sorted for each set, and a row left out of every set that holds one
+//! The calls as fast plain Rust: rows packed in one number each, sorted for each set, and a row left out of every set that holds one
 //! on which it is single. The times are held against it.
 mod cells;
 mod condense;
+mod fixed;
 mod keys;
 mod look_up;
 mod read;
@@ -84,5 +85,28 @@ impl Calls for Good {
             rest = behind;
         }
         Ok(length)
+    }
+
+    fn smallest_keys(&self, archive: &[u8], out: &mut [u8]) -> Result<usize, Stop> {
+        let keys = fixed::keys(&Checked::open(archive)?.read.rows);
+        let length = 4 + 4 * keys.len();
+        let out = out.get_mut(..length).ok_or(15u32)?;
+        out[..4].copy_from_slice(&(keys.len() as u32).to_le_bytes());
+        for (place, key) in out[4..].chunks_exact_mut(4).zip(keys) {
+            place.copy_from_slice(&(key as u32).to_le_bytes());
+        }
+        Ok(length)
+    }
+
+    fn fixes(&self, archive: &[u8], set: u32, dimension: u32) -> Result<bool, Stop> {
+        let checked = Checked::open(archive)?;
+        let (rows, set, dimension) = (&checked.read.rows, set as usize, dimension as usize);
+        if set > rows.full() {
+            return Err(14);
+        }
+        if !(1..=rows.dims).contains(&dimension) {
+            return Err(16);
+        }
+        Ok(fixed::fixes(rows, set, dimension - 1))
     }
 }

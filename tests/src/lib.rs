@@ -1,6 +1,6 @@
-//! The five calls of the library, called from Rust, the two programs, run through pipes, and what the tests hold both to.
+//! The calls of the library, called from Rust, the two programs, run through pipes, and what the tests hold both to.
 //!
-//! * `calls`: the five calls as a trait
+//! * `calls`: the calls as a trait
 //! * `library`: the calls through the C interface of libcube_archive.a
 //! * `good`: the calls as fast plain Rust, for times
 //! * `program`: the builder and the lister

@@ -1,4 +1,4 @@
-//! The library's five functions, declared as C sees them, and a safe wrapper over each.
+//! The library's functions, declared as C sees them, and a safe wrapper over each.
 use crate::calls::{Calls, Found, Stop};
 
 // A slice is a pointer and a length; the pointer of an empty slice is not null.
@@ -16,6 +16,8 @@ extern "C" {
     ) -> u64;
     fn cube_list_cuboid(archive: *const u8, archive_len: usize, set: u32, out: *mut u8, out_len: usize) -> u64;
     fn cube_expand(archive: *const u8, archive_len: usize, out: *mut u8, out_len: usize) -> u64;
+    fn cube_smallest_keys(archive: *const u8, archive_len: usize, out: *mut u8, out_len: usize) -> u64;
+    fn cube_fixes(archive: *const u8, archive_len: usize, set: u32, dimension: u32) -> u64;
 }
 
 const STOP: u64 = 1 << 63;
@@ -26,7 +28,7 @@ fn split(answer: u64) -> Result<u64, Stop> {
         return Ok(answer);
     }
     let stop = answer - STOP;
-    assert!((1..=15).contains(&stop), "the stop {stop} is none of document 01's");
+    assert!((1..=16).contains(&stop), "the stop {stop} is none of the documents'");
     Err(stop as Stop)
 }
 
@@ -68,7 +70,7 @@ impl Numbers {
     }
 }
 
-/// The five calls through libcube_archive.a.
+/// The calls through libcube_archive.a.
 pub struct Library;
 
 impl Calls for Library {
@@ -117,5 +119,18 @@ impl Calls for Library {
         // SAFETY: both are slices, and apart.
         let answer = unsafe { cube_expand(archive.as_ptr(), archive.len(), out.as_mut_ptr(), out.len()) };
         Ok(split(answer)? as usize)
+    }
+
+    fn smallest_keys(&self, archive: &[u8], out: &mut [u8]) -> Result<usize, Stop> {
+        // SAFETY: both are slices, and apart.
+        let answer = unsafe { cube_smallest_keys(archive.as_ptr(), archive.len(), out.as_mut_ptr(), out.len()) };
+        Ok(split(answer)? as usize)
+    }
+
+    fn fixes(&self, archive: &[u8], set: u32, dimension: u32) -> Result<bool, Stop> {
+        // SAFETY: a slice.
+        let answer = split(unsafe { cube_fixes(archive.as_ptr(), archive.len(), set, dimension) })?;
+        assert!(answer < 2, "{answer}: a set fixes a dimension (1) or does not (0)");
+        Ok(answer == 1)
     }
 }

@@ -1,12 +1,13 @@
-//! A naive model of the five calls and the two programs, written from documents 01 and 02 alone: their definitions in `cube`, their stops in
+//! A naive model of the calls and the two programs, written from documents 01 and 02 alone: the definitions in `cube` and `keys`, the stops in
 //! checking order in `fields` and here, what the programs print in `listing` and `programs`.
 pub mod cube;
 pub mod fields;
+pub mod keys;
 mod listing;
 pub mod programs;
 
 use crate::calls::{Found, Stop};
-use crate::write::{archive_bytes, cuboid_bytes};
+use crate::write::{archive_bytes, cuboid_bytes, list_bytes};
 pub use cube::{Base, Row, ALL};
 pub use listing::listing;
 
@@ -95,5 +96,21 @@ impl Accepted {
     /// All cuboids in lattice order.
     pub fn expand(&self) -> Vec<u8> {
         cube::lattice(self.dims()).into_iter().flat_map(|set| self.list_cuboid(set).unwrap()).collect()
+    }
+
+    /// The smallest keys: a count, then set numbers in lattice order.
+    pub fn smallest_keys(&self) -> Vec<u8> {
+        list_bytes(&keys::smallest(self.dims(), &self.rows))
+    }
+
+    /// Whether a set fixes a dimension.
+    pub fn fixes(&self, set: u32, dimension: u32) -> Result<bool, Stop> {
+        if set > cube::full(self.dims()) {
+            return Err(14);
+        }
+        if !(1..=self.dims()).contains(&(dimension as usize)) {
+            return Err(16);
+        }
+        Ok(keys::fixes(&self.rows, set, dimension as usize))
     }
 }

@@ -95,3 +95,8 @@ pub fn cuboid_bytes(cells: &[Row]) -> Vec<u8> {
     let count = File(vec![]).word(cells.len() as u32);
     cells.iter().fold(count, |f, c| f.normal(&c.codes, c.sum, c.count)).cut()
 }
+
+/// A list of numbers: the count, then the numbers.
+pub fn list_bytes(numbers: &[u32]) -> Vec<u8> {
+    File(vec![]).word(numbers.len() as u32).words(numbers).cut()
+}

@@ -103,6 +103,10 @@ fn the_file_comes_before_the_question_and_the_output() {
             assert_eq!(calls.list_cuboid(s, 0, &mut lent), Err(stop), "{name}, list: {}", case.name);
             assert_eq!(calls.expand(s, &mut []), Err(stop), "{name}, expand: {}", case.name);
             assert_eq!(calls.expand(s, &mut lent), Err(stop), "{name}, expand: {}", case.name);
+            assert_eq!(calls.smallest_keys(s, &mut []), Err(stop), "{name}, keys: {}", case.name);
+            assert_eq!(calls.smallest_keys(s, &mut lent), Err(stop), "{name}, keys: {}", case.name);
+            assert_eq!(calls.fixes(s, 256, 0), Err(stop), "{name}, fixes: {}", case.name);
+            assert_eq!(calls.fixes(s, 0, 1), Err(stop), "{name}, fixes: {}", case.name);
             assert_eq!(lent, [7; 64], "{name}: {}", case.name);
         }
     }

@@ -23,7 +23,7 @@ use Rattle.archive.proofs.Opened.{Opened}
 -- ---- refused
 
 module _ (s : List ℕ) {k : ℕ} (e : archiveAnswer (readArchive s) ≡ Read.Stop k) where
-  refused : readArchive s ≡ stop k
+  pub refused : readArchive s ≡ stop k
   refused = go (readArchive s) e
     where
       go : (p : Parsed Held) → archiveAnswer p ≡ Read.Stop k → p ≡ stop k

@@ -14,7 +14,7 @@ ghost use Rattle.condense.specs.Lists.{listsOf, Short, Fit, opens, noted
 ghost use Rattle.condense.specs.Shared.{sharedRows};
 
 // Whether a set holds one that is listed.
-fn holds_listed(set: u32, list: &[u32]) -> bool
+pub fn holds_listed(set: u32, list: &[u32]) -> bool
     ensures { λ r. ⌜ r ≡ some (holds 32 set) (now (list .entry)) ⌝ }
 {
     for i in 0..list.len() {

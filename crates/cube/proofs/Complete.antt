@@ -21,7 +21,7 @@ use Rattle.cube.proofs.Codes.{plain-laws, coded-length, length-cell}
 use Rattle.cube.proofs.Cells.{cuboid-in}
 use Rattle.cube.proofs.Existing.{blank-whole, existing-in, existing-of, existing-rising, exists-node}
 use Rattle.cube.proofs.Folding.{coded}
-use Rattle.cube.proofs.Keys.{keys-rising}
+use Rattle.cube.proofs.CellOrder.{keys-rising}
 
 -- a cell of a set has a code, or ALL, for each dimension
 pub cuboid-wide : {A : Type 0} (d : ℕ) (rows : List (Row A)) → Table d rows → (s : ℕ) {c : List ℕ} → c ∈ cuboid (plain d) (codesOf rows) s → length c ≡ d

@@ -8,7 +8,7 @@ pub mod Reach
 pub mod Cells
 pub mod Existing
 pub mod Normals
-pub mod Keys
+pub mod CellOrder
 pub mod Counting
 pub mod Fewest
 pub mod Ours
@@ -20,5 +20,6 @@ pub mod Folding
 pub mod Reordering
 pub mod Complete
 pub mod Antichain
+pub mod Keys
 pub mod Promises
 pub mod Examples

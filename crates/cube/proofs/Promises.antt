@@ -1,7 +1,7 @@
 -- The front page: what demands 2 and 3 of the user say of rows, entries and cells, for tables of any number of dimensions.
 use mathlib.Core.Path.{_≡_, _∙_}
-use mathlib.Core.Logic.{_⊎_, _↔_}
-use mathlib.Core.Bool.{true, not}
+use mathlib.Core.Logic.{_≢_, _⊎_, _↔_}
+use mathlib.Core.Bool.{true, false, not}
 use mathlib.Core.Option.{some as just}
 use mathlib.Core.List.{List, [], _∷_, map, flatMap, List·Permᴰ}
 use Prim.Native.Nat.{ℕ, _+_, _≤_}
@@ -9,13 +9,14 @@ use lib.Dec.{leb}
 use lib.ListN.{length, getElem?, replicate}
 use Rattle.lists.specs.Lists.{_∈_}
 use Rattle.lists.specs.Order.{Rising, earlier}
-use Rattle.lattice.specs.Sets.{sets, holds}
+use Rattle.lattice.specs.Sets.{before, full, sets, holds}
 use Rattle.cube.specs.declared.Total.{Total}
 use Rattle.cube.specs.Measure.{nothing, sums, Row, totalOf, totalAt, codesOf}
-use Rattle.cube.specs.Codes.{ALL, Coded, cell, falls, plain}
+use Rattle.cube.specs.Codes.{ALL, Coded, cell, agree, falls, plain}
 use Rattle.cube.specs.Cube.{within, blank, Exists, total, grouped, complete}
 use Rattle.cube.specs.Condensed.{Entry, normal as normal-entry, no-record, found, lookup, proper, single, listed, reach, normals, Base, own, stands, Condensed, ours, expansion}
 use Rattle.cube.specs.Table.{Table, folded, listed-before}
+use Rattle.cube.specs.Keys.{key, leastKeys, fixes, dimension}
 use Rattle.cube.proofs.Sums.{sums-add}
 use Rattle.cube.proofs.Codes.{plain-laws}
 use Rattle.cube.proofs.Empty as empties
@@ -31,6 +32,7 @@ use Rattle.cube.proofs.Questions as questions
 use Rattle.cube.proofs.Expansion as expansions
 use Rattle.cube.proofs.Antichain as antichains
 use Rattle.cube.proofs.Reordering as reorderings
+use Rattle.cube.proofs.Keys as keying
 
 -- ---- Demand 2: the complete cube, of a table's rows
 
@@ -189,3 +191,42 @@ module _ (d : ℕ) (xs : List (List ℕ)) (x : List ℕ) where
   -- Up to 8 dimensions it has at most 70 sets.
   pub at-most-70 : d ≤ 8 → length list ≤ 70
   at-most-70 h = antichains.listed-short d h xs x
+
+-- ---- Keys (document 02, C-12), of base rows with codes xs
+
+module _ (d : ℕ) (xs : List (List ℕ)) (b : Base (plain d) xs) where
+  -- A key is a set on which no two base rows agree; a set fixes another where base rows that agree on it agree on the other too.
+  pub key-iff : (s : ℕ) → (key (plain d) xs s ≡ true) ↔ ((x y : List ℕ) → x ∈ xs → y ∈ xs → x ≢ y → agree s x y ≡ false)
+  key-iff = keying.key-iff (plain d) xs
+
+  pub fixes-iff : (s t : ℕ) → (fixes (plain d) xs s t ≡ true) ↔ ((x y : List ℕ) → x ∈ xs → y ∈ xs → agree s x y ≡ true → agree t x y ≡ true)
+  fixes-iff = keying.fixes-iff (plain d) xs
+
+  -- The listed keys are just those that hold no other key, in lattice order.
+  pub smallest-keys : (s : ℕ) → (s ∈ leastKeys (plain d) xs) ↔ ((s ∈ sets d) × (key (plain d) xs s ≡ true) × ((t : ℕ) → t ∈ sets d → key (plain d) xs t ≡ true → holds d s t ≡ true → t ≡ s))
+  smallest-keys = keying.leastKeys-iff (plain d) (plain-laws d) xs
+
+  pub keys-order : Rising before (leastKeys (plain d) xs)
+  keys-order = keying.leastKeys-rising d xs
+
+  -- A set is a key just if it holds a listed one, and just if it fixes every dimension.
+  pub key-holds : {s : ℕ} → s ∈ sets d → (key (plain d) xs s ≡ true) ↔ ((m : ℕ) × (m ∈ leastKeys (plain d) xs) × (holds d s m ≡ true))
+  key-holds = keying.key-holds (plain d) (plain-laws d) xs (b .valid)
+
+  pub key-fixes : (s : ℕ) → (key (plain d) xs s ≡ true) ↔ ((i : ℕ) → 1 ≤ i → i ≤ d → fixes (plain d) xs s (dimension i) ≡ true)
+  key-fixes = keying.key-fixes d xs (b .valid)
+
+  -- A set fixes each of its own dimensions, and the full set is a key.
+  pub fixes-own : (s t : ℕ) → holds d s t ≡ true → fixes (plain d) xs s t ≡ true
+  fixes-own = keying.fixes-held (plain d) (plain-laws d) xs (b .valid)
+
+  pub full-key : key (plain d) xs (full d) ≡ true
+  full-key = keying.finest-key (plain d) (plain-laws d) xs (b .valid)
+
+  -- With no base row or one, the empty set is the only smallest key.
+  pub keys-of-few : length xs ≤ 1 → leastKeys (plain d) xs ≡ 0 ∷ []
+  keys-of-few = keying.leastKeys-few d xs
+
+  -- Up to 8 dimensions at most 70 are listed.
+  pub keys-at-most-70 : d ≤ 8 → length (leastKeys (plain d) xs) ≤ 70
+  keys-at-most-70 = keying.leastKeys-short d xs

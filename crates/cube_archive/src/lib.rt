@@ -1,12 +1,15 @@
-// The five calls for other languages: each answers one number, 2^63 plus a stop's number where it stops.
+// The calls for other languages: each answers one number, 2^63 plus a stop's number where it stops.
 use calls::Checked;
 use calls::Found;
 use calls::Written;
+use keys::Fixed;
 ghost use mathlib.Core.Path.{_≡_};
 ghost use lib.ListN.{length};
 ghost use Rattle.calls.specs.Answers.{within, answerOf, leftOf};
 ghost use Rattle.calls.specs.Calls.{builds, checks, listsCuboid, expands, looksUp};
 ghost use Rattle.calls.specs.Numbers.{writtenNumber, checkedNumber, foundNumber, sumLeft, countLeft, entryLeft};
+ghost use Rattle.keys.specs.Calls.{listsKeys, tellsFixed};
+ghost use Rattle.keys.specs.Numbers.{fixedNumber};
 
 // The number of a call that writes an output.
 fn number(answer: Written) -> u64
@@ -83,4 +86,25 @@ pub extern "C" fn cube_expand(archive: &[u8], out: &mut [u8]) -> u64
     ensures { λ _. ⌜ now (out .exit) ≡ leftOf (within (length (now (out .entry))) (expands (now (archive .entry)))) (now (out .entry)) ⌝ }
 {
     number(archive::expand(archive, out))
+}
+
+// Lists the smallest keys of an archive: the length written.
+#[no_mangle]
+pub extern "C" fn cube_smallest_keys(archive: &[u8], out: &mut [u8]) -> u64
+    ensures { λ r. ⌜ r ≡ writtenNumber (answerOf (within (length (now (out .entry))) (listsKeys (now (archive .entry))))) ⌝ }
+    ensures { λ _. ⌜ now (out .exit) ≡ leftOf (within (length (now (out .entry))) (listsKeys (now (archive .entry)))) (now (out .entry)) ⌝ }
+{
+    number(keys::smallest_keys(archive, out))
+}
+
+// Whether a set fixes a dimension: 1 for yes, 0 for no.
+#[no_mangle]
+pub extern "C" fn cube_fixes(archive: &[u8], set: u32, dimension: u32) -> u64
+    ensures { λ r. ⌜ r ≡ fixedNumber (tellsFixed (now (archive .entry)) set dimension) ⌝ }
+{
+    match keys::fixes(archive, set, dimension) {
+        Fixed::Yes => 1,
+        Fixed::No => 0,
+        Fixed::Stop(n) => 0x8000_0000_0000_0000 + n as u64,
+    }
 }

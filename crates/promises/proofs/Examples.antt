@@ -28,6 +28,10 @@ use Rattle.calls.specs.declared.Checked.the-variants as Check
 use Rattle.calls.specs.declared.Found.{Found}
 use Rattle.calls.specs.declared.Found.the-variants as Find
 use Rattle.calls.specs.Answers.{Outcome, stop as stopped, bytes, within}
+use Rattle.writing.specs.ListBytes.{listBytes}
+use Rattle.cube.specs.Keys.{key, leastKeys, fixes}
+use Rattle.keys.specs.declared.Fixed.the-variants.{Yes, No, Stop}
+use Rattle.keys.specs.Calls.{listsKeys, tellsFixed}
 use Rattle.calls.specs.Calls.{builds, checks, listsCuboid, expands, entriesIn, told, looksUp}
 
 -- what an example says of the bytes: the archive's length and check word, its entries, how long its expansion is, and answers to questions; a refusal is none of these
@@ -126,3 +130,31 @@ pub empty-built : builds (tableBytes (record { sizes = 1 ∷ []; rows = [] }))
     ∷ 0xFF ∷ 0xFF ∷ 0 ∷ 0 ∷ 0 ∷ 0 ∷ 0 ∷ 0 ∷ 0 ∷ 0 ∷ 0 ∷ 0 ∷ 0 ∷ 0 ∷ 0 ∷ 0 ∷ 0x45 ∷ 0x55 ∷ 0x43 ∷ 0x45 ∷ [])
 unfolding builds readTable body row reading readingAt tableBytes folded header field word room many codes close wordAt checkOf words archiveBytes required layout baseBytes cellBytes listed single normals common shared proper cuboid existing total grouped cellsOf sets ones onesIn wordsBytes flatMap
 empty-built = refl
+
+-- ---- C-12: the five rows have the key 1 alone; the second dimension does not fix the third; stops 14 and 16
+
+pub five-keys : listsKeys (bytesOf (builds five)) ≡ bytes (1 ∷ 0 ∷ 0 ∷ 0 ∷ 1 ∷ 0 ∷ 0 ∷ 0 ∷ [])
+unfolding listsKeys listBytes leastKeys key builds readTable body row reading readingAt tableBytes folded readArchive walkArchive header field word sum sumAt room many codes rising fair amount list entry bases entries cell cells close wordAt checkOf words archiveBytes required layout baseBytes cellBytes listed single canMake normals common shared proper cuboid existing total grouped cellsOf sets ones onesIn wordsBytes flatMap
+five-keys = refl
+
+pub five-fixed : map (tellsFixed (bytesOf (builds five)) 2) (2 ∷ 3 ∷ 0 ∷ 4 ∷ []) ≡ Yes ∷ No ∷ Stop 16 ∷ Stop 16 ∷ []
+unfolding tellsFixed fixes builds readTable body row reading readingAt tableBytes folded readArchive walkArchive header field word sum sumAt room many codes rising fair amount list entry bases entries cell cells close wordAt checkOf words archiveBytes required layout baseBytes cellBytes listed single canMake normals common shared proper cuboid existing total grouped cellsOf sets ones onesIn wordsBytes flatMap
+five-fixed = refl
+
+pub five-no-set : tellsFixed (bytesOf (builds five)) 8 0 ≡ Stop 14
+unfolding tellsFixed fixes builds readTable body row reading readingAt tableBytes folded readArchive walkArchive header field word sum sumAt room many codes rising fair amount list entry bases entries cell cells close wordAt checkOf words archiveBytes required layout baseBytes cellBytes listed single canMake normals common shared proper cuboid existing total grouped cellsOf sets ones onesIn wordsBytes flatMap
+five-no-set = refl
+
+-- rows that are repeated are one base row and spoil no key: dimension 1 alone, and of one row the empty set
+abbrev repeated : List ℕ
+repeated = tableBytes (record { sizes = 2 ∷ 1 ∷ []; rows = read (0 ∷ 0 ∷ []) 5 ∷ read (1 ∷ 0 ∷ []) 6 ∷ read (0 ∷ 0 ∷ []) 7 ∷ read (1 ∷ 0 ∷ []) 8 ∷ [] })
+
+abbrev one : List ℕ
+one = tableBytes (record { sizes = 2 ∷ 1 ∷ []; rows = read (1 ∷ 0 ∷ []) 5 ∷ read (1 ∷ 0 ∷ []) 6 ∷ [] })
+
+abbrev none : List ℕ
+none = tableBytes (record { sizes = 2 ∷ 1 ∷ []; rows = [] })
+
+pub repeated-keys : map (λ s. listsKeys (bytesOf (builds s))) (repeated ∷ one ∷ none ∷ []) ≡ bytes (listBytes (1 ∷ [])) ∷ bytes (listBytes (0 ∷ [])) ∷ bytes (listBytes (0 ∷ [])) ∷ []
+unfolding listsKeys listBytes leastKeys key builds readTable body row reading readingAt tableBytes folded readArchive walkArchive header field word sum sumAt room many codes rising fair amount list entry bases entries cell cells close wordAt checkOf words archiveBytes required layout baseBytes cellBytes listed single canMake normals common shared proper cuboid existing total grouped cellsOf sets ones onesIn wordsBytes flatMap
+repeated-keys = refl

@@ -1,6 +1,7 @@
 -- The demands on the calls, and the worked examples.
 pub mod Promises
 pub mod Empty
+pub mod Keys
 pub mod Room
 pub mod Examples
 pub mod Numbers

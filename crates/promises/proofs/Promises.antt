@@ -1,6 +1,6 @@
--- The front page: the user's demands 2 and 3 on bytes, and what the change requests ask to be shown. Demand 1 is the contracts of the five calls (src/lib.rt of crates build and archive), each an equation
--- with its definition in crate calls, specs/Calls.antt. Beside this page: Room.antt (outputs that are always enough), Numbers.antt (the number that another language
--- gets tells a stop from a success), Empty.antt (an archive without base rows), Examples.antt (the worked examples of document 01).
+-- The front page: the user's demands 2 and 3 on bytes, and what the change requests ask to be shown. Demand 1 is the contracts of the calls (src/lib.rt of crates build, archive
+-- and keys), each an equation with its definition in specs/Calls.antt of crate calls or keys. Beside this page: Room.antt (outputs that are always enough), Numbers.antt (the number that another language
+-- gets tells a stop from a success), Empty.antt (an archive without base rows), Keys.antt (which codes fix which), Examples.antt (the worked examples of document 01).
 use mathlib.Core.Path.{_≡_, refl, sym, ap, ap₂, subst, _∙_}
 use mathlib.Core.Logic.{_↔_}
 use mathlib.Core.Bool.{true, false, not, _&&_}
@@ -86,7 +86,7 @@ module _ (s : List ℕ) (a : Held) (b : Bytes s) (e : readArchive s ≡ got a []
   entries-ours : entriesIn a ≡ ours (plain d) sums rows
   entries-ours = ap entriesIn (archive-forth s a [] b e .2) ∙ entries-required (a .sizes) rows
 
-  rows-base : Base (plain d) (codesOf rows)
+  pub rows-base : Base (plain d) (codesOf rows)
   rows-base = let l = archive-forth s a [] b e .0 in limits-base (a .sizes) rows l
 
   module _ (q : List ℕ) (k : asks (a .sizes) q ≡ true) where

@@ -37,7 +37,9 @@ use Rattle.cuboids.proofs.Lengths.{cuboid-length}
 use Rattle.calls.specs.Answers.{bytes, within}
 use Rattle.calls.specs.Calls.{builds, dims, listsCuboid, expands}
 use Rattle.build.proofs.Folded.{folded-within}
-use Rattle.promises.specs.Room.{atLeast1, cuboidRoom, expansionRoom, archiveRoom}
+use Rattle.keys.specs.Calls.{listsKeys}
+use Rattle.keys.proofs.Promises.{keys-listed, keys-short}
+use Rattle.promises.specs.Room.{atLeast1, cuboidRoom, expansionRoom, archiveRoom, keysRoom}
 use Rattle.promises.proofs.Promises.{built}
 
 pub coded : (zs : List ℕ) (rows : List (Row Total)) → Limits zs rows → Rows (length zs) rows
@@ -121,3 +123,7 @@ module _ (s : List ℕ) (a : Held) (b : Bytes s) (e : readArchive s ≡ got a []
   expand-enough h =
       let g = rw (← length-map (a .bases) (λ q. q .row)) at h in
       rw e (enough (expansionBytes (dims a) (rowsIn a)) k (le-trans (expansion-room (dims a) (rowsIn a) rows-coded) g))
+
+  -- of any archive
+  pub keys-enough : keysRoom ≤ k → within k (listsKeys s) ≡ listsKeys s
+  keys-enough h = rw (keys-listed s a b e) (enough _ k (le-trans (keys-short s a [] b e) h))

@@ -22,7 +22,7 @@ use Rattle.cube.specs.Cube.{within, total}
 use Rattle.cube.specs.Condensed.{Answer, found, single, normals, Base, lookup, ours}
 use Rattle.cube.proofs.Codes.{plain-laws}
 use Rattle.cube.proofs.Cells.{single-within, crowd-within}
-use Rattle.cube.proofs.Keys.{comesBefore, by-keys, normals-rising}
+use Rattle.cube.proofs.CellOrder.{comesBefore, by-keys, normals-rising}
 use Rattle.cube.proofs.Promises.{empty-entries, normal-cells, ours-condensed, row-answers, normal-answers}
 use Rattle.cube.proofs.Questions.{lookup-none}
 use Rattle.rows.specs.Rows.{rowAt}

@@ -2,22 +2,31 @@
 use walk::Walk;
 ghost use mathlib.Core.Path.{_≡_};
 ghost use mathlib.Core.List.{flatMap};
-ghost use Prim.Native.Nat.{_+_, _*_, _≤_};
+ghost use Prim.Native.Nat.{_+_, _*_, _^_, _≤_, _<_};
 ghost use lib.ListN.{length};
 ghost use Rattle.fields.specs.Written.{Wrote};
 ghost use Rattle.rows.specs.Rows.{rowsOf};
 ghost use Rattle.walk.specs.Fields.{headerBytes};
 ghost use Rattle.entries.specs.Layout.{CUBE, cellBytes, baseBytes};
+ghost use Rattle.writing.specs.ListBytes.{listBytes};
 ghost use Rattle.writing.specs.Matched.{Matched};
+
+// Writes a list: how many numbers it has, then the numbers.
+pub fn put_list(out: &mut [u8], list: &[u32]) -> usize
+    requires { ⌜ (length (now list) < 2 ^ 32) × (4 + 4 * length (now list) ≤ length (now out)) ⌝ }
+    ensures { λ r. ⌜ Wrote (listBytes (now (list .entry))) (now (out .entry)) (now (out .exit)) r ⌝ }
+{
+    let at = fields::put_word(out, list.len() as u32);
+    at + fields::put_words(&mut out[at..], list)
+}
 
 // Writes the front of an archive: the opening, D and the sizes.
 pub fn put_header(out: &mut [u8], sizes: &[u32]) -> usize
     requires { ⌜ (length (now sizes) ≤ 8) × (8 + 4 * length (now sizes) ≤ length (now out)) ⌝ }
     ensures { λ r. ⌜ Wrote (headerBytes CUBE (now (sizes .entry))) (now (out .entry)) (now (out .exit)) r ⌝ }
 {
-    let mut at = fields::put_opening(out, &entries::CUBE);
-    at += fields::put_word(&mut out[at..], sizes.len() as u32);
-    at + fields::put_words(&mut out[at..], sizes)
+    let at = fields::put_opening(out, &entries::CUBE);
+    at + put_list(&mut out[at..], sizes)
 }
 
 // Writes a cell: its codes or ALL, its sum and its count.
@@ -58,9 +67,8 @@ pub fn put_entry(out: &mut [u8], codes: &[u32], sum: i64, count: u32, list: &[u3
     requires { ⌜ length (now list) ≤ 70 ⌝ }
     ensures { λ r. ⌜ Wrote (baseBytes (record { row = record { codes = now (codes .entry); total = record { sum = sum; count = count } }; list = now (list .entry) })) (now (out .entry)) (now (out .exit)) r ⌝ }
 {
-    let mut at = put_cell(out, codes, sum, count);
-    at += fields::put_word(&mut out[at..], list.len() as u32);
-    at + fields::put_words(&mut out[at..], list)
+    let at = put_cell(out, codes, sum, count);
+    at + put_list(&mut out[at..], list)
 }
 
 // Whether the bytes s have the bytes xs from a place on: the place behind them, or stop 12.

@@ -7,7 +7,7 @@ use denote.Ref.{now}
 use Rattle.lists.specs.Order.{earlier}
 use Rattle.lattice.specs.Sets.{size}
 use Rattle.cube.specs.Codes.{set-of, keys}
-use Rattle.cube.proofs.Keys.{keys-size, keys-set, keys-codes}
+use Rattle.cube.proofs.CellOrder.{keys-size, keys-set, keys-codes}
 use Rattle.rows.specs.Compare.{isBefore}
 use Rattle.entries.proofs.After.{earlier-compared}
 use Rattle.questions.proofs.cell_before.Statement.{statement}

@@ -1,23 +1,19 @@
--- `writing::put_header` meets its contract: three sections one straight after the other.
+-- `writing::put_header` meets its contract: the opening, then the sizes as a list.
 use native.Mathlib.Omega.{arith}
 use denote.Ref.{now}
-use lib.ListN.{length-take, length-drop}
-use Rattle.fields.specs.WordsLaws.{length-wordsBytes}
 use Rattle.fields.specs.WrittenLaws.{wrote-then}
+use Rattle.writing.specs.ListBytes.{list-is, list-length}
 use borrow.Author.Needs.{needs}
 use Rattle.writing.proofs.put_header.Statement.{statement}
 use Rattle.writing.proofs.put_header.Tie as tie
 
-put-words-requires : tie.Need-put-words-requires
-put-words-requires c κs = simp (length-take, length-drop) (omega (arith, length-wordsBytes (now (c .before .before .before .before .before .before .before .before .before .before .before .before .args .sizes))))
-
 add-result : tie.Need-add-result
-add-result c = omega (arith, length-wordsBytes (now (c .before .before .before .before .before .before .before .before .before .before .before .before .before .before .before .args .sizes)))
+add-result c = omega (arith, list-length (now (c .before .before .before .before .before .before .before .before .before .before .before .args .sizes)))
 
 returns : tie.Need-returns
-returns c = wrote-then (wrote-then (c .before .before .before .before .before .before .before .before .before .before .put-opening .ensures) (c .before .before .before .before .before .before .put-word .ensures)) (c .before .before .put-words .ensures)
+returns c = rw (list-is (now (c .before .before .before .before .before .before .before .before .before .before .before .args .sizes))) at (wrote-then (c .before .before .before .before .before .before .put-opening .ensures) (c .before .before .put-list .ensures))
 
 pub put-header-spec : {M : Type 1} → statement M
 put-header-spec =
     tie.close
-    (tie.spec (λ c κs. search needs) (λ c. search needs) (λ c. search needs) (λ c. search needs) (λ c. search needs) (λ c κs. search needs) (λ c. search needs) (λ c. search needs) (λ c. search needs) (λ c. search needs) put-words-requires add-result (λ c. search needs) returns)
+    (tie.spec (λ c κs. search needs) (λ c. search needs) (λ c. search needs) (λ c. search needs) (λ c κs. search needs) add-result (λ c. search needs) returns)

@@ -1,0 +1,6 @@
+-- Why the calls on keys keep what they promise.
+pub mod Follows
+pub mod Neighbours
+pub mod Listing
+pub mod Outcomes
+pub mod Promises

@@ -1,0 +1,4 @@
+-- What the two calls on keys compute, and their answers as numbers.
+pub mod Laid
+pub mod Calls
+pub mod Numbers
