@@ -9,18 +9,21 @@
 //!     ask expand < ARCHIVE             the cells of all cuboids, in lattice order
 //!     ask keys < ARCHIVE               1 : 1
 //!     ask fixes 2 3 < ARCHIVE          no
+//!     ask totals 2 < ARCHIVE           360 5 in 3 cells, 360 5 in all: equal
 //!
 //! `cargo build --release --examples` makes the program, `target/release/examples/ask`.
 //!
 //! A cell's line has its codes (`*` is ALL), sum and count, as the lister prints a normal entry. `cell` adds the number of the
 //! entry that carries them, from 0 through base, then normal entries. `keys` has a line for each smallest key: its set number, a
-//! colon, its dimensions. `fixes` tells whether rows that agree on a set agree on a dimension. All of the archive is checked before
-//! it is asked.
+//! colon, its dimensions. `fixes` tells whether rows that agree on a set agree on a dimension. `totals` adds up the cells of one
+//! dimension, counted from 1, and puts sum and count beside those of all records. All of the archive is checked before it is asked.
 //!
 //! A stop is written to standard error as `refused`, its number in document 01 and what is wrong, and the exit status is 1; a
-//! question of another length, or with a code that is not below its size, is stop 13. Wrong usage has exit status 2.
+//! question of another length, or with a code that is not below its size, is stop 13. A dimension that the archive has not is
+//! no stop, and is refused in the same way without a number. Wrong usage has exit status 2.
 use cube_archive::{Archive, Code, Codes, Cuboid, Stop};
 use std::error::Error;
+use std::fmt;
 use std::io::{self, Read, Write};
 use std::process::ExitCode;
 
@@ -30,7 +33,8 @@ usage: ask check < ARCHIVE
        ask cuboid SET < ARCHIVE      the sum of 2 to the power i-1 over the set's dimensions i, counted from 1
        ask expand < ARCHIVE
        ask keys < ARCHIVE            the smallest sets on which no two rows agree
-       ask fixes SET DIMENSION < ARCHIVE";
+       ask fixes SET DIMENSION < ARCHIVE
+       ask totals DIM < ARCHIVE      the cells of a dimension, counted from 1, added up beside the grand total";
 
 enum Question {
     Check,
@@ -39,6 +43,29 @@ enum Question {
     Expand,
     Keys,
     Fixes(u32, u32),
+    Totals(u32),
+}
+
+/// Why a question has no answer.
+enum Refusal {
+    Stop(Stop),
+    /// A dimension that is not 1 to so many.
+    Dimension(usize),
+}
+
+impl From<Stop> for Refusal {
+    fn from(stop: Stop) -> Refusal {
+        Refusal::Stop(stop)
+    }
+}
+
+impl fmt::Display for Refusal {
+    fn fmt(&self, f: &mut fmt::Formatter) -> fmt::Result {
+        match self {
+            Refusal::Stop(stop) => write!(f, "refused {}: {}", stop.number(), stop.words()),
+            Refusal::Dimension(dims) => write!(f, "refused: the dimension is not 1 to {dims}"),
+        }
+    }
 }
 
 fn main() -> ExitCode {
@@ -59,7 +86,7 @@ fn main() -> ExitCode {
 fn ask(question: Question) -> Result<(), Box<dyn Error>> {
     let mut archive = vec![];
     io::stdin().read_to_end(&mut archive)?;
-    let answer = answer(archive, question).map_err(|stop| format!("refused {}: {}", stop.number(), stop.words()))?;
+    let answer = answer(archive, question).map_err(|refusal| refusal.to_string())?;
     let mut out = io::stdout();
     out.write_all(answer.as_bytes())?;
     Ok(out.flush()?)
@@ -74,6 +101,7 @@ fn question(words: &[&str]) -> Option<Question> {
         ["expand"] => Some(Question::Expand),
         ["keys"] => Some(Question::Keys),
         ["fixes", set, dimension] => Some(Question::Fixes(number(set)?, number(dimension)?)),
+        ["totals", dimension] => number(dimension).map(Question::Totals),
         _ => None,
     }
 }
@@ -93,7 +121,7 @@ fn number(word: &str) -> Option<u32> {
 }
 
 /// The lines that answer a question.
-fn answer(archive: Vec<u8>, question: Question) -> Result<String, Stop> {
+fn answer(archive: Vec<u8>, question: Question) -> Result<String, Refusal> {
     let archive = Archive::open(archive)?;
     Ok(match question {
         Question::Check => archive.check().map(|counts| format!("{} base entries, {} normal entries\n", counts.bases, counts.normals))?,
@@ -105,6 +133,7 @@ fn answer(archive: Vec<u8>, question: Question) -> Result<String, Stop> {
         Question::Expand => archive.expand()?.iter().map(Cuboid::to_string).collect(),
         Question::Keys => archive.smallest_keys()?.into_iter().map(key).collect(),
         Question::Fixes(set, dimension) => if archive.fixes(set, dimension)? { "yes\n" } else { "no\n" }.into(),
+        Question::Totals(dimension) => totals(&archive, dimension)?,
     })
 }
 
@@ -112,4 +141,17 @@ fn answer(archive: Vec<u8>, question: Question) -> Result<String, Stop> {
 fn key(set: u32) -> String {
     let dimensions = (1..=8).filter(|i| set >> (i - 1) & 1 == 1).map(|i| format!(" {i}"));
     format!("{set} :{}\n", dimensions.collect::<String>())
+}
+
+/// The cells of a dimension added up, beside the cell of all records.
+fn totals(archive: &Archive, dimension: u32) -> Result<String, Refusal> {
+    let dims = archive.sizes().len();
+    if !(1..=dims as u32).contains(&dimension) {
+        return Err(Refusal::Dimension(dims));
+    }
+    let cells = archive.list_cuboid(1 << (dimension - 1))?.cells;
+    let (sum, count) = cells.iter().fold((0, 0), |(sum, count), cell| (sum + cell.sum, count + cell.count));
+    let all = archive.look_up(&vec![None; dims])?.expect("the cell of all records exists");
+    let verdict = if (sum, count) == (all.sum, all.count) { "equal" } else { "not equal" };
+    Ok(format!("{sum} {count} in {} cells, {} {} in all: {verdict}\n", cells.len(), all.sum, all.count))
 }

@@ -15,6 +15,7 @@ usage: ask check < ARCHIVE
        ask expand < ARCHIVE
        ask keys < ARCHIVE            the smallest sets on which no two rows agree
        ask fixes SET DIMENSION < ARCHIVE
+       ask totals DIM < ARCHIVE      the cells of a dimension, counted from 1, added up beside the grand total
 ";
 const QUESTION: &str = "13: the question has not one code for each dimension, or a code that is not below its dimension's size";
 
@@ -106,6 +107,37 @@ fn a_set_fixes_a_dimension_or_does_not() {
 }
 
 #[test]
+fn the_totals_of_a_dimension() {
+    answers("totals 1", &five(), "360 5 in 5 cells, 360 5 in all: equal\n");
+    answers("totals 2", &five(), "360 5 in 3 cells, 360 5 in all: equal\n");
+    answers("totals 3", &five(), "360 5 in 2 cells, 360 5 in all: equal\n");
+    answers("totals 1", four().archive().as_bytes(), "4 4 in 2 cells, 4 4 in all: equal\n");
+    let lone = Records { sizes: vec![2; 8], rows: vec![(vec![1; 8], i32::MIN); 1_024] }.archive();
+    answers("totals 8", lone.as_bytes(), "-2199023255552 1024 in 1 cells, -2199023255552 1024 in all: equal\n");
+}
+
+/// No cells add up to the zero total.
+#[test]
+fn the_totals_of_an_archive_without_rows() {
+    let archive = Records { sizes: vec![3, 1], rows: vec![] }.archive().into_bytes();
+    for words in ["totals 1", "totals 2"] {
+        answers(words, &archive, "0 0 in 0 cells, 0 0 in all: equal\n");
+    }
+}
+
+/// One that is no number is wrong usage.
+#[test]
+fn a_wrong_dimension_is_refused() {
+    for dimension in ["0", "00", "4", "8", "9", "32", "33", "64", "4294967295", "4294967296", "99999999999999999999"] {
+        let refused = (Some(1), "".into(), "refused: the dimension is not 1 to 3\n".into());
+        assert_eq!(ask(&format!("totals {dimension}"), &five()), refused, "{dimension}");
+    }
+    for words in ["totals", "totals *", "totals two", "totals -1", "totals 1 2"] {
+        assert_eq!(ask(words, &[]), (Some(2), "".into(), USAGE.into()), "{words}");
+    }
+}
+
+#[test]
 fn an_archive_without_rows() {
     let archive = Records { sizes: vec![1, 1], rows: vec![] }.archive().into_bytes();
     answers("check", &archive, "0 base entries, 1 normal entries\n");
@@ -139,12 +171,14 @@ fn the_largest_code() {
     }
 }
 
-/// Damage goes before what is wrong with a question or a set.
+/// Damage goes before what is wrong with a question, a set or a dimension.
 #[test]
 fn a_wrong_archive_is_refused() {
     let mut damaged = five();
     damaged[36] ^= 1;
-    for words in ["check", "cell * 5 1", "cell *", "cuboid 2", "cuboid 8", "expand", "keys", "fixes 2 3", "fixes 8 0"] {
+    for words in
+        ["check", "cell * 5 1", "cell *", "cuboid 2", "cuboid 8", "expand", "keys", "fixes 2 3", "fixes 8 0", "totals 2", "totals 0"]
+    {
         let opening = "1: the first four bytes are missing or are not the opening of such a file";
         stops(words, &[], opening);
         stops(words, &Records::five().table(), opening);

@@ -19,6 +19,7 @@ pub mod Regroup
 pub mod Folding
 pub mod Reordering
 pub mod Complete
+pub mod Rolling
 pub mod Antichain
 pub mod Keys
 pub mod Promises

@@ -1,5 +1,5 @@
 -- The front page: what demands 2 and 3 of the user say of rows, entries and cells, for tables of any number of dimensions.
-use mathlib.Core.Path.{_≡_, _∙_}
+use mathlib.Core.Path.{_≡_, sym, _∙_}
 use mathlib.Core.Logic.{_≢_, _⊎_, _↔_}
 use mathlib.Core.Bool.{true, false, not}
 use mathlib.Core.Option.{some as just}
@@ -13,7 +13,7 @@ use Rattle.lattice.specs.Sets.{before, full, sets, holds}
 use Rattle.cube.specs.declared.Total.{Total}
 use Rattle.cube.specs.Measure.{nothing, sums, Row, totalOf, totalAt, codesOf}
 use Rattle.cube.specs.Codes.{ALL, Coded, cell, agree, falls, plain}
-use Rattle.cube.specs.Cube.{within, blank, Exists, total, grouped, complete}
+use Rattle.cube.specs.Cube.{within, blank, Exists, total, grouped, cells, complete, road}
 use Rattle.cube.specs.Condensed.{Entry, normal as normal-entry, no-record, found, lookup, proper, single, listed, reach, normals, Base, own, stands, Condensed, ours, expansion}
 use Rattle.cube.specs.Table.{Table, folded, listed-before}
 use Rattle.cube.specs.Keys.{key, leastKeys, fixes, dimension}
@@ -21,6 +21,7 @@ use Rattle.cube.proofs.Sums.{sums-add}
 use Rattle.cube.proofs.Codes.{plain-laws}
 use Rattle.cube.proofs.Empty as empties
 use Rattle.cube.proofs.Complete as completes
+use Rattle.cube.proofs.Rolling as rolling
 use Rattle.cube.proofs.Folding as folding
 use Rattle.cube.proofs.Singles as singles
 use Rattle.cube.proofs.Smallest as smallests
@@ -119,6 +120,17 @@ module _ (d : ℕ) where
   pub cell-of-rows : (r : Row Total) (rows : List (Row Total)) (c : List ℕ) → Exists (plain d) (codesOf (r ∷ rows)) c
       ↔ ((x : List ℕ) × (x ∈ codesOf (r ∷ rows)) × (falls c x ≡ true))
   cell-of-rows r rows = empties.exists-rows (plain d) (r .codes) (codesOf rows)
+
+-- ---- C-21: totals by any road, of a table's rows or of base rows
+
+module _ (d : ℕ) (rows : List (Row Total)) (t : Table d rows) {s : ℕ} (i : s ∈ sets d) (r : Row Total) (m : r ∈ cells (plain d) sums rows s) where
+  -- For two sets, one inside the other, adding the listed cells of the larger that agree with a cell of the smaller gives that cell's sum and count,
+  pub any-road : {u : ℕ} → u ∈ sets d → holds d u s ≡ true → road (plain d) sums rows u (r .codes) ≡ r .total
+  any-road j h = rolling.rolled-up sums sums-add d rows t i j h r m
+
+  -- so two ways of adding up meet.
+  pub two-roads : {u v : ℕ} → u ∈ sets d → v ∈ sets d → holds d u s ≡ true → holds d v s ≡ true → road (plain d) sums rows u (r .codes) ≡ road (plain d) sums rows v (r .codes)
+  two-roads j k h l = any-road j h ∙ sym (any-road k l)
 
 -- ---- Demands 2 and 3, of base rows
 

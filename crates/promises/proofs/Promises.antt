@@ -18,14 +18,15 @@ use Rattle.walk.specs.Parsed.{got}
 use Rattle.walk.specs.Limits.{Bytes}
 use Rattle.cube.specs.declared.Total.{Total}
 use Rattle.cube.specs.Measure.{sums, Row, codesOf}
-use Rattle.cube.specs.Codes.{agree, plain}
+use Rattle.cube.specs.Codes.{Coded, agree, set-of, plain}
 use Rattle.cube.proofs.Codes.{plain-laws}
 use Rattle.cube.proofs.Normals.{base-within}
-use Rattle.cube.specs.Cube.{Exists, total, cells, complete}
+use Rattle.cube.specs.Cube.{Exists, total, filled, cells, complete, road}
 use Rattle.cube.specs.Condensed.{Entry, base, normal, Answer, no-record, found, lookup, normals, listed, reach, Base, own, stands, Permitted, Condensed, ours, expansion}
 use Rattle.cube.proofs.Sums.{sums-add}
+use Rattle.cube.proofs.Existing.{existing-of, exists-node}
 use Rattle.cube.proofs.Folding.{cells-folded}
-use Rattle.cube.proofs.Promises.{base-rows, any-expands, ours-condensed, no-record-iff, answer, one-entry, fewest-entries, as-few, shortest-list}
+use Rattle.cube.proofs.Promises.{base-rows, any-expands, ours-condensed, any-road, no-record-iff, answer, one-entry, fewest-entries, as-few, shortest-list}
 use Rattle.rows.specs.declared.Order.the-variants.{Equal}
 use Rattle.rows.specs.Rows.{cut}
 use Rattle.rows.specs.Compare.{compared, named, has, FirstDifference, added, Longer}
@@ -109,6 +110,29 @@ module _ (s : List ℕ) (a : Held) (b : Bytes s) (e : readArchive s ≡ got a []
     pub entry-alone : {f g : Entry Total} (m n : ℕ) → getElem? (entriesIn a) m ≡ just f → getElem? (entriesIn a) n ≡ just g
         → q ∈ stands (plain d) f → q ∈ stands (plain d) g → m ≡ n
     entry-alone m n x y = one-entry d rows rows-base q m n (ap (λ (l : List (Entry Total)). getElem? l m) (sym entries-ours) ∙ x) (ap (λ (l : List (Entry Total)). getElem? l n) (sym entries-ours) ∙ y)
+
+  -- ---- C-21: totals by any road
+
+  -- The call lists the cells of a set.
+  pub cells-listed : (set : ℕ) → set < 2 ^ d → listsCuboid s set ≡ bytes (section cellBytes (cells (plain d) sums rows set))
+  unfolding listsCuboid cuboidBytes
+  cells-listed set h = ap (outcome (cuboidOf set)) e ∙ rw (lt-ltb set (2 ^ d) h)
+
+  valid : (x : List ℕ) → x ∈ codesOf rows → Coded d x
+  valid = rows-base .valid
+
+  listed-cell : {q : List ℕ} → Exists (plain d) (codesOf rows) q → filled (plain d) sums rows q ∈ cells (plain d) sums rows (set-of q)
+  unfolding cells
+  listed-cell x = Memᴰ·map (filled (plain d) sums rows) (existing-of (plain d) (plain-laws d) (codesOf rows) valid x refl)
+
+  -- For a set that holds the set of the cell asked for: the listed cells of it that agree with that cell, added up, give the sum and the count that the question gets.
+  pub road-answered : (q : List ℕ) → asks (a .sizes) q ≡ true → Exists (plain d) (codesOf rows) q → (larger : ℕ) → larger ∈ sets d → holds d larger (set-of q) ≡ true
+      → (n : ℕ) × (looksUp s q ≡ Find.Cell (road (plain d) sums rows larger q .sum) (road (plain d) sums rows larger q .count) n)
+  road-answered q k x larger j h =
+      let c = cell-answered q k x in
+      let t : road (plain d) sums rows larger q ≡ total (plain d) sums rows q
+      = any-road d rows (λ r m. valid (r .codes) (Memᴰ·map (λ p. p .codes) m)) (exists-node (plain d) (plain-laws d) (codesOf rows) valid x) (filled (plain d) sums rows q) (listed-cell x) j h in
+      (c .0, c .4 ∙ ap (λ (u : Total). Find.Cell (u .sum) (u .count) (c .0)) (sym t))
 
 -- ---- Demands 2 and 3: what `build` writes for an accepted table
 
