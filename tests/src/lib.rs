@@ -1,9 +1,9 @@
-//! The calls of the library, called from Rust, the two programs, run through pipes, and what the tests hold both to.
+//! The calls of the library, called from Rust, the programs, run through pipes, and what the tests hold both to.
 //!
 //! * `calls`: the calls as a trait
 //! * `library`: the calls through the C interface of libcube_archive.a
 //! * `good`: the calls as fast plain Rust, for times
-//! * `program`: the builder and the lister
+//! * `program`: the builder, the lister and the program of the small tables
 //! * `model`: the calls and the programs done naively, written from documents 01 and 02
 //! * `write`: tables, archives and listings as bytes
 //! * `lent`: an output between guards

@@ -5,6 +5,7 @@ pub mod fields;
 pub mod keys;
 mod listing;
 pub mod programs;
+pub mod small;
 
 use crate::calls::{Found, Stop};
 use crate::write::{archive_bytes, cuboid_bytes, list_bytes};

@@ -1,6 +1,7 @@
 //! What the programs printed, held to the model.
 use crate::compare::hex;
 use crate::model::programs::{builder, lister};
+use crate::model::small::small_tables;
 use crate::program::Program;
 
 /// A program printed what it should print.
@@ -15,6 +16,7 @@ pub fn check(program: Program, input: &[u8], what: &str) -> Vec<u8> {
     let model = match program {
         Program::Builder => builder(input),
         Program::Lister => lister(input),
+        Program::SmallTables => small_tables(),
     };
     same(program, &program.prints(input), &model, &format!("{what}\n{}", hex(input)));
     model

@@ -1,4 +1,4 @@
-//! The two programs, run between pipes. They come from the folder that CUBE_BIN names, or from ../target/bin.
+//! The programs, run between pipes. They come from the folder that CUBE_BIN names, or from ../target/bin.
 use std::fs::File;
 use std::io::{ErrorKind, Read, Write};
 use std::path::PathBuf;
@@ -13,6 +13,7 @@ const LONGEST: Duration = Duration::from_secs(60);
 pub enum Program {
     Builder,
     Lister,
+    SmallTables,
 }
 
 impl Program {
@@ -49,8 +50,9 @@ impl Program {
         let path = folder.join(match self {
             Program::Builder => "builder",
             Program::Lister => "lister",
+            Program::SmallTables => "small_tables",
         });
-        assert!(path.is_file(), "no file {}: run 'rt check builder lister', or set CUBE_BIN", path.display());
+        assert!(path.is_file(), "no file {}: run 'rt check builder lister small_tables', or set CUBE_BIN", path.display());
         path
     }
 }

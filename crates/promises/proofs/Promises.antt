@@ -1,6 +1,7 @@
 -- The front page: the user's demands 2 and 3 on bytes, and what the change requests ask to be shown. Demand 1 is the contracts of the calls (src/lib.rt of crates build, archive
 -- and keys), each an equation with its definition in specs/Calls.antt of crate calls or keys. Beside this page: Room.antt (outputs that are always enough), Numbers.antt (the number that another language
 -- gets tells a stop from a success), Empty.antt (an archive without base rows), Keys.antt (which codes fix which), Examples.antt (the worked examples of document 01).
+-- Pages of other crates: cube, proofs/Promises.antt (the same demands on rows, without bytes); smalls, proofs/Promises.antt (C-23: all the small tables).
 use mathlib.Core.Path.{_≡_, refl, sym, ap, ap₂, subst, _∙_}
 use mathlib.Core.Logic.{_↔_}
 use mathlib.Core.Bool.{true, false, not, _&&_}
@@ -35,6 +36,7 @@ use Rattle.rows.proofs.Longer as carrying
 use Rattle.engine.specs.Index.{key, Indexed}
 use Rattle.engine.specs.Runs.{runs, again}
 use Rattle.engine.proofs.Longer as grouping
+use Rattle.smalls.specs.Tally.{entries}
 use Rattle.table.specs.Layout.{Records, TableLimits}
 use Rattle.table.specs.Reading.{readTable, baseRows}
 use Rattle.table.specs.Rearranged.{Rearranged}
@@ -193,6 +195,11 @@ module _ (s : List ℕ) (t : Records) (b : Bytes s) (e : readTable s ≡ got t [
 
   pub built-entries : entriesIn held ≡ ours (plain D) sums (baseRows t)
   built-entries = entries-required (t .sizes) (baseRows t)
+
+  -- C-23 tallies tables by this number of entries.
+  pub built-tallied : entries D (t .rows) ≡ length (held .bases) + length (held .cells)
+  unfolding entries
+  built-tallied = ap length (sym built-entries) ∙ entries-length held
 
   -- They are a condensed cube of the table.
   pub built-condensed : Condensed (plain D) sums (baseRows t) (entriesIn held)
