@@ -15,6 +15,7 @@
  *   expansion   all cuboids in lattice order: sets of fewer dimensions first,
  *               then the smaller set number
  *   keys        number of keys, then their set numbers in lattice order
+ *   shares      number of cells of a cuboid, then each cell's cents in its order
  *
  * A table without rows has one cell, all ALL, with sum 0 and count 0, which is
  * the one normal entry of its archive (32 + 8 D bytes). Every other cell needs a
@@ -27,7 +28,7 @@
  * ANSWERS. Every function returns one number. 2^63 or more is a stop
  * (CUBE_IS_STOP), the one of enum cube_stop that is reached first: the file is
  * read from the left, field by field; then comes the question or the set number,
- * and the output last. A stop changes no byte that was lent. Otherwise the number
+ * then a fee and whether there are rows to share it by, and the output last. A stop changes no byte that was lent. Otherwise the number
  * is what the function says, and bytes of the output beyond the result keep their
  * values. No function relies on an earlier check: each reads and checks its whole
  * input. That a number of 2^63 or more is a stop, and no other is, is proved
@@ -81,7 +82,9 @@ enum cube_stop {
     CUBE_STOP_QUESTION = 13,  /* a question has other than D codes, or a code neither below its size nor CUBE_ALL */
     CUBE_STOP_SET = 14,       /* the set number is 2^D or more */
     CUBE_STOP_OUTPUT = 15,    /* the result is longer than the output */
-    CUBE_STOP_DIMENSION = 16  /* the dimension is not 1 to D; looked at after 14 and before 15 */
+    CUBE_STOP_DIMENSION = 16, /* the dimension is not 1 to D; looked at after 14 and before 15 */
+    CUBE_STOP_FEE = 23,       /* the fee is above 1,000,000,000; looked at after 14 and before 15 */
+    CUBE_STOP_NO_ROWS = 24    /* the archive has no base row; looked at after 23 and before 15 */
 };
 
 /*
@@ -107,6 +110,9 @@ enum cube_stop {
 #define CUBE_EXPANSION_ROOM(d, n) (CUBE_CUBOID_ROOM(d, n) << (d))
 /* Keys: a count and at most 70 set numbers, as many as there can be of which none holds another. */
 #define CUBE_KEYS_ROOM ((size_t)284)
+
+/* Shares of a fee: n is the number of cells, or the base count, which is no less where a fee can be shared. */
+#define CUBE_FEE_ROOM(n) (4 + 4 * (size_t)(n))
 
 /* Builds the archive of a table: its length. Stops: 1 to 6, 10, 11, 15. */
 uint64_t cube_build(const uint8_t *table, size_t table_len, uint8_t *out, size_t out_len);
@@ -145,6 +151,15 @@ uint64_t cube_smallest_keys(const uint8_t *archive, size_t archive_len, uint8_t 
  * agree on the dimension too. 1 for yes, 0 for no. Stops: 1 to 12, 14, 16.
  */
 uint64_t cube_fixes(const uint8_t *archive, size_t archive_len, uint32_t set, uint32_t dimension);
+
+/*
+ * Shares a fee in cents over the cells of a set by their counts: the length of
+ * the number of cells and each cell's whole cents. Each gets its proportion
+ * rounded down; the cents left go one each to the largest remainders, the
+ * earlier cell first if equal. A fee of 0 is one. Stops: 1 to 12, 14, 23, 24, 15.
+ */
+uint64_t cube_share_fee(const uint8_t *archive, size_t archive_len, uint32_t fee, uint32_t set,
+                        uint8_t *out, size_t out_len);
 
 #ifdef __cplusplus
 }

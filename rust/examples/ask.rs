@@ -10,6 +10,9 @@
 //!     ask keys < ARCHIVE               1 : 1
 //!     ask fixes 2 3 < ARCHIVE          no
 //!     ask totals 2 < ARCHIVE           360 5 in 3 cells, 360 5 in all: equal
+//!     ask fee 101 2 < ARCHIVE          * 1 * 41
+//!                                      * 3 * 20
+//!                                      * 5 * 40
 //!
 //! `cargo build --release --examples` makes the program, `target/release/examples/ask`.
 //!
@@ -18,7 +21,9 @@
 //! colon, its dimensions. `fixes` tells whether rows that agree on a set agree on a dimension. `totals` adds up the cells of one
 //! dimension, counted from 1, and puts sum and count beside those of all records. All of the archive is checked before it is asked.
 //!
-//! A stop is written to standard error as `refused`, its number in document 01 and what is wrong, and the exit status is 1; a
+//! `fee` shares so many cents over the cells of a set by their counts: a cell's line has its codes and its cents.
+//!
+//! A stop is written to standard error as `refused`, its number in document 01 or 02 and what is wrong, and the exit status is 1; a
 //! question of another length, or with a code that is not below its size, is stop 13. A dimension that the archive has not is
 //! no stop, and is refused in the same way without a number. Wrong usage has exit status 2.
 use cube_archive::{Archive, Code, Codes, Cuboid, Stop};
@@ -34,7 +39,8 @@ usage: ask check < ARCHIVE
        ask expand < ARCHIVE
        ask keys < ARCHIVE            the smallest sets on which no two rows agree
        ask fixes SET DIMENSION < ARCHIVE
-       ask totals DIM < ARCHIVE      the cells of a dimension, counted from 1, added up beside the grand total";
+       ask totals DIM < ARCHIVE      the cells of a dimension, counted from 1, added up beside the grand total
+       ask fee CENTS SET < ARCHIVE   the cents of each cell of a set, by the cells' counts";
 
 enum Question {
     Check,
@@ -44,6 +50,7 @@ enum Question {
     Keys,
     Fixes(u32, u32),
     Totals(u32),
+    Fee { cents: u32, set: u32 },
 }
 
 /// Why a question has no answer.
@@ -102,6 +109,7 @@ fn question(words: &[&str]) -> Option<Question> {
         ["keys"] => Some(Question::Keys),
         ["fixes", set, dimension] => Some(Question::Fixes(number(set)?, number(dimension)?)),
         ["totals", dimension] => number(dimension).map(Question::Totals),
+        ["fee", cents, set] => Some(Question::Fee { cents: number(cents)?, set: number(set)? }),
         _ => None,
     }
 }
@@ -114,7 +122,7 @@ fn code(word: &str) -> Option<Code> {
     }
 }
 
-/// An unsigned decimal number. One beyond 32 bits becomes the largest, which is no code, no set and no dimension either.
+/// An unsigned decimal number. One beyond 32 bits becomes the largest, which is no code, no set, no dimension and no fee either.
 fn number(word: &str) -> Option<u32> {
     let digits = !word.is_empty() && word.bytes().all(|byte| byte.is_ascii_digit());
     digits.then(|| word.parse().unwrap_or(u32::MAX))
@@ -134,6 +142,11 @@ fn answer(archive: Vec<u8>, question: Question) -> Result<String, Refusal> {
         Question::Keys => archive.smallest_keys()?.into_iter().map(key).collect(),
         Question::Fixes(set, dimension) => if archive.fixes(set, dimension)? { "yes\n" } else { "no\n" }.into(),
         Question::Totals(dimension) => totals(&archive, dimension)?,
+        Question::Fee { cents, set } => {
+            let shares = archive.share_fee(cents, set)?;
+            let cells = archive.list_cuboid(set)?.cells;
+            cells.iter().zip(shares).map(|(cell, cents)| format!("{} {cents}\n", Codes(&cell.codes))).collect()
+        }
     })
 }
 

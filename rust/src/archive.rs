@@ -147,6 +147,33 @@ impl Archive {
         raw::fixes(&self.bytes, set, dimension)
     }
 
+    /// A fee in whole cents, shared over the cells of a set by their counts: each cell's cents, in the order of [`Archive::list_cuboid`].
+    ///
+    /// Each cell gets its proportion rounded down; the cents left go one each to the largest remainders, to the earlier cell first if
+    /// they are equal. So the shares add up to the fee.
+    ///
+    /// Stop 14 if the set's number is 2 to the power D or more, 23 if the fee is above 1,000,000,000 cents, 24 if there is no base row.
+    ///
+    /// ```
+    /// use cube_archive::{Archive, Stop, Table};
+    ///
+    /// let mut table = Table::new(&[3])?;
+    /// for code in [0, 1, 2, 2] {
+    ///     table.push(&[code], 7)?;
+    /// }
+    /// let archive = Archive::build(&table.to_bytes())?;
+    /// assert_eq!(archive.share_fee(1001, 0b1)?, [250, 250, 501]);
+    /// assert_eq!(archive.share_fee(1002, 0b1)?, [251, 250, 501]);
+    /// assert_eq!(archive.share_fee(1_000_000_001, 0b1), Err(Stop::Fee));
+    /// # Ok::<(), Box<dyn std::error::Error>>(())
+    /// ```
+    pub fn share_fee(&self, fee: u32, set: u32) -> Result<Vec<u32>, Stop> {
+        let bytes = written(room::fee(self.head.rows), |out| raw::share_fee(&self.bytes, fee, set, out))?;
+        let mut fields = Fields(&bytes);
+        let cells = fields.word().expect("the library writes the number of cells");
+        Ok((0..cells).map(|_| fields.word().expect("and so many shares")).collect())
+    }
+
     /// The cuboids of these sets, which the bytes list one behind the other.
     fn decoded(&self, bytes: &[u8], sets: &[u32]) -> Vec<Cuboid> {
         let mut fields = Fields(bytes);

@@ -33,6 +33,7 @@ mod ffi {
         pub fn cube_expand(archive: *const u8, archive_len: usize, out: *mut u8, out_len: usize) -> u64;
         pub fn cube_smallest_keys(archive: *const u8, archive_len: usize, out: *mut u8, out_len: usize) -> u64;
         pub fn cube_fixes(archive: *const u8, archive_len: usize, set: u32, dimension: u32) -> u64;
+        pub fn cube_share_fee(archive: *const u8, archive_len: usize, fee: u32, set: u32, out: *mut u8, out_len: usize) -> u64;
     }
 }
 
@@ -97,6 +98,12 @@ pub fn smallest_keys(archive: &[u8], out: &mut [u8]) -> Result<usize, Stop> {
 pub fn fixes(archive: &[u8], set: u32, dimension: u32) -> Result<bool, Stop> {
     // SAFETY: a slice.
     Ok(answer(unsafe { ffi::cube_fixes(archive.as_ptr(), archive.len(), set, dimension) })? == 1)
+}
+
+/// Shares a fee in cents over the cells of a set by their counts; the length of the number of cells and each cell's cents.
+pub fn share_fee(archive: &[u8], fee: u32, set: u32, out: &mut [u8]) -> Result<usize, Stop> {
+    // SAFETY: two slices, and the output is apart from the input.
+    length(unsafe { ffi::cube_share_fee(archive.as_ptr(), archive.len(), fee, set, out.as_mut_ptr(), out.len()) })
 }
 
 /// The answer, or the stop: 2 to the power 63 plus its number.

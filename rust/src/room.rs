@@ -18,6 +18,11 @@ pub const fn cuboid(dims: usize, rows: usize) -> usize {
 /// For the smallest keys of any archive: a count, and at most 70 sets of which none holds another.
 pub const KEYS: usize = 4 + 4 * 70;
 
+/// For the shares of a fee over so many cells; the base count is no less where a fee can be shared.
+pub const fn fee(cells: usize) -> usize {
+    4 + 4 * cells
+}
+
 /// For an expansion.
 pub const fn expansion(dims: usize, rows: usize) -> usize {
     cuboid(dims, rows) << dims

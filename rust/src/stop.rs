@@ -45,11 +45,15 @@ pub enum Stop {
     Output = 15,
     /// The dimension that a call is given is not 1 to D.
     Dimension = 16,
+    /// The fee is above 1,000,000,000.
+    Fee = 23,
+    /// The archive has no base row, so that there is nothing to share a fee by.
+    NoRows = 24,
 }
 
 impl Stop {
     /// All stops, in checking order.
-    pub const IN_ORDER: [Stop; 16] = [
+    pub const IN_ORDER: [Stop; 18] = [
         Stop::Opening,
         Stop::Cut,
         Stop::Dimensions,
@@ -65,6 +69,8 @@ impl Stop {
         Stop::Question,
         Stop::Set,
         Stop::Dimension,
+        Stop::Fee,
+        Stop::NoRows,
         Stop::Output,
     ];
 
@@ -100,6 +106,8 @@ impl Stop {
             Stop::Set => "the set has a dimension that the archive has not",
             Stop::Output => "the result is longer than the output",
             Stop::Dimension => "the dimension is not one of the archive's, which are counted from 1",
+            Stop::Fee => "the fee is above 1,000,000,000 cents",
+            Stop::NoRows => "the archive has no base row",
         }
     }
 }

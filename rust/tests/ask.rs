@@ -16,6 +16,7 @@ usage: ask check < ARCHIVE
        ask keys < ARCHIVE            the smallest sets on which no two rows agree
        ask fixes SET DIMENSION < ARCHIVE
        ask totals DIM < ARCHIVE      the cells of a dimension, counted from 1, added up beside the grand total
+       ask fee CENTS SET < ARCHIVE   the cents of each cell of a set, by the cells' counts
 ";
 const QUESTION: &str = "13: the question has not one code for each dimension, or a code that is not below its dimension's size";
 
@@ -138,6 +139,25 @@ fn a_wrong_dimension_is_refused() {
 }
 
 #[test]
+fn a_fee_has_a_line_for_each_cell() {
+    answers("fee 101 2", &five(), "* 1 * 41\n* 3 * 20\n* 5 * 40\n");
+    answers("fee 0 4", &five(), "* * 1 0\n* * 2 0\n");
+    answers("fee 1000000000 0", &five(), "* * * 1000000000\n");
+    answers("fee 99 7", &five(), "0 1 1 20\n1 1 1 20\n2 3 1 20\n4 5 1 20\n6 5 2 19\n");
+}
+
+#[test]
+fn a_fee_that_is_not_shared() {
+    for words in ["fee 1000000001 2", "fee 4294967295 2", "fee 4294967296 7", "fee 99999999999999999999 0"] {
+        stops(words, &five(), "23: the fee is above 1,000,000,000 cents");
+    }
+    stops("fee 4294967296 8", &five(), "14: the set has a dimension that the archive has not");
+    let no_rows = Records { sizes: vec![1, 1], rows: vec![] }.archive().into_bytes();
+    stops("fee 1 0", &no_rows, "24: the archive has no base row");
+    stops("fee 1 4", &no_rows, "14: the set has a dimension that the archive has not");
+}
+
+#[test]
 fn an_archive_without_rows() {
     let archive = Records { sizes: vec![1, 1], rows: vec![] }.archive().into_bytes();
     answers("check", &archive, "0 base entries, 1 normal entries\n");
@@ -176,9 +196,21 @@ fn the_largest_code() {
 fn a_wrong_archive_is_refused() {
     let mut damaged = five();
     damaged[36] ^= 1;
-    for words in
-        ["check", "cell * 5 1", "cell *", "cuboid 2", "cuboid 8", "expand", "keys", "fixes 2 3", "fixes 8 0", "totals 2", "totals 0"]
-    {
+    for words in [
+        "check",
+        "cell * 5 1",
+        "cell *",
+        "cuboid 2",
+        "cuboid 8",
+        "expand",
+        "keys",
+        "fixes 2 3",
+        "fixes 8 0",
+        "totals 2",
+        "totals 0",
+        "fee 5 2",
+        "fee 4294967295 8",
+    ] {
         let opening = "1: the first four bytes are missing or are not the opening of such a file";
         stops(words, &[], opening);
         stops(words, &Records::five().table(), opening);
@@ -220,7 +252,9 @@ fn a_wrong_question_is_refused() {
 #[test]
 fn wrong_usage() {
     let wrong = ["", "chek", "Check", "check 1", "cell 1 x 2", "cell -1 * *", "cell +1 * *", "cell 1* * *", "cell 0x1 * *", "cell ** 5 1"];
-    for words in wrong.into_iter().chain(["cuboid", "cuboid *", "cuboid two", "cuboid -1", "cuboid 1 2", "expand 1", "five-rows.cube"]) {
+    let fees = ["fee", "fee 1", "fee 1 2 3", "fee 1.5 2", "fee -1 2", "fee 1 *"];
+    let wrong = wrong.into_iter().chain(fees);
+    for words in wrong.chain(["cuboid", "cuboid *", "cuboid two", "cuboid -1", "cuboid 1 2", "expand 1", "five-rows.cube"]) {
         assert_eq!(ask(words, &[]), (Some(2), "".into(), USAGE.into()), "{words}");
     }
     for words in ["keys 1", "fixes", "fixes 1", "fixes 1 2 3", "fixes * 1", "fixes 1 *", "fixes -1 1"] {

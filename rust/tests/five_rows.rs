@@ -70,6 +70,15 @@ fn the_expansion_is_the_complete_cube_of_30_cells() {
     assert_eq!(cube.iter().map(|cuboid| cuboid.cells.len()).collect::<Vec<_>>(), [1, 5, 3, 2, 5, 5, 4, 5]);
 }
 
+/// Cells of counts 2, 1 and 2; one cell; five cells of count 1.
+#[test]
+fn a_fee() {
+    let archive = Records::five().archive();
+    assert_eq!(archive.share_fee(101, 2), Ok(vec![41, 20, 40]));
+    assert_eq!(archive.share_fee(1_000_000_000, 0), Ok(vec![1_000_000_000]));
+    assert_eq!(archive.share_fee(99, 7), Ok(vec![20, 20, 20, 20, 19]));
+}
+
 #[test]
 fn each_cuboid() {
     for set in 0..8 {

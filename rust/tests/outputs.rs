@@ -33,6 +33,17 @@ fn the_five_rows() {
     try_lengths(8 * 4 + 30 * 24, room::expansion(3, 5), |out| raw::expand(&archive, out));
 }
 
+/// By the number of cells, which is just enough, and by the base count.
+#[test]
+fn a_fee() {
+    let archive = Records::five().archive().into_bytes();
+    for (set, cells) in [1, 5, 3, 5, 2, 5, 4, 5].into_iter().enumerate() {
+        for rows in [cells, 5] {
+            try_lengths(room::fee(cells), room::fee(rows), |out| raw::share_fee(&archive, 1_001, set as u32, out));
+        }
+    }
+}
+
 #[test]
 fn no_rows() {
     let empty = Records { sizes: vec![1], rows: vec![] };

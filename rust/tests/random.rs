@@ -54,6 +54,11 @@ fn hold(records: &Records, random: &mut Random) {
     assert_eq!(archive.expand().unwrap(), records.cube());
     let set = random.below(1 << records.dims()) as u32;
     assert_eq!(archive.list_cuboid(set), Ok(records.cuboid(set)));
+    if !records.rows.is_empty() {
+        let fee = random.below(1_000_000_001) as u32;
+        let shares = archive.share_fee(fee, set).unwrap();
+        assert_eq!((shares.len(), shares.iter().sum::<u32>()), (records.cuboid(set).cells.len(), fee));
+    }
     for _ in 0..8 {
         let question = random.question(&records.sizes);
         let found = archive.look_up(&question).unwrap();

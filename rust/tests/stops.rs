@@ -4,8 +4,8 @@ mod cube;
 use cube::Records;
 use cube_archive::{raw, Archive, Stop, ALL};
 
-/// In checking order: the dimension is looked at after the set and before the output.
-const STOPS: [(Stop, &str); 16] = [
+/// In checking order: dimension and fee are looked at after the set and before the output.
+const STOPS: [(Stop, &str); 18] = [
     (Stop::Opening, "the first four bytes are missing or are not the opening of such a file"),
     (Stop::Cut, "the file ends before the last byte of a field that its earlier fields demand"),
     (Stop::Dimensions, "the number of dimensions is not 1 to 8"),
@@ -21,13 +21,15 @@ const STOPS: [(Stop, &str); 16] = [
     (Stop::Question, "the question has not one code for each dimension, or a code that is not below its dimension's size"),
     (Stop::Set, "the set has a dimension that the archive has not"),
     (Stop::Dimension, "the dimension is not one of the archive's, which are counted from 1"),
+    (Stop::Fee, "the fee is above 1,000,000,000 cents"),
+    (Stop::NoRows, "the archive has no base row"),
     (Stop::Output, "the result is longer than the output"),
 ];
 
 #[test]
 fn numbers_and_words() {
     assert_eq!(STOPS.map(|(stop, _)| stop), Stop::IN_ORDER);
-    for (number, (stop, words)) in (1..=14).chain([16, 15]).zip(STOPS) {
+    for (number, (stop, words)) in (1..=14).chain([16, 23, 24, 15]).zip(STOPS) {
         assert_eq!(stop.number(), number);
         assert_eq!(stop.to_string(), format!("stop {number}: {words}"));
     }
@@ -97,6 +99,7 @@ fn wrong_archives() {
         assert_eq!(raw::expand(&file, &mut []), Err(stop));
         assert_eq!(raw::smallest_keys(&file, &mut []), Err(stop));
         assert_eq!(raw::fixes(&file, 8, 0), Err(stop));
+        assert_eq!(raw::share_fee(&file, u32::MAX, 8, &mut []), Err(stop));
         assert_eq!(Archive::open(file), Err(stop));
     }
 }
@@ -134,4 +137,16 @@ fn wrong_dimensions() {
         assert_eq!(archive.fixes(8, dimension), Err(Stop::Set));
     }
     assert_eq!(archive.fixes(u32::MAX, 1), Err(Stop::Set));
+}
+
+/// 14, 23, 24 and 15, each with everything wrong that comes after it.
+#[test]
+fn wrong_fees() {
+    let (five, empty) = (Records::five().archive(), Records { sizes: vec![2, 2], rows: vec![] }.archive());
+    assert_eq!(empty.share_fee(u32::MAX, 4), Err(Stop::Set));
+    assert_eq!(empty.share_fee(1_000_000_001, 0), Err(Stop::Fee));
+    assert_eq!([0, 1, 1_000_000_000].map(|fee| empty.share_fee(fee, 0)), [(); 3].map(|_| Err(Stop::NoRows)));
+    assert_eq!(raw::share_fee(empty.as_bytes(), 5, 3, &mut []), Err(Stop::NoRows));
+    assert_eq!(five.share_fee(1_000_000_001, 7), Err(Stop::Fee));
+    assert_eq!(raw::share_fee(five.as_bytes(), 1_000_000_000, 7, &mut []), Err(Stop::Output));
 }

@@ -24,7 +24,7 @@ static void check(int holds, int line, const char *text, size_t number)
 #define CHECK(condition) CHECK_CASE(0, condition)
 #define CHECK_CASE(number, condition) check((condition) ? 1 : 0, __LINE__, #condition, (size_t)(number))
 
-/* The calls that write an output, in one form; only a listing uses the set. */
+/* The calls that write an output, in one form; only a listing and a fee use the set. */
 typedef uint64_t writer(const struct file *input, uint32_t set, uint8_t *out, size_t room);
 
 static uint64_t build(const struct file *input, uint32_t set, uint8_t *out, size_t room)
@@ -48,6 +48,14 @@ static uint64_t smallest_keys(const struct file *input, uint32_t set, uint8_t *o
 {
     (void)set;
     return cube_smallest_keys(input->bytes, input->length, out, room);
+}
+
+/* The fee that is shared next. */
+static uint32_t fee;
+
+static uint64_t share_fee(const struct file *input, uint32_t set, uint8_t *out, size_t room)
+{
+    return cube_share_fee(input->bytes, input->length, fee, set, out, room);
 }
 
 /* The call stops so, and the output keeps every byte. */
@@ -111,6 +119,8 @@ static void macros(void)
     };
     for (unsigned i = 0; i < 16; i++)
         CHECK_CASE(i, (unsigned)stops[i] == i + 1);
+    CHECK(CUBE_STOP_FEE == 23 && CUBE_STOP_NO_ROWS == 24);
+    CHECK(CUBE_FEE_ROOM(0) == 4 && CUBE_FEE_ROOM(5) == 24 && CUBE_FEE_ROOM(1024) == 4100);
     CHECK(CUBE_ALL == 65535);
     CHECK(!CUBE_IS_STOP(CUBE_STOP_BIT - 1) && CUBE_IS_STOP(CUBE_STOP_BIT));
     CHECK(CUBE_BASE_COUNT(UINT64_C(0x1FE0000000400)) == 1024 && CUBE_NORMAL_COUNT(UINT64_C(0x1FE0000000400)) == 130560);
@@ -346,6 +356,8 @@ static void check_archive_stopped(const struct file *archive, unsigned stop)
     check_stopped(expand, archive, 0, ROOM, stop);
     check_stopped(smallest_keys, archive, 0, ROOM, stop);
     CHECK_CASE(stop, cube_fixes(archive->bytes, archive->length, SETS, 0) == CUBE_STOP_BIT + stop);
+    fee = UINT32_MAX;
+    check_stopped(share_fee, archive, SETS, 0, stop);
 }
 
 static void check_table_stopped(const struct file *table, unsigned stop)
@@ -478,6 +490,45 @@ static void stops_of_fixes(void)
     CHECK(cube_fixes(archive.bytes, archive.length, UINT32_MAX, 1) == CUBE_STOP_BIT + CUBE_STOP_SET);
 }
 
+static void sharing(void)
+{
+    static const uint32_t fees[] = {0, 1, 2, 3, 101, 999999999, 1000000000};
+    static const uint32_t first[] = {3, 41, 20, 40};
+    struct file archive = five_archive(), third = {{0}, 0};
+    for (size_t i = 0; i < sizeof fees / sizeof *fees; i++) {
+        for (uint32_t set = 0; set < SETS; set++) {
+            struct file shares = {{0}, 0};
+            fee = fees[i];
+            put_shares(&shares, fee, set);
+            check_written(share_fee, &archive, set, CUBE_FEE_ROOM(BASES), &shares);
+        }
+    }
+    put_words(&third, first, 4);
+    fee = 101;
+    check_written(share_fee, &archive, 2, CUBE_FEE_ROOM(3), &third);
+}
+
+/* 14, 23, 24, 15, each with what is wrong behind it. */
+static void stops_of_fees(void)
+{
+    const uint32_t fields[] = {1, 1, 0};
+    struct file table = file_of(TABLE, fields, 3), archive = five_archive(), empty = {{0}, 0};
+    empty.length = (size_t)cube_build(table.bytes, table.length, empty.bytes, sizeof empty.bytes);
+    CHECK(cube_check(empty.bytes, empty.length) < CUBE_STOP_BIT);
+    fee = UINT32_MAX;
+    check_stopped(share_fee, &empty, 2, 0, CUBE_STOP_SET);
+    check_stopped(share_fee, &empty, 0, 0, CUBE_STOP_FEE);
+    check_stopped(share_fee, &archive, SETS, ROOM, CUBE_STOP_SET);
+    fee = 1000000001;
+    check_stopped(share_fee, &empty, 1, ROOM, CUBE_STOP_FEE);
+    check_stopped(share_fee, &archive, 7, ROOM, CUBE_STOP_FEE);
+    fee = 1000000000;
+    check_stopped(share_fee, &empty, 0, 0, CUBE_STOP_NO_ROWS);
+    check_stopped(share_fee, &archive, 7, 23, CUBE_STOP_OUTPUT);
+    fee = 0;
+    check_stopped(share_fee, &empty, 1, ROOM, CUBE_STOP_NO_ROWS);
+}
+
 int main(void)
 {
     macros();
@@ -495,6 +546,8 @@ int main(void)
     stops_of_no_rows();
     stops_of_questions();
     stops_of_fixes();
+    sharing();
+    stops_of_fees();
     printf("%u passed, %u failed\n", passed, failed);
     return failed == 0 ? 0 : 1;
 }

@@ -127,6 +127,32 @@ static struct total total_of(const uint32_t cell[D])
     return total;
 }
 
+/* Writes the number of cells of a set, then the cents of each, by brute force: a cent at a time for the largest remainder that has none. */
+static void put_shares(struct file *f, uint32_t fee, uint32_t set)
+{
+    uint32_t counts[ROWS], given[ROWS] = {0}, cells = 0;
+    uint64_t left = fee;
+    for (uint32_t n = 0; n < QUESTIONS; n++) {
+        uint32_t cell[D];
+        set_question(cell, n);
+        struct total total = total_of(cell);
+        if (set_of(cell) == set && total.count > 0) {
+            counts[cells++] = total.count;
+            left -= (uint64_t)fee * total.count / ROWS;
+        }
+    }
+    for (; left > 0; left--) {
+        uint32_t best = cells;
+        for (uint32_t i = 0; i < cells; i++)
+            if (!given[i] && (best == cells || (uint64_t)fee * counts[i] % ROWS > (uint64_t)fee * counts[best] % ROWS))
+                best = i;
+        given[best] = 1;
+    }
+    put_word(f, cells);
+    for (uint32_t i = 0; i < cells; i++)
+        put_word(f, (uint32_t)((uint64_t)fee * counts[i] / ROWS) + given[i]);
+}
+
 /* Writes the cuboid of a set; how many cells it has. */
 static uint32_t put_cuboid(struct file *f, uint32_t set)
 {

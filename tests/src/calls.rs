@@ -32,4 +32,7 @@ pub trait Calls: Sync {
 
     /// Whether a set fixes a dimension, counted from 1.
     fn fixes(&self, archive: &[u8], set: u32, dimension: u32) -> Result<bool, Stop>;
+
+    /// Writes the number of cells of one set, then each cell's cents of a fee; the length.
+    fn share_fee(&self, archive: &[u8], fee: u32, set: u32, out: &mut [u8]) -> Result<usize, Stop>;
 }

@@ -26,11 +26,12 @@ pub const LIST: usize = 3;
 pub const EXPAND: usize = 4;
 pub const KEYS: usize = 5;
 pub const FIXES: usize = 6;
+pub const SHARE: usize = 7;
 
-const NAMES: [&str; 7] = ["build", "check", "look up", "list", "expand", "keys", "fixes"];
+const NAMES: [&str; 8] = ["build", "check", "look up", "list", "expand", "keys", "fixes", "share a fee"];
 
 /// The stops that each call can have.
-const STOPS: [&[usize]; 7] = [
+const STOPS: [&[usize]; 8] = [
     &[1, 2, 3, 4, 5, 6, 10, 11, 15],
     &[1, 2, 3, 4, 5, 6, 7, 8, 9, 10, 11, 12],
     &[1, 2, 3, 4, 5, 6, 7, 8, 9, 10, 11, 12, 13],
@@ -38,13 +39,17 @@ const STOPS: [&[usize]; 7] = [
     &[1, 2, 3, 4, 5, 6, 7, 8, 9, 10, 11, 12, 15],
     &[1, 2, 3, 4, 5, 6, 7, 8, 9, 10, 11, 12, 15],
     &[1, 2, 3, 4, 5, 6, 7, 8, 9, 10, 11, 12, 14, 16],
+    &[1, 2, 3, 4, 5, 6, 7, 8, 9, 10, 11, 12, 14, 15, 23, 24],
 ];
+
+/// The greatest number of a stop.
+const LAST: usize = 24;
 
 /// What was compared so far.
 #[derive(Default)]
 pub struct Compare {
     /// How often each call had each answer: place 0 for answers without a stop.
-    pub seen: [[u64; 17]; 7],
+    pub seen: [[u64; LAST + 1]; 8],
     /// How many results were written, or refused, in a call with an output.
     outputs: usize,
 }
@@ -76,7 +81,7 @@ impl Compare {
     fn refused(&mut self, s: &[u8], stop: Stop, what: &str) {
         // If the file says D, the question fits it.
         let dims = s.get(4).map_or(0, |&d| d as usize % 9);
-        match self.seen[CHECK].iter().sum::<u64>() % 8 {
+        match self.seen[CHECK].iter().sum::<u64>() % 10 {
             0 => self.answer(LOOK_UP, s, Err(stop), what, |calls| calls.look_up(s, &vec![model::ALL; dims])),
             1 => self.answer(LOOK_UP, s, Err(stop), what, |calls| calls.look_up(s, &[])),
             2 => self.output(LIST, s, &Err(stop), what, |calls, out| calls.list_cuboid(s, 0, out)),
@@ -84,6 +89,8 @@ impl Compare {
             4 => self.output(KEYS, s, &Err(stop), what, |calls, out| calls.smallest_keys(s, out)),
             5 => self.answer(FIXES, s, Err(stop), what, |calls| calls.fixes(s, 0, 1)),
             6 => self.answer(FIXES, s, Err(stop), what, |calls| calls.fixes(s, u32::MAX, 0)),
+            7 => self.output(SHARE, s, &Err(stop), what, |calls, out| calls.share_fee(s, 100, 0, out)),
+            8 => self.output(SHARE, s, &Err(stop), what, |calls, out| calls.share_fee(s, u32::MAX, u32::MAX, out)),
             _ => self.output(EXPAND, s, &Err(stop), what, |calls, out| calls.expand(s, out)),
         }
     }
@@ -109,6 +116,11 @@ impl Compare {
     pub fn fixes(&mut self, s: &[u8], accepted: &Accepted, set: u32, dimension: u32, what: &str) {
         let want = accepted.fixes(set, dimension);
         self.answer(FIXES, s, want, &format!("{what}, set {set}, dimension {dimension}"), |calls| calls.fixes(s, set, dimension));
+    }
+
+    pub fn share(&mut self, s: &[u8], accepted: &Accepted, fee: u32, set: u32, what: &str) {
+        let want = accepted.share_fee(fee, set);
+        self.output(SHARE, s, &want, &format!("{what}, fee {fee}, set {set}"), |calls, out| calls.share_fee(s, fee, set, out));
     }
 
     /// A call that answers with numbers alone.
@@ -152,8 +164,8 @@ impl Compare {
     /// The call had each of these answers, and none that it cannot have.
     pub fn had(&self, call: usize, answers: &[usize]) {
         let seen = self.seen[call];
-        println!("{}, answers 0 (no stop) to 16: {seen:?}", NAMES[call]);
-        for answer in 0..seen.len() {
+        println!("{}, answers 0 (no stop) to {LAST}: {seen:?}", NAMES[call]);
+        for answer in 0..=LAST {
             assert!(seen[answer] > 0 || !answers.contains(&answer), "{}: no answer {answer} in {seen:?}", NAMES[call]);
             assert!(seen[answer] == 0 || answer == 0 || STOPS[call].contains(&answer), "{}: answer {answer} in {seen:?}", NAMES[call]);
         }

@@ -2,6 +2,7 @@
 //! on which it is single. The times are held against it.
 mod cells;
 mod condense;
+mod fees;
 mod fixed;
 mod keys;
 mod look_up;
@@ -108,5 +109,23 @@ impl Calls for Good {
             return Err(16);
         }
         Ok(fixed::fixes(rows, set, dimension - 1))
+    }
+
+    fn share_fee(&self, archive: &[u8], fee: u32, set: u32, out: &mut [u8]) -> Result<usize, Stop> {
+        let checked = Checked::open(archive)?;
+        let (rows, set) = (&checked.read.rows, set as usize);
+        if set > rows.full() {
+            return Err(14);
+        }
+        if fee > 1_000_000_000 {
+            return Err(23);
+        }
+        if rows.len() == 0 {
+            return Err(24);
+        }
+        let cells = checked.size(set).1;
+        let out = out.get_mut(..4 + 4 * cells).ok_or(15u32)?;
+        fees::write(fee, &cells::counts(rows, set), out);
+        Ok(out.len())
     }
 }

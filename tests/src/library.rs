@@ -18,6 +18,7 @@ extern "C" {
     fn cube_expand(archive: *const u8, archive_len: usize, out: *mut u8, out_len: usize) -> u64;
     fn cube_smallest_keys(archive: *const u8, archive_len: usize, out: *mut u8, out_len: usize) -> u64;
     fn cube_fixes(archive: *const u8, archive_len: usize, set: u32, dimension: u32) -> u64;
+    fn cube_share_fee(archive: *const u8, archive_len: usize, fee: u32, set: u32, out: *mut u8, out_len: usize) -> u64;
 }
 
 const STOP: u64 = 1 << 63;
@@ -28,7 +29,7 @@ fn split(answer: u64) -> Result<u64, Stop> {
         return Ok(answer);
     }
     let stop = answer - STOP;
-    assert!((1..=16).contains(&stop), "the stop {stop} is none of the documents'");
+    assert!(matches!(stop, 1..=16 | 23 | 24), "the stop {stop} is none of documents 01 and 02");
     Err(stop as Stop)
 }
 
@@ -132,5 +133,11 @@ impl Calls for Library {
         let answer = split(unsafe { cube_fixes(archive.as_ptr(), archive.len(), set, dimension) })?;
         assert!(answer < 2, "{answer}: a set fixes a dimension (1) or does not (0)");
         Ok(answer == 1)
+    }
+
+    fn share_fee(&self, archive: &[u8], fee: u32, set: u32, out: &mut [u8]) -> Result<usize, Stop> {
+        // SAFETY: both are slices, and apart.
+        let answer = unsafe { cube_share_fee(archive.as_ptr(), archive.len(), fee, set, out.as_mut_ptr(), out.len()) };
+        Ok(split(answer)? as usize)
     }
 }

@@ -1,6 +1,7 @@
 //! A naive model of the calls and the two programs, written from documents 01 and 02 alone: the definitions in `cube` and `keys`, the stops in
 //! checking order in `fields` and here, what the programs print in `listing` and `programs`.
 pub mod cube;
+pub mod fees;
 pub mod fields;
 pub mod keys;
 mod listing;
@@ -113,5 +114,19 @@ impl Accepted {
             return Err(16);
         }
         Ok(keys::fixes(&self.rows, set, dimension as usize))
+    }
+
+    /// The number of cells of a set, then each cell's cents of a fee. The last four bytes of a listed cell are its count.
+    pub fn share_fee(&self, fee: u32, set: u32) -> Result<Vec<u8>, Stop> {
+        let listed = self.list_cuboid(set)?;
+        if fee > 1_000_000_000 {
+            return Err(23);
+        }
+        if self.rows.is_empty() {
+            return Err(24);
+        }
+        let count = |cell: &[u8]| u32::from_le_bytes(cell[cell.len() - 4..].try_into().unwrap());
+        let cents = fees::shares(fee, &listed[4..].chunks_exact(4 * self.dims() + 12).map(count).collect::<Vec<_>>());
+        Ok([cents.len() as u32].iter().chain(&cents).flat_map(|field| field.to_le_bytes()).collect())
     }
 }

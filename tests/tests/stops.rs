@@ -107,6 +107,8 @@ fn the_file_comes_before_the_question_and_the_output() {
             assert_eq!(calls.smallest_keys(s, &mut lent), Err(stop), "{name}, keys: {}", case.name);
             assert_eq!(calls.fixes(s, 256, 0), Err(stop), "{name}, fixes: {}", case.name);
             assert_eq!(calls.fixes(s, 0, 1), Err(stop), "{name}, fixes: {}", case.name);
+            assert_eq!(calls.share_fee(s, u32::MAX, 256, &mut []), Err(stop), "{name}, share a fee: {}", case.name);
+            assert_eq!(calls.share_fee(s, 0, 0, &mut lent), Err(stop), "{name}, share a fee: {}", case.name);
             assert_eq!(lent, [7; 64], "{name}: {}", case.name);
         }
     }

@@ -1,55 +1,28 @@
 -- The base rows of a table within its limits are within the limits of an archive.
-use mathlib.Core.Path.{_≡_, refl, ap, subst, _∙_}
-use mathlib.Core.Bool.{Bool, true}
-use mathlib.Core.List.{List, [], _∷_, foldl, List·Memᴰ·head, List·Memᴰ·tail, Memᴰ·map, Memᴰ·of-map}
-use Prim.Native.Nat.{ℕ, zero, suc, _+_, _≤_}
-use native.Mathlib.Nat.{zero-add}
+use mathlib.Core.Path.{_≡_, refl, ap, subst}
+use mathlib.Core.List.{List, [], _∷_, List·Memᴰ·head, List·Memᴰ·tail, Memᴰ·map, Memᴰ·of-map}
+use Prim.Native.Nat.{ℕ, _≤_}
 use native.Mathlib.Omega.{arith}
-use lib.ListN.{length}
+use lib.ListN.{length, replicate}
 use Rattle.lists.specs.Lists.{_∈_, keep}
 use Rattle.lists.specs.Order.{same}
 use Rattle.lists.proofs.Order.{same-refl}
 use Rattle.lists.proofs.Members.{keep-in, keep-of}
 use Rattle.walk.specs.Limits.{Below}
 use Rattle.cube.specs.declared.Total.{Total}
-use Rattle.cube.specs.Measure.{Row, plus, nothing, sums, totalOf}
-use Rattle.cube.specs.Codes.{ALL, Coded, falls, plain}
+use Rattle.cube.specs.Measure.{Row, sums, totalOf}
+use Rattle.cube.specs.Codes.{ALL, plain}
 use Rattle.cube.specs.Cube.{total}
 use Rattle.cube.specs.Bounds.{most, countOf}
 use Rattle.cube.specs.Table.{Table}
 use Rattle.cube.proofs.Folding.{folded-few}
+use Rattle.cube.proofs.Readings.{count-total, count-whole}
 use Rattle.cube.proofs.Promises.{base-order, base-codes, base-totals, base-rows, base-total}
 use Rattle.walk.proofs.Limits.{below-coded}
 use Rattle.table.specs.Layout.{Records, Reads, TableLimits}
 use Rattle.table.specs.Reading.{baseRows}
 use Rattle.entries.specs.Layout.{Fair, Limits}
 use Rattle.build.proofs.Made.{readings-make}
-
--- ---- the total of all rows, by the cell in which all fall
-
-abbrev alls : ℕ → List ℕ
-alls zero = []
-alls (suc d) = ALL ∷ alls d
-
-falls-alls : (d : ℕ) (x : List ℕ) → Coded d x → falls (alls d) x ≡ true
-falls-alls zero [] h = refl
-falls-alls zero (a ∷ x) h = absurd h
-falls-alls (suc d) [] h = absurd h
-falls-alls (suc d) (a ∷ x) h = falls-alls d x (h .1)
-
-keep-all : {A : Type 0} (p : A → Bool) (l : List A) → ((x : A) → x ∈ l → p x ≡ true) → keep p l ≡ l
-keep-all p [] h = refl
-keep-all p (x ∷ l) h = rw (h x (List·Memᴰ·head refl)) (ap (λ (m : List _). x ∷ m) (keep-all p l (λ y m. h y (List·Memᴰ·tail m))))
-
-count-from : (t : Total) (rows : List (Row Total)) → foldl (λ u r. plus u (r .total)) t rows .count ≡ t .count + countOf rows
-count-from t [] = omega arith
-count-from t (r ∷ rows) = omega (arith, count-from (plus t (r .total)) rows)
-
-count-total : (d : ℕ) (rows : List (Row Total)) → ((r : Row Total) → r ∈ rows → Coded d (r .codes)) → total (plain d) sums rows (alls d) .count ≡ countOf rows
-unfolding total
-count-total d rows h =
-    ap (λ (l : List (Row Total)). totalOf sums l .count) (keep-all (λ r. falls (alls d) (r .codes)) rows (λ r m. falls-alls d (r .codes) (h r m)))
-    ∙ count-from nothing rows ∙ zero-add (countOf rows)
 
 count-ones : (rows : List (Row Total)) → ((r : Row Total) → r ∈ rows → r .total .count ≡ 1) → countOf rows ≡ length rows
 count-ones [] h = refl
@@ -64,13 +37,13 @@ module _ (t : Records) (l : TableLimits t) where
 
   folded-counts : countOf (baseRows t) ≤ most
   folded-counts =
-      let b : total (plain d) sums (baseRows t) (alls d) .count ≡ countOf (baseRows t) =
-      count-total d (baseRows t) (λ r m. base-rows d (t .rows) table-rows .valid (r .codes) (Memᴰ·map (λ q. q .codes) m)) in
+      let b : total (plain d) sums (baseRows t) (replicate d ALL) .count ≡ countOf (baseRows t) =
+      count-whole d (baseRows t) (λ r m. base-rows d (t .rows) table-rows .valid (r .codes) (Memᴰ·map (λ q. q .codes) m)) in
       omega (
         arith,
         b,
-        ap (λ (u : Total). u .count) (base-total d (t .rows) table-rows (alls d)),
-        count-total d (t .rows) table-rows,
+        ap (λ (u : Total). u .count) (base-total d (t .rows) table-rows (replicate d ALL)),
+        count-whole d (t .rows) table-rows,
         count-ones (t .rows) (λ r m. l .each r m .once),
         l .few,
       )
@@ -96,7 +69,7 @@ module _ (t : Records) (l : TableLimits t) where
         let f = found in
         let i : f .0 ∈ same-rows = keep-of (λ q. same (r .codes) (q .codes)) (f .1) (rw (f .2) (same-refl (r .codes))) in record {
           below = subst (Below (t .sizes)) (f .2) (l .each (f .0) (f .1) .below);
-          counted = omega (arith, ap (λ (u : Total). u .count) e, count-from nothing same-rows, some-counted same-rows i (reads (f .0) i .once));
+          counted = omega (arith, ap (λ (u : Total). u .count) e, count-total same-rows, some-counted same-rows i (reads (f .0) i .once));
           made = rw e (readings-make same-rows (λ q j. (reads q j .reading, reads q j .once)));
         }
 

@@ -20,6 +20,7 @@ pub mod Folding
 pub mod Reordering
 pub mod Complete
 pub mod Rolling
+pub mod Readings
 pub mod Antichain
 pub mod Keys
 pub mod Promises

@@ -10,6 +10,7 @@ ghost use Rattle.calls.specs.Calls.{builds, checks, listsCuboid, expands, looks
 ghost use Rattle.calls.specs.Numbers.{writtenNumber, checkedNumber, foundNumber, sumLeft, countLeft, entryLeft};
 ghost use Rattle.keys.specs.Calls.{listsKeys, tellsFixed};
 ghost use Rattle.keys.specs.Numbers.{fixedNumber};
+ghost use Rattle.fee_call.specs.Fees.{sharesFee};
 
 // The number of a call that writes an output.
 fn number(answer: Written) -> u64
@@ -107,4 +108,13 @@ pub extern "C" fn cube_fixes(archive: &[u8], set: u32, dimension: u32) -> u64
         Fixed::No => 0,
         Fixed::Stop(n) => 0x8000_0000_0000_0000 + n as u64,
     }
+}
+
+// Shares a fee in cents over the cells of a set: the length written.
+#[no_mangle]
+pub extern "C" fn cube_share_fee(archive: &[u8], fee: u32, set: u32, out: &mut [u8]) -> u64
+    ensures { λ r. ⌜ r ≡ writtenNumber (answerOf (within (length (now (out .entry))) (sharesFee (now (archive .entry)) fee set))) ⌝ }
+    ensures { λ _. ⌜ now (out .exit) ≡ leftOf (within (length (now (out .entry))) (sharesFee (now (archive .entry)) fee set)) (now (out .entry)) ⌝ }
+{
+    number(fee_call::share_fee(archive, fee, set, out))
 }

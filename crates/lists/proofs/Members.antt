@@ -60,6 +60,10 @@ module _ {A : Type 0} where
   keep-length p (x ∷ l) = cases (truth (p x)) (λ e. rw e (omega (arith, keep-length p l))) (λ e. rw e (omega (arith, keep-length p l)))
 
   -- tests that agree on the members keep the same
+  pub keep-all : (p : A → Bool) (l : List A) → ((x : A) → x ∈ l → p x ≡ true) → keep p l ≡ l
+  keep-all p [] h = refl
+  keep-all p (x ∷ l) h = rw (h x (List·Memᴰ·head refl)) (ap (λ (m : List A). x ∷ m) (keep-all p l (λ y m. h y (List·Memᴰ·tail m))))
+
   pub keep-same : (p q : A → Bool) (l : List A) → ((x : A) → x ∈ l → p x ≡ q x) → keep p l ≡ keep q l
   keep-same p q [] h = refl
   keep-same p q (x ∷ l) h = ap₂ (λ (b : Bool) (k : List A). only b x k) (h x (List·Memᴰ·head refl)) (keep-same p q l (λ y m. h y (List·Memᴰ·tail m)))

@@ -9,10 +9,11 @@
 --   Distinct l      no member occurs twice
 --   below n         the numbers below n, falling
 --   joined ls       the lists ls, one behind the other
+--   sum l           the total of numbers
 use mathlib.Core.Logic.{_≢_}
 use mathlib.Core.Bool.{Bool, true, false, _&&_, _||_}
 use mathlib.Core.List.{List, [], _∷_, flatMap, List·Memᴰ}
-use Prim.Native.Nat.{ℕ, zero, suc}
+use Prim.Native.Nat.{ℕ, zero, suc, _+_}
 
 infix 50 _∈_
 abbrev pub _∈_ : {A : Type 0} → A → List A → Type 0
@@ -48,3 +49,7 @@ below (suc n) = n ∷ below n
 
 abbrev pub joined : {A : Type 0} → List (List A) → List A
 joined ls = flatMap (λ l. l) ls
+
+abbrev pub sum : List ℕ → ℕ
+sum [] = 0
+sum (n ∷ l) = n + sum l

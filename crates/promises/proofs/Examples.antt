@@ -33,6 +33,9 @@ use Rattle.cube.specs.Keys.{key, leastKeys, fixes}
 use Rattle.keys.specs.declared.Fixed.the-variants.{Yes, No, Stop}
 use Rattle.keys.specs.Calls.{listsKeys, tellsFixed}
 use Rattle.calls.specs.Calls.{builds, checks, listsCuboid, expands, entriesIn, told, looksUp}
+use Rattle.fees.specs.Shares.{left, shares}
+use Rattle.fee_list.specs.Listed.{feeBytes}
+use Rattle.fee_call.specs.Fees.{weights, sharesFee}
 
 -- what an example says of the bytes: the archive's length and check word, its entries, how long its expansion is, and answers to questions; a refusal is none of these
 pub record Told : Type 0 where
@@ -158,3 +161,17 @@ none = tableBytes (record { sizes = 2 ∷ 1 ∷ []; rows = [] })
 pub repeated-keys : map (λ s. listsKeys (bytesOf (builds s))) (repeated ∷ one ∷ none ∷ []) ≡ bytes (listBytes (1 ∷ [])) ∷ bytes (listBytes (0 ∷ [])) ∷ bytes (listBytes (0 ∷ [])) ∷ []
 unfolding listsKeys listBytes leastKeys key builds readTable body row reading readingAt tableBytes folded readArchive walkArchive header field word sum sumAt room many codes rising fair amount list entry bases entries cell cells close wordAt checkOf words archiveBytes required layout baseBytes cellBytes listed single canMake normals common shared proper cuboid existing total grouped cellsOf sets ones onesIn wordsBytes flatMap
 repeated-keys = refl
+
+-- ---- C-22: a fee over the cells of the five rows' second dimension, whose counts are 2, 1 and 2
+
+pub five-shared : map (sharesFee (bytesOf (builds five)) 101) (2 ∷ 8 ∷ []) ≡ bytes (wordsBytes (3 ∷ 41 ∷ 20 ∷ 40 ∷ [])) ∷ stopped 14 ∷ []
+unfolding sharesFee weights feeBytes listBytes shares left builds readTable body row reading readingAt tableBytes folded readArchive walkArchive header field word sum sumAt room many codes rising fair amount list entry bases entries cell cells close wordAt checkOf words archiveBytes required layout baseBytes cellBytes listed single canMake normals common shared proper cuboid existing total grouped cellsOf sets ones onesIn wordsBytes flatMap
+five-shared = refl
+
+-- no rows: there is a cell, yet nothing to share by; 14 before 23 before 24
+abbrev no-rows : List ℕ
+no-rows = bytesOf (builds (tableBytes (record { sizes = 1 ∷ []; rows = [] })))
+
+pub empty-shared : sharesFee no-rows 5 0 ∷ sharesFee no-rows 1000000001 0 ∷ sharesFee no-rows 1000000001 2 ∷ [] ≡ stopped 24 ∷ stopped 23 ∷ stopped 14 ∷ []
+unfolding sharesFee builds readTable body row reading readingAt tableBytes folded readArchive walkArchive header field word sum sumAt room many codes rising fair amount list entry bases entries cell cells close wordAt checkOf words archiveBytes required layout baseBytes cellBytes listed single canMake normals common shared proper cuboid existing total grouped cellsOf sets ones onesIn wordsBytes flatMap
+empty-shared = refl

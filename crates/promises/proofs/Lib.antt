@@ -3,5 +3,6 @@ pub mod Promises
 pub mod Empty
 pub mod Keys
 pub mod Room
+pub mod Fees
 pub mod Examples
 pub mod Numbers

@@ -1,12 +1,12 @@
 -- Outputs that are always enough: no result is longer than its room, so no call that is lent as much stops with 15.
 use mathlib.Core.Path.{_≡_, ap}
 use mathlib.Core.List.{List, [], _∷_, map, flatMap, Memᴰ·map}
-use Prim.Native.Nat.{ℕ, zero, suc, _+_, _-_, _*_, _^_, _≤_}
+use Prim.Native.Nat.{ℕ, zero, suc, _+_, _-_, _*_, _^_, _≤_, _<_}
 use native.Mathlib.Nat.{le-refl, le-trans, add-le-add, mul-le-mul-right}
 use native.Mathlib.Omega.{arith}
-use lib.Dec.{ltb}
+use lib.Dec.{leb, ltb}
 use lib.ListN.{length, length-map}
-use borrow.Author.Tests.{le-leb}
+use borrow.Author.Tests.{le-leb, ltb-true}
 use Rattle.lists.proofs.Tests.{cases, truth}
 use Rattle.lists.proofs.Members.{flat-length}
 use Rattle.lattice.specs.Sets.{sets}
@@ -39,7 +39,10 @@ use Rattle.calls.specs.Calls.{builds, dims, listsCuboid, expands}
 use Rattle.build.proofs.Folded.{folded-within}
 use Rattle.keys.specs.Calls.{listsKeys}
 use Rattle.keys.proofs.Promises.{keys-listed, keys-short}
-use Rattle.promises.specs.Room.{atLeast1, cuboidRoom, expansionRoom, archiveRoom, keysRoom}
+use Rattle.fee_list.specs.Listed.{feeBytes}
+use Rattle.fee_list.proofs.Listed.{fee-length}
+use Rattle.fee_call.specs.Fees.{countIn, weights, sharesFee}
+use Rattle.promises.specs.Room.{atLeast1, cuboidRoom, expansionRoom, archiveRoom, keysRoom, feeRoom}
 use Rattle.promises.proofs.Promises.{built}
 
 pub coded : (zs : List ℕ) (rows : List (Row Total)) → Limits zs rows → Rows (length zs) rows
@@ -96,6 +99,18 @@ archive-room zs rows l =
 pub built-room : (t : Records) → TableLimits t → length (archiveBytes (t .sizes) (baseRows t)) ≤ archiveRoom (length (t .sizes)) (length (t .rows))
 built-room t l = le-trans (archive-room (t .sizes) (baseRows t) (folded-within t l)) (add-le-add (le-refl _) (mul-le-mul-right _ (least-mono _ _ (folded-few sums (length (t .sizes)) (t .rows)))))
 
+-- as many shares as cells, and with a base row no more cells than base rows
+weights-length : (d : ℕ) (rows : List (Row Total)) (set : ℕ) → length (weights d rows set) ≡ length (cells (plain d) sums rows set)
+unfolding weights
+weights-length d rows set = length-map (cells (plain d) sums rows set) countIn
+
+pub weights-few : (d : ℕ) (rows : List (Row Total)) (set : ℕ) → 0 < length rows → length (weights d rows set) ≤ length rows
+weights-few d [] set h = absurd (omega arith)
+weights-few d (r ∷ rows) set h = omega (arith, weights-length d (r ∷ rows) set, cells-few d (r ∷ rows) set)
+
+pub fee-room : (d : ℕ) (rows : List (Row Total)) (fee set : ℕ) → 0 < length rows → length (feeBytes fee (weights d rows set)) ≤ feeRoom (length rows)
+fee-room d rows fee set h = omega (arith, fee-length fee (weights d rows set), weights-few d rows set h)
+
 -- ---- the calls
 
 enough : (xs : List ℕ) (k : ℕ) → length xs ≤ k → within k (bytes xs) ≡ bytes xs
@@ -127,3 +142,20 @@ module _ (s : List ℕ) (a : Held) (b : Bytes s) (e : readArchive s ≡ got a []
   -- of any archive
   pub keys-enough : keysRoom ≤ k → within k (listsKeys s) ≡ listsKeys s
   keys-enough h = rw (keys-listed s a b e) (enough _ k (le-trans (keys-short s a [] b e) h))
+
+  fee-fits : (fee set : ℕ) → (0 < length (rowsIn a) → length (feeBytes fee (weights (dims a) (rowsIn a) set)) ≤ k) → within k (sharesFee s fee set) ≡ sharesFee s fee set
+  unfolding sharesFee
+  fee-fits fee set f = cases (truth (ltb set (2 ^ dims a)))
+      (λ x. cases (truth (leb fee 1000000000))
+      (λ y. cases (truth (ltb 0 (length (rowsIn a))))
+      (λ z. rw (e, x, y, z) (enough (feeBytes fee (weights (dims a) (rowsIn a) set)) k (f (ltb-true 0 (length (rowsIn a)) z))))
+      (λ z. rw (e, x, y, z)))
+      (λ y. rw (e, x, y)))
+      (λ x. rw (e, x))
+
+  -- by the base count, or by the number of cells
+  pub fee-enough : (fee set : ℕ) → feeRoom (length (a .bases)) ≤ k → within k (sharesFee s fee set) ≡ sharesFee s fee set
+  fee-enough fee set h = fee-fits fee set (λ n. omega (arith, h, length-map (a .bases) (λ q. q .row), fee-room (dims a) (rowsIn a) fee set n))
+
+  pub fee-just-enough : (fee set : ℕ) → feeRoom (length (cells (plain (dims a)) sums (rowsIn a) set)) ≤ k → within k (sharesFee s fee set) ≡ sharesFee s fee set
+  fee-just-enough fee set h = fee-fits fee set (λ n. omega (arith, h, fee-length fee (weights (dims a) (rowsIn a) set), weights-length (dims a) (rowsIn a) set))

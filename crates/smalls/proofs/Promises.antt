@@ -4,11 +4,11 @@ use mathlib.Core.Logic.{_↔_}
 use mathlib.Core.List.{List, map}
 use Prim.Native.Nat.{ℕ, _^_, _<_}
 use lib.ListN.{length}
-use Rattle.lists.specs.Lists.{_∈_, Pairwise, Distinct}
+use Rattle.lists.specs.Lists.{_∈_, Pairwise, Distinct, sum}
 use Rattle.cube.specs.declared.Total.{Total}
 use Rattle.cube.specs.Measure.{Row}
 use Rattle.smalls.specs.Small.{tables, Small}
-use Rattle.smalls.specs.Tally.{entries, having, tally, sum, occurring}
+use Rattle.smalls.specs.Tally.{entries, having, tally, occurring}
 use Rattle.smalls.proofs.Tables as every
 use Rattle.smalls.proofs.Tally as tallies
 

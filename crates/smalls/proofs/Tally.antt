@@ -10,7 +10,7 @@ use lib.Dec.{eqb, ltb}
 use lib.ListN.{length, length-append, length-map}
 use lib.Pow.{pow-pos}
 use borrow.Author.Tests.{eqb-true, eq-eqb, ltb-true, ltb-false, lt-ltb}
-use Rattle.lists.specs.Lists.{_∈_, keep, Pairwise, Distinct}
+use Rattle.lists.specs.Lists.{_∈_, keep, Pairwise, Distinct, sum}
 use Rattle.lists.specs.Order.{Rising, earlier, same}
 use Rattle.lists.proofs.Tests.{cases, truth}
 use Rattle.lists.proofs.Members.{keep-in, keep-of, flat-length}
@@ -31,7 +31,7 @@ use Rattle.cube.proofs.Normals.{normals-most}
 use Rattle.cube.proofs.Regroup.{fill}
 use Rattle.cube.proofs.Folding.{folded-few, folded-rising, folded-in, folded-total}
 use Rattle.smalls.specs.Small.{upTo, row, codesAt, table, tables, Small}
-use Rattle.smalls.specs.Tally.{entries, has, having, tally, mostEntries, sum, occurs, occurring}
+use Rattle.smalls.specs.Tally.{entries, has, having, tally, mostEntries, occurs, occurring}
 use Rattle.smalls.proofs.Numbers.{upTo-of, from-rising}
 use Rattle.smalls.proofs.Tables.{codes-few, tables-in, small-in, tables-distinct, tables-length}
 

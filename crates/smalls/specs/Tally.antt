@@ -5,7 +5,6 @@
 --   having d n          the small tables with n entries
 --   tally d n           how many there are
 --   mostEntries d       no small table has more entries
---   sum l               the total of numbers
 --   occurs d n          there is a small table with n entries
 --   occurring d         the numbers of entries that occur, rising
 --   fields d            what is printed for d: d, then each number of entries that occurs with its tally
@@ -36,10 +35,6 @@ tally d n = length (having d n)
 
 abbrev pub mostEntries : ℕ → ℕ
 mostEntries d = 2 ^ d + 2 ^ d * 2 ^ d
-
-abbrev pub sum : List ℕ → ℕ
-sum [] = 0
-sum (n ∷ l) = n + sum l
 
 abbrev pub occurs : ℕ → ℕ → Bool
 occurs d n = ltb 0 (tally d n)

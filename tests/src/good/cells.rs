@@ -43,3 +43,11 @@ pub fn write_cuboid(rows: &Rows, set: usize, cells: usize, sorter: &mut Sorter, 
         place.copy_from_slice(&cell(rows.dims, rows.keys[row(group[0])] | all, rows.total(group))[..width]);
     }
 }
+
+/// The counts of a set's cells, by codes.
+pub fn counts(rows: &Rows, set: usize) -> Vec<u32> {
+    if set == rows.full() {
+        return rows.totals.iter().map(|total| total.1).collect();
+    }
+    Sorter::default().groups(&rows.keys, set, 0..rows.len()).map(|group| rows.total(group).1).collect()
+}
