@@ -117,7 +117,7 @@ fn agree(call: usize, inputs: &Inputs, out: &mut [u8]) {
 }
 
 fn line(name: &str, inputs: &Inputs, calls: Range<usize>, out: &mut [u8], repeat: u32) -> String {
-    let mut line = format!("{name:15}");
+    let mut line = format!("{name:24}");
     for call in calls {
         agree(call, inputs, out);
         let subjects = subjects();
@@ -160,7 +160,7 @@ fn main() {
     let kinds = kinds(&mut Random::seeded(7)).into_iter().map(|(name, rows)| (name, Inputs::of(&rows, &mut out))).collect::<Vec<_>>();
     println!("1,024 rows, D 8: milliseconds of the library and of good, and library / good");
     for calls in [0..3, 3..6, 6..9] {
-        println!("{:15}{}", "", CALLS[calls.clone()].iter().map(|(name, _)| format!("{name:>26}")).collect::<String>());
+        println!("{:24}{}", "", CALLS[calls.clone()].iter().map(|(name, _)| format!("{name:>26}")).collect::<String>());
         for (name, inputs) in &kinds {
             println!("{}", line(name, inputs, calls.clone(), &mut out, repeat));
         }
