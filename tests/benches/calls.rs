@@ -1,8 +1,8 @@
 //! Times of the calls on tables of 1,024 rows with eight dimensions, for the library and for `good`, in one run.
 //! `wrong check word` is `build` on the table with another check word: every field walked, every word summed, then stop 11.
 //! The growth of the times: the table of codes below 32 cut to fewer rows, or to fewer dimensions.
-//! The last line is the check word alone: `check` on a file of 3.4 MB, of which it walks the first fields only and sums every word, then stop 11.
-//! Best of CUBE_REPEAT repetitions (5 if it is not set), or of as many as 80 ms for each of them allow; the last line of 200 at least.
+//! The last lines are the check word alone: `check` on files of up to 3.4 MB, of which it walks the first fields only and sums every word, then stop 11.
+//! Best of CUBE_REPEAT repetitions (5 if it is not set), or of as many as 80 ms for each of them allow; the last lines of 200 at least.
 use calls::calls::{Calls, Stop};
 use calls::compare::subjects;
 use calls::good::Good;
@@ -149,9 +149,8 @@ fn check_word_by_bytes(s: &[u8]) -> u32 {
     s.iter().enumerate().fold(0, |sum: u32, (i, &byte)| sum.wrapping_add((byte as u32) << (8 * (i % 4))))
 }
 
-/// An archive of 3.4 MB with no base entry, normal entries of any words, and another check word.
-fn refused_archive(random: &mut Random) -> Vec<u8> {
-    let entries = 77_272;
+/// An archive with no base entry, so many normal entries of any words, and another check word.
+fn refused_archive(entries: u32, random: &mut Random) -> Vec<u8> {
     let words: Vec<u32> = (0..11 * entries).map(|_| random.draw() as u32).collect();
     miswritten(File::archive().head(&SIZES, 0).word(entries).words(&words).closed())
 }
@@ -177,7 +176,8 @@ fn check_word_line(archive: &[u8], turns: u32) -> String {
         }
     }
     let [library, words, bytes] = bests.map(|best| best.as_secs_f64() * 1e3);
-    format!("{library:.4}, {words:.4} and {bytes:.4}; library / words {:.3}, library / bytes {:.3}", library / words, library / bytes)
+    let length = format!("{} bytes", archive.len());
+    format!("{length:24}{library:>10.4}{words:>9.4}{bytes:>9.4}{:>7.3}{:>7.3}", library / words, library / bytes)
 }
 
 fn main() {
@@ -202,7 +202,9 @@ fn main() {
             println!("{}", line(&format!("{count} rows, D {dims}"), &inputs, calls, &mut out, repeat));
         }
     }
-    let archive = refused_archive(&mut Random::seeded(8));
-    println!("Check word of {} bytes: milliseconds of the library, of good and of a sum byte by byte", archive.len());
-    println!("{}", check_word_line(&archive, repeat.max(200)));
+    println!("Check word: milliseconds of the library, of good and of a sum byte by byte, library / good and library / bytes");
+    let mut random = Random::seeded(8);
+    for entries in [20_000, 40_000, 77_272] {
+        println!("{}", check_word_line(&refused_archive(entries, &mut random), repeat.max(200)));
+    }
 }
