@@ -1,7 +1,8 @@
 //! Times of the calls on tables of 1,024 rows with eight dimensions, for the library and for `good`, in one run.
 //! `wrong check word` is `build` on the table with another check word: every field walked, every word summed, then stop 11.
-//! The last line is the check word alone: `check` on a file of 3.4 MB, of which it walks the first fields only and sums every word, then stop 11.
-//! Best of CUBE_REPEAT repetitions (5 if it is not set), or of as many as 80 ms for each of them allow.
+//! The growth of the times: the table of codes below 32 cut to fewer rows, or to fewer dimensions.
+//! The last lines are the check word alone: `check` on files of up to 3.4 MB, of which it walks the first fields only and sums every word, then stop 11.
+//! Best of CUBE_REPEAT repetitions (5 if it is not set), or of as many as 80 ms for each of them allow; the last lines of 200 at least.
 use calls::calls::{Calls, Stop};
 use calls::compare::subjects;
 use calls::good::Good;
@@ -11,7 +12,6 @@ use calls::model::cube;
 use calls::random::Random;
 use calls::write::{check_word, table_bytes, File};
 use std::hint::black_box;
-use std::ops::Range;
 use std::time::{Duration, Instant};
 
 /// The columns, and the stop that a column's call ends with, if it has one.
@@ -36,12 +36,16 @@ const DIMENSION: u32 = 8;
 /// The fee, which leaves cents over the rounded-down proportions.
 const FEE: u32 = 999_999_937;
 
+/// The calls whose growth is shown, by lines of the output.
+const GROWING: [&[usize]; 2] = [&[0, 2, 3], &[4, 5]];
+
 /// What the calls take of one table.
 struct Inputs {
     table: Vec<u8>,
     /// The table with another check word.
     refused: Vec<u8>,
     archive: Vec<u8>,
+    set: u32,
     question: Vec<u32>,
 }
 
@@ -53,26 +57,34 @@ fn miswritten(mut file: Vec<u8>) -> Vec<u8> {
 
 impl Inputs {
     fn of(rows: &[(Vec<u32>, i32)], out: &mut [u8]) -> Inputs {
-        let table = table_bytes(&SIZES, rows);
+        let codes = &rows[rows.len() / 2].0;
+        let table = table_bytes(&SIZES[..codes.len()], rows);
         let refused = miswritten(table.clone());
         let length = Good.build(&table, out).unwrap();
-        Inputs { table, refused, archive: out[..length].to_vec(), question: cube::cell(&rows[500].0, SET) }
+        let set = SET % (1 << codes.len());
+        Inputs { table, refused, archive: out[..length].to_vec(), set, question: cube::cell(codes, set) }
+    }
+
+    /// Those of the first rows and dimensions alone.
+    fn of_part(rows: &[(Vec<u32>, i32)], count: usize, dims: usize, out: &mut [u8]) -> Inputs {
+        let part: Vec<_> = rows[..count].iter().map(|(codes, reading)| (codes[..dims].to_vec(), *reading)).collect();
+        Inputs::of(&part, out)
     }
 }
 
 /// One of the calls. What it returns, as words.
 fn run(calls: &dyn Calls, call: usize, inputs: &Inputs, out: &mut [u8]) -> Result<[u64; 3], Stop> {
-    let Inputs { table, refused, archive, question } = black_box(inputs);
+    let Inputs { table, refused, archive, set, question } = black_box(inputs);
     match call {
         0 => calls.build(table, out).map(|length| [length as u64, 0, 0]),
         1 => calls.build(refused, out).map(|length| [length as u64, 0, 0]),
         2 => calls.check(archive).map(|(bases, normals)| [bases as u64, normals as u64, 0]),
         3 => calls.look_up(archive, question).map(|found| found.map_or([u64::MAX; 3], |f| [f.sum as u64, f.count as u64, f.entry as u64])),
-        4 => calls.list_cuboid(archive, SET, out).map(|length| [length as u64, 0, 0]),
+        4 => calls.list_cuboid(archive, *set, out).map(|length| [length as u64, 0, 0]),
         5 => calls.expand(archive, out).map(|length| [length as u64, 0, 0]),
         6 => calls.smallest_keys(archive, out).map(|length| [length as u64, 0, 0]),
-        7 => calls.fixes(archive, SET, DIMENSION).map(|fixes| [fixes as u64, 0, 0]),
-        _ => calls.share_fee(archive, FEE, SET, out).map(|length| [length as u64, 0, 0]),
+        7 => calls.fixes(archive, *set, DIMENSION).map(|fixes| [fixes as u64, 0, 0]),
+        _ => calls.share_fee(archive, FEE, *set, out).map(|length| [length as u64, 0, 0]),
     }
 }
 
@@ -116,9 +128,13 @@ fn agree(call: usize, inputs: &Inputs, out: &mut [u8]) {
     assert!(results.all(|other| other == first), "the results of {name} differ");
 }
 
-fn line(name: &str, inputs: &Inputs, calls: Range<usize>, out: &mut [u8], repeat: u32) -> String {
-    let mut line = format!("{name:15}");
-    for call in calls {
+fn head(calls: &[usize]) -> String {
+    format!("{:24}", "") + &calls.iter().map(|&call| format!("{:>26}", CALLS[call].0)).collect::<String>()
+}
+
+fn line(name: &str, inputs: &Inputs, calls: &[usize], out: &mut [u8], repeat: u32) -> String {
+    let mut line = format!("{name:24}");
+    for &call in calls {
         agree(call, inputs, out);
         let subjects = subjects();
         let ms = best(subjects.len(), repeat, |i| run(subjects[i].1, call, inputs, out));
@@ -133,39 +149,62 @@ fn check_word_by_bytes(s: &[u8]) -> u32 {
     s.iter().enumerate().fold(0, |sum: u32, (i, &byte)| sum.wrapping_add((byte as u32) << (8 * (i % 4))))
 }
 
-/// An archive of 3.4 MB with no base entry, normal entries of any words, and another check word.
-fn refused_archive(random: &mut Random) -> Vec<u8> {
-    let entries = 77_272;
+/// An archive with no base entry, so many normal entries of any words, and another check word.
+fn refused_archive(entries: u32, random: &mut Random) -> Vec<u8> {
     let words: Vec<u32> = (0..11 * entries).map(|_| random.draw() as u32).collect();
     miswritten(File::archive().head(&SIZES, 0).word(entries).words(&words).closed())
 }
 
-/// The check word through the library, by a plain loop over words, and byte by byte.
-fn check_word_line(archive: &[u8], repeat: u32) -> String {
+/// The check word through the library and through `good`, whose check has a plain loop over words, and byte by byte. The three go by
+/// turns; each runs once before it is timed, so that it finds the caches as it leaves them itself.
+fn check_word_line(archive: &[u8], turns: u32) -> String {
     let body = &archive[..archive.len() - 4];
-    assert_eq!(Library.check(archive), Err(11), "the stop of a wrong check word");
-    assert_eq!(check_word(body), check_word_by_bytes(body));
-    let ms = best(3, repeat, |way| match way {
+    let run = |way: usize| match way {
         0 => Library.check(black_box(archive)).unwrap_err(),
-        1 => check_word(black_box(body)),
+        1 => Good.check(black_box(archive)).unwrap_err(),
         _ => check_word_by_bytes(black_box(body)),
-    });
-    let (library, words, bytes) = (ms[0], ms[1], ms[2]);
-    format!("{library:.4}, {words:.4} and {bytes:.4}; library / words {:.2}, library / bytes {:.3}", library / words, library / bytes)
+    };
+    assert_eq!([run(0), run(1), run(2)], [11, 11, check_word(body)], "the stops of a wrong check word, and the check word");
+    let mut bests = [Duration::MAX; 3];
+    for _ in 0..turns {
+        for (way, best) in bests.iter_mut().enumerate() {
+            let once = || {
+                black_box(run(way));
+            };
+            once();
+            *best = time(1, once).min(*best);
+        }
+    }
+    let [library, words, bytes] = bests.map(|best| best.as_secs_f64() * 1e3);
+    let length = format!("{} bytes", archive.len());
+    format!("{length:24}{library:>10.4}{words:>9.4}{bytes:>9.4}{:>7.3}{:>7.3}", library / words, library / bytes)
 }
 
 fn main() {
     let repeat = std::env::var("CUBE_REPEAT").ok().and_then(|s| s.parse().ok()).unwrap_or(5);
     let mut out = vec![0; 256 * (4 + 1_024 * 44)];
-    let kinds = kinds(&mut Random::seeded(7)).into_iter().map(|(name, rows)| (name, Inputs::of(&rows, &mut out))).collect::<Vec<_>>();
+    let kinds = kinds(&mut Random::seeded(7));
+    let tables: Vec<_> = kinds.iter().map(|(name, rows)| (name, Inputs::of(rows, &mut out))).collect();
     println!("1,024 rows, D 8: milliseconds of the library and of good, and library / good");
-    for calls in [0..3, 3..6, 6..9] {
-        println!("{:15}{}", "", CALLS[calls.clone()].iter().map(|(name, _)| format!("{name:>26}")).collect::<String>());
-        for (name, inputs) in &kinds {
-            println!("{}", line(name, inputs, calls.clone(), &mut out, repeat));
+    for calls in [[0, 1, 2], [3, 4, 5], [6, 7, 8]] {
+        println!("{}", head(&calls));
+        for (name, inputs) in &tables {
+            println!("{}", line(name, inputs, &calls, &mut out, repeat));
         }
     }
-    let archive = refused_archive(&mut Random::seeded(8));
-    println!("Check word of {} bytes: milliseconds of the library, of a plain loop over words and of one over bytes", archive.len());
-    println!("{}", check_word_line(&archive, repeat));
+    let (name, rows) = &kinds[1];
+    println!("Growth with rows and with D, {name}: milliseconds of the library and of good, and library / good");
+    for calls in GROWING {
+        println!("{}", head(calls));
+        let by_rows = [64, 128, 256, 512, 1_024].map(|count| (count, 8));
+        for (count, dims) in by_rows.into_iter().chain((1..=8).map(|dims| (1_024, dims))) {
+            let inputs = Inputs::of_part(rows, count, dims, &mut out);
+            println!("{}", line(&format!("{count} rows, D {dims}"), &inputs, calls, &mut out, repeat));
+        }
+    }
+    println!("Check word: milliseconds of the library, of good and of a sum byte by byte, library / good and library / bytes");
+    let mut random = Random::seeded(8);
+    for entries in [20_000, 40_000, 77_272] {
+        println!("{}", check_word_line(&refused_archive(entries, &mut random), repeat.max(200)));
+    }
 }

@@ -1,18 +1,20 @@
-//! The calls as fast plain Rust: rows packed in one number each, sorted for each set, and a row left out of every set that holds one
-//! on which it is single. The times are held against it.
+//! The calls as fast plain Rust. The groups of rows that agree on a set come from those of the set without its last dimension, each
+//! sorted by that dimension's code; a row alone in its group is left out of every larger set. The times are held against it.
 mod cells;
+mod codes;
+mod columns;
 mod condense;
 mod fees;
 mod fixed;
-mod keys;
+mod groups;
 mod look_up;
 mod read;
 mod rows;
+mod split;
 mod write;
 
 use crate::calls::{Calls, Found, Stop};
 use condense::Condensed;
-use keys::Sorter;
 
 /// An archive that passed all checks.
 struct Checked<'a> {
@@ -22,21 +24,23 @@ struct Checked<'a> {
 
 impl<'a> Checked<'a> {
     fn open(archive: &'a [u8]) -> Result<Checked<'a>, Stop> {
+        Checked::with(archive, false)
+    }
+
+    /// With groups of one row if `all` are wanted.
+    fn with(archive: &'a [u8], all: bool) -> Result<Checked<'a>, Stop> {
         let read = read::archive(archive)?;
-        let condensed = Condensed::of(&read.rows);
+        let condensed = Condensed::of(&read.rows, all);
         let listed = |(bytes, list): (&&[u8], &condense::List)| {
             bytes.len() == 4 * list.sets().len() && bytes.chunks_exact(4).zip(list.sets()).all(|(w, &set)| read::le(w) == set as u32)
         };
-        if read.normals != condensed.normals || !read.lists.iter().zip(&condensed.lists).all(listed) {
+        let same = read.lists.iter().zip(&condensed.lists).all(listed)
+            && read.normals.len() == condensed.normals() * read.rows.width()
+            && cells::are_normals(&read.rows, &condensed, read.normals);
+        if !same {
             return Err(12);
         }
         Ok(Checked { read, condensed })
-    }
-
-    /// The length of a set's cuboid, and how many cells it has.
-    fn size(&self, set: usize) -> (usize, usize) {
-        let cells = self.condensed.cells(&self.read.rows, set);
-        (4 + cells * self.read.rows.width(), cells)
     }
 }
 
@@ -46,7 +50,7 @@ pub struct Good;
 impl Calls for Good {
     fn build(&self, table: &[u8], out: &mut [u8]) -> Result<usize, Stop> {
         let rows = read::table(table)?;
-        write::archive(&rows, &Condensed::of(&rows), out)
+        write::archive(&rows, &Condensed::of(&rows, false), out)
     }
 
     fn check(&self, archive: &[u8]) -> Result<(u32, u32), Stop> {
@@ -57,39 +61,37 @@ impl Calls for Good {
     fn look_up(&self, archive: &[u8], question: &[u32]) -> Result<Option<Found>, Stop> {
         let checked = Checked::open(archive)?;
         let rows = &checked.read.rows;
-        let (set, key) = look_up::question(&rows.sizes[..rows.dims], question)?;
-        Ok(look_up::normal(&checked, set, key).or_else(|| look_up::base(&checked, set, key)))
+        let (set, cell) = look_up::question(&rows.sizes[..rows.dims], question)?;
+        Ok(look_up::normal(&checked, set, &cell).or_else(|| look_up::base(&checked, set, &cell)))
     }
 
     fn list_cuboid(&self, archive: &[u8], set: u32, out: &mut [u8]) -> Result<usize, Stop> {
-        let checked = Checked::open(archive)?;
+        let Checked { read: read::Archive { rows, .. }, mut condensed } = Checked::open(archive)?;
         let set = set as usize;
-        if set > checked.read.rows.full() {
+        if set > rows.full() {
             return Err(14);
         }
-        let (length, cells) = checked.size(set);
-        let out = out.get_mut(..length).ok_or(15u32)?;
-        cells::write_cuboid(&checked.read.rows, set, cells, &mut Sorter::default(), out);
-        Ok(length)
+        let groups = condensed.all_groups(set);
+        let out = out.get_mut(..cells::length(&rows, set, &groups)).ok_or(15u32)?;
+        cells::write_cuboid(&rows, set, &groups, out);
+        Ok(out.len())
     }
 
     fn expand(&self, archive: &[u8], out: &mut [u8]) -> Result<usize, Stop> {
-        let checked = Checked::open(archive)?;
-        let rows = &checked.read.rows;
-        let length = keys::lattice(rows.dims).map(|set| checked.size(set).0).sum();
+        let Checked { read, condensed } = Checked::with(archive, true)?;
+        let length_of = |set: usize| cells::length(&read.rows, set, &condensed.groups[set]);
+        let length = codes::lattice(read.rows.dims).map(length_of).sum();
         let mut rest = out.get_mut(..length).ok_or(15u32)?;
-        let mut sorter = Sorter::default();
-        for set in keys::lattice(rows.dims) {
-            let (length, cells) = checked.size(set);
-            let (out, behind) = rest.split_at_mut(length);
-            cells::write_cuboid(rows, set, cells, &mut sorter, out);
+        for set in codes::lattice(read.rows.dims) {
+            let (out, behind) = rest.split_at_mut(length_of(set));
+            cells::write_cuboid(&read.rows, set, &condensed.groups[set], out);
             rest = behind;
         }
         Ok(length)
     }
 
     fn smallest_keys(&self, archive: &[u8], out: &mut [u8]) -> Result<usize, Stop> {
-        let keys = fixed::keys(&Checked::open(archive)?.read.rows);
+        let keys = fixed::keys(&Checked::open(archive)?);
         let length = 4 + 4 * keys.len();
         let out = out.get_mut(..length).ok_or(15u32)?;
         out[..4].copy_from_slice(&(keys.len() as u32).to_le_bytes());
@@ -108,12 +110,12 @@ impl Calls for Good {
         if !(1..=rows.dims).contains(&dimension) {
             return Err(16);
         }
-        Ok(fixed::fixes(rows, set, dimension - 1))
+        Ok(fixed::fixes(&checked, set, dimension - 1))
     }
 
     fn share_fee(&self, archive: &[u8], fee: u32, set: u32, out: &mut [u8]) -> Result<usize, Stop> {
-        let checked = Checked::open(archive)?;
-        let (rows, set) = (&checked.read.rows, set as usize);
+        let Checked { read: read::Archive { rows, .. }, mut condensed } = Checked::open(archive)?;
+        let set = set as usize;
         if set > rows.full() {
             return Err(14);
         }
@@ -123,9 +125,10 @@ impl Calls for Good {
         if rows.len() == 0 {
             return Err(24);
         }
-        let cells = checked.size(set).1;
-        let out = out.get_mut(..4 + 4 * cells).ok_or(15u32)?;
-        fees::write(fee, &cells::counts(rows, set), out);
+        let mut counts = Vec::new();
+        condensed.all_groups(set).each(&rows.totals, |_, _, total| counts.push(total.1));
+        let out = out.get_mut(..4 + 4 * counts.len()).ok_or(15u32)?;
+        fees::write(fee, &counts, out);
         Ok(out.len())
     }
 }

@@ -15,7 +15,11 @@ pub fn kinds(random: &mut Random) -> Vec<Kind> {
         ("codes below 3", codes_below(3, random)),
         ("codes below 2", codes_below(2, random)),
         ("clustered", clustered(random)),
-        ("far pairs", far_pairs(random)),
+        ("far pairs", far(2, random)),
+        ("far eights", far(8, random)),
+        ("one long dimension", one_long_dimension(random)),
+        ("grid 32 by 32", grid(random)),
+        ("four codes by seven twos", four_by_twos(random)),
     ]
 }
 
@@ -36,10 +40,29 @@ fn clustered(random: &mut Random) -> Vec<(Vec<u32>, i32)> {
     (0..ROWS).map(|_| row()).collect()
 }
 
-/// Each row has one partner, which differs in the first code alone and so stands 512 base rows behind it.
-fn far_pairs(random: &mut Random) -> Vec<(Vec<u32>, i32)> {
+/// Each row has partners, which differ in the first code alone and so stand as far behind each other as there are rows of one code.
+fn far(partners: usize, random: &mut Random) -> Vec<(Vec<u32>, i32)> {
     let mut rows = codes_below(65_535, random);
-    rows.truncate(ROWS / 2);
-    let side = |first: u32| rows.clone().into_iter().map(move |(codes, reading)| ([&[first], &codes[1..]].concat(), reading));
-    side(0).chain(side(1)).collect()
+    rows.truncate(ROWS / partners);
+    let side = |first: usize| rows.clone().into_iter().map(move |(codes, reading)| ([&[first as u32], &codes[1..]].concat(), reading));
+    (0..partners).flat_map(side).collect()
+}
+
+/// Each row has a code of its own in the fourth dimension, and codes below 2 in the others.
+fn one_long_dimension(random: &mut Random) -> Vec<(Vec<u32>, i32)> {
+    let mut rows = codes_below(2, random);
+    rows.iter_mut().enumerate().for_each(|(i, row)| row.0[3] = i as u32);
+    rows
+}
+
+/// Each pair of codes below 32 in the first two dimensions, and one code in the others.
+fn grid(random: &mut Random) -> Vec<(Vec<u32>, i32)> {
+    let codes = |i: usize| vec![i as u32 / 32, i as u32 % 32, 0, 0, 0, 0, 0, 0];
+    (0..ROWS).map(|i| (codes(i), random.draw() as i32)).collect()
+}
+
+/// All codes below 4 in the first dimension and below 2 in the others, each row twice.
+fn four_by_twos(random: &mut Random) -> Vec<(Vec<u32>, i32)> {
+    let codes = |i: usize| (0..8).map(|dim| if dim == 0 { i as u32 % 4 } else { (i >> (dim + 1)) as u32 % 2 }).collect();
+    (0..ROWS).map(|i| (codes(i), random.draw() as i32)).collect()
 }

@@ -40,6 +40,10 @@ kind! {
     codes_below_2 4
     clustered 5
     far_pairs 6
+    far_eights 7
+    one_long_dimension 8
+    grid_32_by_32 9
+    four_codes_by_seven_twos 10
 }
 
 #[test]

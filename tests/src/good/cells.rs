@@ -1,53 +1,67 @@
-//! The bytes of cells and cuboids.
-use super::keys::{mask, place, row, Key, Sorter};
-use super::rows::Rows;
+//! The bytes of cells, normal entries and cuboids.
+use super::codes::{cell, lattice, missing, Codes};
+use super::condense::Condensed;
+use super::groups::Groups;
+use super::read::le;
+use super::rows::{Rows, Total};
 
-/// The most bytes of a cell.
-const WIDEST: usize = 44;
+/// Writes a cell into bytes that just hold it.
+pub fn write(cell: &Codes, total: Total, out: &mut [u8]) {
+    let (codes, end) = out.split_at_mut(out.len() - 12);
+    codes.chunks_exact_mut(4).zip(cell).for_each(|(place, &code)| place.copy_from_slice(&(code as u32).to_le_bytes()));
+    end[..8].copy_from_slice(&total.0.to_le_bytes());
+    end[8..].copy_from_slice(&total.1.to_le_bytes());
+}
 
-/// A cell's bytes, in the first `width` of those returned.
-pub fn cell(dims: usize, codes: Key, total: (i64, u32)) -> [u8; WIDEST] {
-    let mut bytes = [0; WIDEST];
-    for dim in 0..dims {
-        let code = (codes >> place(dim)) as u16 as u32;
-        bytes[4 * dim..4 * dim + 4].copy_from_slice(&code.to_le_bytes());
+/// Whether the bytes are those of a cell.
+fn is_cell(cell: &Codes, total: Total, bytes: &[u8]) -> bool {
+    let (codes, end) = bytes.split_at(bytes.len() - 12);
+    codes.chunks_exact(4).zip(cell).all(|(place, &code)| le(place) == code as u32)
+        && end[..8] == total.0.to_le_bytes()
+        && end[8..] == total.1.to_le_bytes()
+}
+
+/// The cells of a set's groups of so many rows or more, by codes; the empty table's one cell, too.
+fn each(rows: &Rows, set: usize, groups: &Groups, least: usize, mut see: impl FnMut(&Codes, Total)) {
+    let missing = missing(set);
+    if set == 0 && rows.len() == 0 {
+        see(&missing, (0, 0));
     }
-    bytes[4 * dims..4 * dims + 8].copy_from_slice(&total.0.to_le_bytes());
-    bytes[4 * dims + 8..4 * dims + 12].copy_from_slice(&total.1.to_le_bytes());
-    bytes
-}
-
-/// The bytes of an empty table's one cell, all ALL with sum 0 and count 0.
-pub fn empty(dims: usize) -> [u8; WIDEST] {
-    cell(dims, Key::MAX, (0, 0))
-}
-
-/// Writes a cuboid of so many cells into bytes that just hold it.
-pub fn write_cuboid(rows: &Rows, set: usize, cells: usize, sorter: &mut Sorter, out: &mut [u8]) {
-    let (count, out) = out.split_at_mut(4);
-    count.copy_from_slice(&(cells as u32).to_le_bytes());
-    let width = rows.width();
-    let places = out.chunks_exact_mut(width);
-    if set == rows.full() {
-        for (place, (&key, &total)) in places.zip(rows.keys.iter().zip(&rows.totals)) {
-            place.copy_from_slice(&cell(rows.dims, key, total)[..width]);
+    groups.each(&rows.totals, |row, members, total| {
+        if members >= least {
+            see(&cell(&rows.codes[row], &missing), total);
         }
-        return;
-    }
-    if rows.keys.is_empty() {
-        places.for_each(|place| place.copy_from_slice(&empty(rows.dims)[..width]));
-        return;
-    }
-    let all = !mask(set);
-    for (place, group) in places.zip(sorter.groups(&rows.keys, set, 0..rows.len())) {
-        place.copy_from_slice(&cell(rows.dims, rows.keys[row(group[0])] | all, rows.total(group))[..width]);
+    });
+}
+
+/// Writes the normal entries into bytes that just hold them.
+pub fn write_normals(rows: &Rows, condensed: &Condensed, out: &mut [u8]) {
+    let mut places = out.chunks_exact_mut(rows.width());
+    for set in lattice(rows.dims) {
+        each(rows, set, &condensed.groups[set], 2, |cell, total| write(cell, total, places.next().unwrap()));
     }
 }
 
-/// The counts of a set's cells, by codes.
-pub fn counts(rows: &Rows, set: usize) -> Vec<u32> {
-    if set == rows.full() {
-        return rows.totals.iter().map(|total| total.1).collect();
+/// Whether the bytes, as many as the normal entries have, are theirs.
+pub fn are_normals(rows: &Rows, condensed: &Condensed, bytes: &[u8]) -> bool {
+    let mut places = bytes.chunks_exact(rows.width());
+    let mut same = true;
+    for set in lattice(rows.dims) {
+        each(rows, set, &condensed.groups[set], 2, |cell, total| same &= is_cell(cell, total, places.next().unwrap()));
     }
-    Sorter::default().groups(&rows.keys, set, 0..rows.len()).map(|group| rows.total(group).1).collect()
+    same
+}
+
+/// The length of a cuboid.
+pub fn length(rows: &Rows, set: usize, groups: &Groups) -> usize {
+    let cells = if set == 0 && rows.len() == 0 { 1 } else { groups.len() };
+    4 + cells * rows.width()
+}
+
+/// Writes a cuboid into bytes that just hold it.
+pub fn write_cuboid(rows: &Rows, set: usize, groups: &Groups, out: &mut [u8]) {
+    let (count, out) = out.split_at_mut(4);
+    let mut places = out.chunks_exact_mut(rows.width());
+    count.copy_from_slice(&(places.len() as u32).to_le_bytes());
+    each(rows, set, groups, 1, |cell, total| write(cell, total, places.next().unwrap()));
 }

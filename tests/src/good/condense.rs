@@ -1,7 +1,8 @@
-//! Our lists and normal entries for base rows.
-use super::cells::{cell, empty};
-use super::keys::{lattice, mask, row, Sorter};
+//! The groups of all sets, and our lists.
+use super::codes::lattice;
+use super::groups::Groups;
 use super::rows::{RowSet, Rows};
+use super::split::Splitter;
 use std::ops::Range;
 
 /// The sets that a base entry lists.
@@ -24,63 +25,63 @@ impl List {
 
 pub struct Condensed {
     pub lists: Vec<List>,
-    /// The bytes of the normal entries.
-    pub normals: Vec<u8>,
-    /// For each set the rows that are single on it; none for the full set.
-    alone: Vec<RowSet>,
-    /// For each set the numbers of its normal entries.
-    ranges: Vec<Range<usize>>,
+    /// For each set its groups.
+    pub groups: Vec<Groups>,
+    /// For each set the rows that are single on it.
+    singles: Vec<RowSet>,
+    splitter: Splitter,
 }
 
 impl Condensed {
-    pub fn of(rows: &Rows) -> Condensed {
-        let mut condensed = Condensed {
-            lists: vec![List { sets: [0; 70], len: 0 }; rows.len()],
-            normals: Vec::new(),
-            alone: vec![RowSet::default(); rows.full() + 1],
-            ranges: vec![0..0; rows.full() + 1],
-        };
-        let mut sorter = Sorter::default();
-        for set in lattice(rows.dims).filter(|&set| set != rows.full()) {
-            condensed.add_set(rows, set, &mut sorter);
+    /// With groups of one row if `all` are wanted.
+    pub fn of(rows: &Rows, all: bool) -> Condensed {
+        let mut groups = vec![Groups::whole(rows.len())];
+        groups.resize_with(1 << rows.dims, Groups::default);
+        let lists = vec![List { sets: [0; 70], len: 0 }; rows.len()];
+        let singles = vec![RowSet::default(); 1 << rows.dims];
+        let mut condensed = Condensed { lists, groups, singles, splitter: Splitter::of(rows) };
+        if rows.len() == 1 {
+            condensed.lists[0].push(0);
+            condensed.singles[0].add(0);
+        }
+        for set in lattice(rows.dims).skip(1) {
+            condensed.add_set(set, set == rows.full(), all);
         }
         condensed
     }
 
-    /// The set's singles and normal entries. A row single on a smaller set is single on this one too, and needs no look.
-    fn add_set(&mut self, rows: &Rows, set: usize, sorter: &mut Sorter) {
-        let mut alone = RowSet::default();
-        for dim in (0..rows.dims).filter(|dim| set >> dim & 1 == 1) {
-            alone.join(&self.alone[set ^ 1 << dim]);
-        }
-        let (all, width) = (!mask(set), rows.width());
-        let first = self.normals.len() / width;
-        if set == 0 && rows.keys.is_empty() {
-            self.normals.extend_from_slice(&empty(rows.dims)[..width]);
-        }
-        for group in sorter.groups(&rows.keys, set, alone.others(rows.len())) {
-            let i = row(group[0]);
-            if group.len() == 1 {
-                alone.add(i);
-                self.lists[i].push(set);
-            } else {
-                self.normals.extend_from_slice(&cell(rows.dims, rows.keys[i] | all, rows.total(group))[..width]);
+    /// A set's groups, from those of the set without its last dimension. A row single on a smaller set is single on this one too; it needs
+    /// no look unless all groups are wanted.
+    fn add_set(&mut self, set: usize, full: bool, all: bool) {
+        let mut singles = RowSet::default();
+        (0..8).filter(|dim| set >> dim & 1 == 1).for_each(|dim| singles.join(&self.singles[set ^ 1 << dim]));
+        let last = set.ilog2() as usize;
+        let without = if all { RowSet::default() } else { singles };
+        let (groups, lone) = self.splitter.split(&self.groups[set ^ 1 << last], last, &without, all);
+        for row in lone.iter().map(|&row| row as usize) {
+            if !singles.has(row) && !full {
+                singles.add(row);
+                self.lists[row].push(set);
             }
         }
-        self.alone[set] = alone;
-        self.ranges[set] = first..self.normals.len() / width;
+        self.groups[set] = groups;
+        self.singles[set] = singles;
+    }
+
+    /// All groups of a set.
+    pub fn all_groups(&mut self, set: usize) -> Groups {
+        let dims = (0..8).filter(|dim| set >> dim & 1 == 1);
+        dims.fold(Groups::whole(self.lists.len()), |groups, dim| self.splitter.split(&groups, dim, &RowSet::default(), true).0)
+    }
+
+    /// How many normal entries there are.
+    pub fn normals(&self) -> usize {
+        self.groups.iter().map(|groups| groups.shared).sum()
     }
 
     /// The numbers of a set's normal entries, counted from the first normal entry.
-    pub fn range(&self, set: usize) -> Range<usize> {
-        self.ranges[set].clone()
-    }
-
-    /// How many cells the set has.
-    pub fn cells(&self, rows: &Rows, set: usize) -> usize {
-        if set == rows.full() {
-            return rows.len();
-        }
-        self.alone[set].len() + self.ranges[set].len()
+    pub fn range(&self, dims: usize, set: usize) -> Range<usize> {
+        let first = lattice(dims).take_while(|&before| before != set).map(|before| self.groups[before].shared).sum();
+        first..first + self.groups[set].shared
     }
 }

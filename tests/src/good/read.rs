@@ -1,7 +1,14 @@
 //! Both files read to base rows, with stops 1 to 11.
-use super::keys::Key;
+use super::codes::Codes;
 use super::rows::Rows;
 use crate::calls::Stop;
+
+/// Codes in one number, 16 bits each and dimension 1 in the highest: keys rise as codes do.
+type Key = u128;
+
+fn codes(key: Key) -> Codes {
+    std::array::from_fn(|dim| (key >> (112 - 16 * dim)) as u16)
+}
 
 /// An archive's base rows, and the bytes of its lists and normal entries.
 pub struct Archive<'a> {
@@ -92,7 +99,7 @@ pub fn table(s: &[u8]) -> Result<Rows, Stop> {
     read.sort_unstable_by_key(|row| row.0);
     let mut rows = Rows::new(dims, sizes, count);
     for equal in read.chunk_by(|a, b| a.0 == b.0) {
-        rows.push(equal[0].0, equal.iter().map(|row| row.1 as i64).sum(), equal.len() as u32);
+        rows.push(codes(equal[0].0), (equal.iter().map(|row| row.1 as i64).sum(), equal.len() as u32));
     }
     Ok(rows)
 }
@@ -124,16 +131,18 @@ pub fn archive(s: &[u8]) -> Result<Archive<'_>, Stop> {
     let mut rows = Rows::new(dims, sizes, count);
     let mut lists = Vec::with_capacity(count);
     let mut total = 0;
+    let mut before = None;
     for _ in 0..count {
         let key = key(s, at, &sizes[..dims])?;
-        if rows.keys.last().is_some_and(|&before| before >= key) {
+        if before.is_some_and(|before| before >= key) {
             return Err(7);
         }
+        before = Some(key);
         let (sum, count, with) = amount(s, at + 4 * dims, total)?;
         let list = list(s, at + 4 * dims + 12)?;
         at += 4 * dims + 16 + list.len();
         total = with;
-        rows.push(key, sum, count);
+        rows.push(codes(key), (sum, count));
         lists.push(list);
     }
     let normal_bytes = word(s, at)? as usize * rows.width();
