@@ -12,8 +12,8 @@ ghost use Rattle.singles.specs.Ready.{Ready};
 ghost use Rattle.calls.specs.Answers.{bytes, Answered};
 ghost use Rattle.calls.specs.Calls.{builds};
 
-// Writes the archive of base rows where there is room for it; the sizes, which stand in the table, go into the buffer that is lent.
-fn write_sized(
+// Writes the archive of base rows where there is room for it; the sizes, which stand in the file, go into the buffer that is lent.
+pub fn write_sized(
     s: &[u8],
     sizes: &mut [u32],
     codes: &[u32],
