@@ -1,20 +1,21 @@
 -- One row of the pass, in flat lists: the row that is stored behind those done is the next one of the merge.
 use mathlib.Core.Path.{_≡_, refl, sym, ap, ap₂, subst, _∙_}
 use mathlib.Core.List.{List, [], _∷_, _++_}
-use Prim.Native.Nat.{ℕ, zero, suc, _+_, _*_, _≤_, _<_}
-use native.Mathlib.Nat.{suc-mul, mul-le-mul, not-suc-le-zero, le-of-suc-le-suc}
+use Prim.Native.Nat.{ℕ, suc, _+_, _*_, _≤_, _<_}
+use native.Mathlib.Nat.{suc-mul, mul-le-mul}
 use native.Mathlib.Omega.{arith}
 use lib.IntN.{ℤ, pos}
 use lib.ListN.{length, getD, drop, length-drop, drop-of-length-le}
 use Rattle.lists.proofs.Members.{at-in}
 use Rattle.cube.specs.declared.Total.{Total}
 use Rattle.cube.specs.Measure.{Row, plus, sums, codesOf}
-use Rattle.cube.specs.Bounds.{most, Bounded, countOf, Summable}
+use Rattle.cube.specs.Bounds.{most, Bounded, Summable}
 use Rattle.cube.specs.Codes.{cell}
 use Rattle.rows.specs.Rows.{cut, rowAt, rowsOf}
 use Rattle.rows.proofs.Rows.{rows-codes}
 use Rattle.rows.proofs.Flat.{blank, rows-length, rows-at}
 use Rattle.singles.proofs.Ready.{ready-row}
+use Rattle.entries.proofs.Limits.{count-le}
 use Rattle.merge.specs.declared.Turn.{Turn}
 use Rattle.merge.specs.declared.Turn.the-variants.{First, Second, Both}
 use Rattle.merge.specs.United.{both, merged, Merging}
@@ -27,14 +28,9 @@ use Rattle.merge.proofs.Turns.{left-first, left-second, left-both, merg
 pub store-room : (d k : ℕ) → d ≤ 8 → k < 1024 → k * d + d ≤ 8192
 store-room d k h l = let m = mul-le-mul l h in rw (← suc-mul k d) (omega (arith, m))
 
--- a row of rows that can be totalled, and no more readings than all rows have
+-- a row of rows that can be totalled
 bounded-at : (rows : List (Row Total)) (i : ℕ) {r : Row Total} → Summable rows → i < length rows → getD rows i blank ≡ r → Bounded (r .total)
 bounded-at rows i s h e = subst (λ (r : Row Total). Bounded (r .total)) e (s .each (getD rows i blank) (at-in blank rows i h))
-
-count-at : (rows : List (Row Total)) (i : ℕ) → i < length rows → getD rows i blank .total .count ≤ countOf rows
-count-at [] i h = absurd (not-suc-le-zero h)
-count-at (r ∷ rows) zero h = omega arith
-count-at (r ∷ rows) (suc i) h = omega (arith, count-at rows i (le-of-suc-le-suc h))
 
 module _ {d : ℕ} {codes : List ℕ} {amounts : List ℤ} {counts codes′ : List ℕ} {amounts′ : List ℤ} {counts′ : List ℕ} (p : Pair d codes amounts counts codes′ amounts′ counts′) where
   abbrev first : List (Row Total)
@@ -65,7 +61,7 @@ module _ {d : ℕ} {codes : List ℕ} {amounts : List ℤ} {counts codes′ : Li
       let m : j < length second = omega (arith, k, rows-length d seconds codes′ amounts′ counts′) in (
         bounded-at first i (p .one .summable) n e,
         bounded-at second j (p .other .summable) m f,
-        omega (arith, ap (λ (r : Row Total). r .total .count) e, ap (λ (r : Row Total). r .total .count) f, p .few, count-at first i n, count-at second j m),
+        omega (arith, ap (λ (r : Row Total). r .total .count) e, ap (λ (r : Row Total). r .total .count) f, p .few, count-le first (at-in blank first i n), count-le second (at-in blank second j m)),
       )
 
   module _ (i j : ℕ) where

@@ -16,7 +16,8 @@ use Rattle.cube.specs.Measure.{Measure, Row, codesOf}
 use Rattle.cube.proofs.Codes.{cell-wide, agree-same}
 use Rattle.rows.specs.declared.Order.{Order}
 use Rattle.rows.specs.Compare.{compared, isBefore, isEqual}
-use Rattle.rows.proofs.Parting.{compared-before, compared-agree}
+use Rattle.rows.proofs.Parting.{compared-agree}
+use Rattle.entries.proofs.After.{earlier-compared}
 use Rattle.merge.specs.declared.Turn.{Turn}
 use Rattle.merge.specs.declared.Turn.the-variants.{First, Second, Both}
 use Rattle.merge.specs.United.{both, merged, Merging}
@@ -39,16 +40,13 @@ module _ (xs ys : List (List ℕ)) (i j : ℕ) where
   turn-codes h k = rw (drop-cons xs i [], drop-cons ys j [])
 
 -- by a comparison of up to eight codes
-compared-turn : (x y : List ℕ) {o : Order} → length x ≤ 8 → length y ≤ 8 → o ≡ compared 255 x y → turnBy (earlier x y) (same x y) ≡ turnBy (isBefore o) (isEqual o)
-compared-turn x y {o} h k e =
-    let p = cell-wide 8 x h in
-    let q = cell-wide 8 y k in
-    sym (ap₂ turnBy (ap isBefore e ∙ compared-before 255 x y ∙ ap₂ earlier p q) (ap isEqual e ∙ compared-agree 255 x y ∙ agree-same 255 x y ∙ ap₂ same p q))
+pub same-compared : (x y : List ℕ) {o : Order} → length x ≤ 8 → length y ≤ 8 → o ≡ compared 255 x y → same x y ≡ isEqual o
+same-compared x y h k e = ap₂ same (sym (cell-wide 8 x h)) (sym (cell-wide 8 y k)) ∙ sym (ap isEqual e ∙ compared-agree 255 x y ∙ agree-same 255 x y)
 
 pub turn-compared : (xs ys : List (List ℕ)) (i j : ℕ) {x y : List ℕ} {o : Order} → i < length xs → j < length ys → x ≡ getD xs i [] → y ≡ getD ys j []
     → length x ≤ 8 → length y ≤ 8 → o ≡ compared 255 x y → turn (drop i xs) (drop j ys) ≡ turnBy (isBefore o) (isEqual o)
 turn-compared xs ys i j {x} {y} h k p q m n e =
-    turn-codes xs ys i j h k ∙ ap₂ (λ (v w : List ℕ). turnBy (earlier v w) (same v w)) (sym p) (sym q) ∙ compared-turn x y m n e
+    turn-codes xs ys i j h k ∙ ap₂ (λ (v w : List ℕ). turnBy (earlier v w) (same v w)) (sym p) (sym q) ∙ ap₂ turnBy (earlier-compared x y m n e) (same-compared x y m n e)
 
 -- ---- what the turn says of the merge
 

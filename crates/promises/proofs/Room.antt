@@ -1,6 +1,6 @@
 -- Outputs that are always enough: no result is longer than its room, so no call that is lent as much stops with 15.
 use mathlib.Core.Path.{_≡_, ap}
-use mathlib.Core.List.{List, [], _∷_, map, flatMap, Memᴰ·map}
+use mathlib.Core.List.{List, [], _∷_, map, flatMap}
 use Prim.Native.Nat.{ℕ, zero, suc, _+_, _-_, _*_, _^_, _≤_, _<_}
 use native.Mathlib.Nat.{le-refl, le-trans, add-le-add, mul-le-mul-right}
 use native.Mathlib.Omega.{arith}
@@ -30,7 +30,7 @@ use Rattle.table.proofs.Accepted.{table-forth}
 use Rattle.entries.specs.Layout.{Held, required, archiveBytes, Limits}
 use Rattle.entries.specs.Reading.{readArchive, rowsIn}
 use Rattle.entries.proofs.Accepted.{archive-forth}
-use Rattle.entries.proofs.Limits.{limits-base}
+use Rattle.entries.proofs.Limits.{limits-table, limits-base}
 use Rattle.entries.proofs.Lengths.{sets-listed, archive-length}
 use Rattle.cuboids.specs.Cuboids.{cuboidBytes, expansionBytes}
 use Rattle.cuboids.proofs.Lengths.{cuboid-length}
@@ -44,9 +44,6 @@ use Rattle.fee_list.proofs.Listed.{fee-length}
 use Rattle.fee_call.specs.Fees.{countIn, weights, sharesFee}
 use Rattle.promises.specs.Room.{atLeast1, cuboidRoom, expansionRoom, archiveRoom, keysRoom, feeRoom}
 use Rattle.promises.proofs.Promises.{built}
-
-pub coded : (zs : List ℕ) (rows : List (Row Total)) → Limits zs rows → Rows (length zs) rows
-coded zs rows l r m = limits-base zs rows l .valid (r .codes) (Memᴰ·map (λ q. q .codes) m)
 
 -- ---- the results
 
@@ -123,7 +120,7 @@ build-enough s t b e k h = rw (built s t b e) (enough (archiveBytes (t .sizes) (
 -- by the base count of an archive
 module _ (s : List ℕ) (a : Held) (b : Bytes s) (e : readArchive s ≡ got a []) (k : ℕ) where
   rows-coded : Rows (dims a) (rowsIn a)
-  rows-coded = coded (a .sizes) (rowsIn a) (archive-forth s a [] b e .0)
+  rows-coded = limits-table (a .sizes) (rowsIn a) (archive-forth s a [] b e .0)
 
   pub list-enough : (set : ℕ) → cuboidRoom (dims a) (length (a .bases)) ≤ k → within k (listsCuboid s set) ≡ listsCuboid s set
   unfolding listsCuboid
