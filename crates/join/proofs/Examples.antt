@@ -3,7 +3,6 @@ use mathlib.Core.Path.{_≡_, refl}
 use mathlib.Core.List.{List, [], _∷_, flatMap}
 use Prim.Native.Nat.{ℕ, _+_}
 use lib.Count.{ones, onesIn}
-use lib.IntN.{ℤ, pos}
 use lib.ListN.{take}
 use Rattle.fields.specs.Words.{wordAt, words, wordsBytes}
 use Rattle.fields.specs.Twos.{sumAt}

@@ -1,33 +1,31 @@
--- Archives united (document 02, C-15): their rows folded into one list of base rows, with each cell's totals added.
+-- The base rows of two archives as one list (document 02, C-15): both lists folded, with each cell's totals added.
 use mathlib.Core.Path.{_≡_, refl, sym, _∙_, ap, ap₂}
 use mathlib.Core.Logic.{_≢_, _⊎_, inl, inr, _↔_}
 use mathlib.Core.Bool.{true, false≢true}
-use mathlib.Core.List.{List, [], _∷_, _++_, map, append-assoc, map-map, map-append, List·Memᴰ·not-nil, List·Memᴰ·append-cases, Memᴰ·map, Memᴰ·append-left, Memᴰ·append-right}
+use mathlib.Core.List.{List, [], _∷_, _++_, map, append-assoc, map-map, List·Memᴰ·not-nil, List·Memᴰ·append-cases, Memᴰ·map, Memᴰ·append-left, Memᴰ·append-right}
 use Prim.Native.Nat.{ℕ, _+_, _≤_}
 use native.Mathlib.Omega.{arith}
 use lib.ListN.{length, length-append}
 use Rattle.lists.specs.Lists.{_∈_, some, keep}
 use Rattle.lists.specs.Order.{Rising, earlier, same}
 use Rattle.lists.proofs.Tests.{cases, truth, some-in, some-not}
-use Rattle.lists.proofs.Members.{keep-none, map-same}
+use Rattle.lists.proofs.Members.{keep-none}
 use Rattle.lists.proofs.Pairwise.{keep-one, pairwise-imp}
 use Rattle.lists.proofs.Order.{by-codes, same-eq, same-refl}
 use Rattle.lists.proofs.Sorted.{rising-distinct}
 use Rattle.cube.specs.declared.Total.{Total}
 use Rattle.cube.specs.Measure.{Measure, Adds, Row, sums, totalOf, totalAt, codesOf}
-use Rattle.cube.specs.Bounds.{canMake, countOf}
+use Rattle.cube.specs.Bounds.{countOf}
 use Rattle.cube.specs.Lattice.{Lattice}
 use Rattle.cube.specs.Codes.{keys, plain}
 use Rattle.cube.specs.Cube.{blank, Exists, total, filled, complete}
-use Rattle.cube.specs.Condensed.{base, normal, listed, normals, Base, base-entry, normal-entry, ours}
 use Rattle.cube.specs.Table.{Table, folded, listed-before}
-use Rattle.merge.specs.United.{both, united, twice}
+use Rattle.merge.specs.United.{both, united}
 use Rattle.cube.proofs.Sums.{sums-add}
-use Rattle.cube.proofs.Made.{can-plus}
 use Rattle.cube.proofs.Codes.{plain-laws}
 use Rattle.cube.proofs.Existing.{blank-same}
 use Rattle.cube.proofs.Regroup.{regroup}
-use Rattle.cube.proofs.Folding.{coded, folded-few, folded-rising, folded-in, folded-base, total-folded, complete-folded}
+use Rattle.cube.proofs.Folding.{coded, folded-few, folded-rising, folded-in, total-folded}
 use Rattle.cube.proofs.Complete.{complete-iff, complete-rising}
 use Rattle.merge.proofs.Appending.{codes-in, codes-left, codes-right, table-append, total-append, total-lacks, at-append, folded-fill, folded-same}
 use Rattle.merge.proofs.Merging.{merged-none, merged-each, merged-self, passed-merged, united-merged, count-merged}
@@ -49,10 +47,6 @@ module _ {A : Type 0} (M : Measure A) (d : ℕ) where
     unfolding united
     united-rising = folded-rising M d rows (table-append d a b t u)
 
-    pub united-base : Base (plain d) (codesOf (united M d a b))
-    unfolding united
-    united-base = folded-base M d rows (table-append d a b t u)
-
     pub united-in : (x : List ℕ) → (x ∈ codesOf (united M d a b)) ↔ ((x ∈ codesOf a) ⊎ (x ∈ codesOf b))
     unfolding united
     united-in x = (
@@ -60,7 +54,7 @@ module _ {A : Type 0} (M : Measure A) (d : ℕ) where
       λ h. folded-in M d rows (table-append d a b t u) x .1 (cases h (codes-left a b) (codes-right a b)),
     )
 
-    -- A cell exists in the join just if a row of either falls in it, or neither has a row and it is that of an empty table.
+    -- A cell exists just if a row of either falls in it, or neither has a row and it is that of an empty table.
     pub united-exists : (L : Lattice) (c : List ℕ) → Exists L (codesOf (united M d a b)) c
         ↔ (((x : List ℕ) × (x ∈ codesOf a) × (L .falls c x ≡ true)) ⊎ (((x : List ℕ) × (x ∈ codesOf b) × (L .falls c x ≡ true)) ⊎ (c ∈ blank L (codesOf a ++ codesOf b))))
     united-exists L c =
@@ -89,11 +83,6 @@ module _ {A : Type 0} (M : Measure A) (d : ℕ) where
       unfolding united
       united-total L c = total-folded M d (a ++ b) (table-append d a b t u) L E c ∙ total-append M E L a b c
 
-      -- The cube of the join is that of the rows of both, one behind the other.
-      pub united-cube : (L : Lattice) → complete L M (united M d a b) ≡ complete L M (a ++ b)
-      unfolding united
-      united-cube L = complete-folded M d (a ++ b) (table-append d a b t u) L E
-
       -- Which comes first does not matter.
       pub united-comm : united M d a b ≡ united M d b a
       unfolding united
@@ -115,7 +104,7 @@ module _ {A : Type 0} (M : Measure A) (d : ℕ) where
       unfolding united
       united-behind = united-comm a (folded M d b) t (folded-table b u) ∙ united-front b a u t ∙ united-comm b a u t
 
-      -- so the join of two tables' base rows is the base rows of both tables, one behind the other.
+      -- so the base rows of two tables as one are the base rows of both tables, one behind the other.
       pub united-folded : united M d (folded M d a) (folded M d b) ≡ folded M d (a ++ b)
       unfolding united
       united-folded = united-front a (folded M d b) t (folded-table b u) ∙ united-behind
@@ -135,11 +124,6 @@ module _ {A : Type 0} (M : Measure A) (d : ℕ) where
 
     pub united-none-right : (a : List (Row A)) → Table d a → Rising earlier (codesOf a) → united M d a [] ≡ a
     united-none-right a t v = united-merged M E d a [] t (λ r m. absurd (List·Memᴰ·not-nil m)) v tt ∙ merged-none M a
-
-    -- base rows are their own folding
-    pub folded-own : (b : List (Row A)) → Table d b → Rising earlier (codesOf b) → folded M d b ≡ b
-    unfolding united
-    folded-own b u v = united-none-left b u v
 
     -- United with themselves, they have the same codes, each with its total twice.
     pub united-self : (a : List (Row A)) → Table d a → Rising earlier (codesOf a) → united M d a a ≡ map (λ r. both M r r) a
@@ -170,14 +154,14 @@ module _ {A : Type 0} (M : Measure A) (E : Adds M) (d : ℕ) where
       (λ e. ap (totalOf M) (keep-none (λ r. same c (r .codes)) cube (λ r m f. false≢true (sym (some-not (λ r. same c (r .codes)) e m) ∙ f)))
       ∙ sym (total-lacks (plain d) M rows c (λ x m f. false≢true (sym (some-not (λ r. same c (r .codes)) e (iff (filled (plain d) M rows c) .1 (inl (x, m, f), refl))) ∙ same-refl c))))
 
-  -- The cube of the join is the two cubes added: for each cell the totals of both, one behind the other.
+  -- The cube of both is the two cubes added: for each cell the totals of both, one behind the other.
   pub united-cubes : (a b : List (Row A)) → Table d a → Table d b → (c : List ℕ)
       → totalAt M (complete (plain d) M (united M d a b)) c ≡ totalAt M (complete (plain d) M a ++ complete (plain d) M b) c
   united-cubes a b t u c =
       cube-at (united M d a b) (united-table M d a b t u) c ∙ united-total M d E a b t u (plain d) c
       ∙ sym (at-append M E (complete (plain d) M a) (complete (plain d) M b) c ∙ ap₂ (M .more) (cube-at a t c) (cube-at b u c))
 
--- ---- the entries of rows with their totals twice
+-- ---- rows with their totals twice
 
 module _ (L : Lattice) {A : Type 0} (M : Measure A) (E : Adds M) (a : List (Row A)) where
   abbrev double : List (Row A)
@@ -190,35 +174,11 @@ module _ (L : Lattice) {A : Type 0} (M : Measure A) (E : Adds M) (a : List (Row 
   unfolding total
   total-double c = ap (λ (l : List (Row A)). totalOf M (keep (λ r. L .falls c (r .codes)) l)) (sym (merged-self M a)) ∙ passed-merged M E (L .falls c) a a
 
-  -- The same cells, lists and entries, with every total twice.
-  pub ours-double : ours L M double ≡ map (twice M) (ours L M a)
-  unfolding ours
-  ours-double =
-      let left : map (base-entry L M double) double ≡ map (twice M) (map (base-entry L M a) a) =
-      map-map (base-entry L M double) (λ r. both M r r) a
-      ∙ map-same (λ r. base-entry L M double (both M r r)) (λ r. twice M (base-entry L M a r)) a
-      (λ r m. ap (λ (xs : List (List ℕ)). base (both M r r) (listed L xs (r .codes))) codes-double)
-      ∙ sym (map-map (twice M) (base-entry L M a) a) in
-      let right : map (normal-entry L M double) (normals L (codesOf double)) ≡ map (twice M) (map (normal-entry L M a) (normals L (codesOf a))) =
-      ap (λ (xs : List (List ℕ)). map (normal-entry L M double) (normals L xs)) codes-double
-      ∙ map-same (normal-entry L M double) (λ c. twice M (normal-entry L M a c)) (normals L (codesOf a))
-      (λ c m. ap (λ (t : A). normal (record { codes = c; total = t })) (total-double c))
-      ∙ sym (map-map (twice M) (normal-entry L M a) (normals L (codesOf a))) in
-      ap₂ _++_ left right ∙ sym (map-append (twice M) (map (base-entry L M a) a) (map (normal-entry L M a) (normals L (codesOf a))))
+-- ---- how many rows and readings
 
--- ---- sums and counts: what 18 lets through is within the limits of an archive
+pub united-few : {A : Type 0} (M : Measure A) (d : ℕ) (a b : List (Row A)) → length (united M d a b) ≤ length a + length b
+unfolding united
+united-few M d a b = omega (arith, folded-few M d (a ++ b), length-append a b)
 
-module _ (d : ℕ) (a b : List (Row Total)) (t : Table d a) (u : Table d b) (v : Rising earlier (codesOf a)) (w : Rising earlier (codesOf b)) where
-  pub united-count : countOf (united sums d a b) ≡ countOf a + countOf b
-  united-count = rw (united-merged sums sums-add d a b t u v w) (count-merged a b)
-
-  pub united-few : length (united sums d a b) ≤ length a + length b
-  unfolding united
-  united-few = omega (arith, folded-few sums d (a ++ b), length-append a b)
-
-  -- each sum is one that so many readings can make, of at least one
-  pub united-made : (let P : Row Total → Type 0 = λ r. (1 ≤ r .total .count) × (canMake (r .total .count) (r .total .sum) ≡ true) in
-      ((r : Row Total) → r ∈ a → P r) → ((r : Row Total) → r ∈ b → P r) → (r : Row Total) → r ∈ united sums d a b → P r)
-  united-made f g = united-each sums d sums-add (λ r. (1 ≤ r .total .count) × (canMake (r .total .count) (r .total .sum) ≡ true))
-      (λ r q e h k. (omega (arith, h .0), can-plus (r .total .count) (q .total .count) (r .total .sum) (q .total .sum) (h .1) (k .1)))
-      a b t u v w f g
+pub united-count : (d : ℕ) (a b : List (Row Total)) → Table d a → Table d b → Rising earlier (codesOf a) → Rising earlier (codesOf b) → countOf (united sums d a b) ≡ countOf a + countOf b
+united-count d a b t u v w = rw (united-merged sums sums-add d a b t u v w) (count-merged a b)

@@ -1,24 +1,17 @@
 -- Base rows of two archives as one list (document 02, C-15).
 --
---   BaseRows d rows   base rows: rows of d codes that rise strictly by codes
---   both M r q        two rows with equal codes as one: the codes, and both totals
---   united M d a b    the base rows a and b in one archive: both lists, folded
---   merged M a b      the same in one pass over two rising lists: the earlier row first, and rows with equal codes as one
---   step              one step of merged, by two tests
---   Merging           the invariant of that pass: what is done, and the merge of what is left, are the merge
---   twice M e         entry e with its total twice
+--   both M r q      two rows with equal codes as one: the codes, and both totals
+--   united M d a b  the base rows a and b in one archive: both lists, folded
+--   merged M a b    the same in one pass over two rising lists: the earlier row first, and rows with equal codes as one
+--   step            one step of merged, by two tests
+--   Merging         the invariant of that pass: what is done, and the merge of what is left, are the merge
 use mathlib.Core.Path.{_≡_}
 use mathlib.Core.Bool.{Bool, true, false}
 use mathlib.Core.List.{List, [], _∷_, _++_}
 use Prim.Native.Nat.{ℕ}
-use Rattle.lists.specs.Order.{Rising, earlier}
-use Rattle.cube.specs.Measure.{Measure, Row, codesOf}
-use Rattle.cube.specs.Condensed.{Entry, base, normal}
-use Rattle.cube.specs.Table.{Table, folded}
-
-pub record BaseRows {A : Type 0} (d : ℕ) (rows : List (Row A)) : Type 0 where
-  pub coded : Table d rows
-  pub rising : Rising earlier (codesOf rows)
+use Rattle.lists.specs.Order.{earlier}
+use Rattle.cube.specs.Measure.{Measure, Row}
+use Rattle.cube.specs.Table.{folded}
 
 module _ {A : Type 0} (M : Measure A) where
   abbrev pub both : Row A → Row A → Row A
@@ -40,7 +33,3 @@ module _ {A : Type 0} (M : Measure A) where
 
   pub record Merging (a b done left right : List (Row A)) : Type 0 where
     pub whole : done ++ merged left right ≡ merged a b
-
-  abbrev pub twice : Entry A → Entry A
-  twice (base r l) = base (both r r) l
-  twice (normal r) = normal (both r r)
