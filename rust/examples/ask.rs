@@ -134,9 +134,7 @@ fn join(first: &OsStr, second: &OsStr) -> Result<Vec<u8>, Box<dyn Error>> {
 /// The command that the words are, if they are one.
 fn command(words: Vec<OsString>) -> Option<Command> {
     match words.as_slice() {
-        [join, first, second] if join == "join" => {
-            (first != "-" || second != "-").then(|| Command::Join(first.clone(), second.clone()))
-        }
+        [join, first, second] if join == "join" => (first != "-" || second != "-").then(|| Command::Join(first.clone(), second.clone())),
         _ => {
             let words: Vec<_> = words.iter().map(|word| word.to_string_lossy()).collect();
             question(&words.iter().map(AsRef::as_ref).collect::<Vec<_>>()).map(Command::Ask)

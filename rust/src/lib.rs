@@ -53,4 +53,4 @@ pub use stop::Stop;
 pub use table::{Table, TableError};
 
 /// Stack that is enough for a call, in bytes: measured in the compiled library, not proved.
-pub const STACK: usize = 560_000;
+pub const STACK: usize = 600_000;

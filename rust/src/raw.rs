@@ -34,14 +34,7 @@ mod ffi {
         pub fn cube_smallest_keys(archive: *const u8, archive_len: usize, out: *mut u8, out_len: usize) -> u64;
         pub fn cube_fixes(archive: *const u8, archive_len: usize, set: u32, dimension: u32) -> u64;
         pub fn cube_share_fee(archive: *const u8, archive_len: usize, fee: u32, set: u32, out: *mut u8, out_len: usize) -> u64;
-        pub fn cube_join(
-            first: *const u8,
-            first_len: usize,
-            second: *const u8,
-            second_len: usize,
-            out: *mut u8,
-            out_len: usize,
-        ) -> u64;
+        pub fn cube_join(first: *const u8, first_len: usize, second: *const u8, second_len: usize, out: *mut u8, out_len: usize) -> u64;
     }
 }
 

@@ -15,7 +15,7 @@ use std::ops::Range;
 use std::time::{Duration, Instant};
 
 /// The columns, and the stop that a column's call ends with, if it has one.
-const CALLS: [(&str, Option<Stop>); 9] = [
+const CALLS: [(&str, Option<Stop>); 10] = [
     ("build", None),
     ("wrong check word", Some(11)),
     ("check", None),
@@ -25,6 +25,7 @@ const CALLS: [(&str, Option<Stop>); 9] = [
     ("keys", None),
     ("fixes", None),
     ("share a fee", None),
+    ("join", None),
 ];
 
 /// The set whose cuboid is listed and shares the fee, and on which the looked-up cell has codes: every other dimension.
@@ -43,6 +44,8 @@ struct Inputs {
     refused: Vec<u8>,
     archive: Vec<u8>,
     question: Vec<u32>,
+    /// The archives of the even rows and of the odd ones.
+    halves: [Vec<u8>; 2],
 }
 
 /// A file with another check word.
@@ -55,14 +58,19 @@ impl Inputs {
     fn of(rows: &[(Vec<u32>, i32)], out: &mut [u8]) -> Inputs {
         let table = table_bytes(&SIZES, rows);
         let refused = miswritten(table.clone());
-        let length = Good.build(&table, out).unwrap();
-        Inputs { table, refused, archive: out[..length].to_vec(), question: cube::cell(&rows[500].0, SET) }
+        let mut built = |table: &[u8]| {
+            let length = Good.build(table, out).unwrap();
+            out[..length].to_vec()
+        };
+        let half = |first| rows.iter().skip(first).step_by(2).cloned().collect::<Vec<_>>();
+        let halves = [0, 1].map(|first| built(&table_bytes(&SIZES, &half(first))));
+        Inputs { archive: built(&table), table, refused, question: cube::cell(&rows[500].0, SET), halves }
     }
 }
 
 /// One of the calls. What it returns, as words.
 fn run(calls: &dyn Calls, call: usize, inputs: &Inputs, out: &mut [u8]) -> Result<[u64; 3], Stop> {
-    let Inputs { table, refused, archive, question } = black_box(inputs);
+    let Inputs { table, refused, archive, question, halves } = black_box(inputs);
     match call {
         0 => calls.build(table, out).map(|length| [length as u64, 0, 0]),
         1 => calls.build(refused, out).map(|length| [length as u64, 0, 0]),
@@ -72,7 +80,8 @@ fn run(calls: &dyn Calls, call: usize, inputs: &Inputs, out: &mut [u8]) -> Resul
         5 => calls.expand(archive, out).map(|length| [length as u64, 0, 0]),
         6 => calls.smallest_keys(archive, out).map(|length| [length as u64, 0, 0]),
         7 => calls.fixes(archive, SET, DIMENSION).map(|fixes| [fixes as u64, 0, 0]),
-        _ => calls.share_fee(archive, FEE, SET, out).map(|length| [length as u64, 0, 0]),
+        8 => calls.share_fee(archive, FEE, SET, out).map(|length| [length as u64, 0, 0]),
+        _ => calls.join(&halves[0], &halves[1], out).map(|length| [length as u64, 0, 0]),
     }
 }
 
@@ -159,7 +168,7 @@ fn main() {
     let mut out = vec![0; 256 * (4 + 1_024 * 44)];
     let kinds = kinds(&mut Random::seeded(7)).into_iter().map(|(name, rows)| (name, Inputs::of(&rows, &mut out))).collect::<Vec<_>>();
     println!("1,024 rows, D 8: milliseconds of the library and of good, and library / good");
-    for calls in [0..3, 3..6, 6..9] {
+    for calls in [0..3, 3..6, 6..9, 9..10] {
         println!("{:15}{}", "", CALLS[calls.clone()].iter().map(|(name, _)| format!("{name:>26}")).collect::<String>());
         for (name, inputs) in &kinds {
             println!("{}", line(name, inputs, calls.clone(), &mut out, repeat));

@@ -4,6 +4,7 @@ mod cells;
 mod condense;
 mod fees;
 mod fixed;
+mod join;
 mod keys;
 mod look_up;
 mod read;
@@ -127,5 +128,11 @@ impl Calls for Good {
         let out = out.get_mut(..4 + 4 * cells).ok_or(15u32)?;
         fees::write(fee, &cells::counts(rows, set), out);
         Ok(out.len())
+    }
+
+    fn join(&self, first: &[u8], second: &[u8], out: &mut [u8]) -> Result<usize, Stop> {
+        let first = Checked::open(first)?.read.rows;
+        let rows = join::merged(&first, &Checked::open(second)?.read.rows)?;
+        write::archive(&rows, &Condensed::of(&rows), out)
     }
 }
