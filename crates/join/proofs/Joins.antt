@@ -19,7 +19,7 @@ use Rattle.cube.specs.Cube.{filled}
 use Rattle.cube.specs.Condensed.{listed, normals}
 use Rattle.cube.specs.Table.{Table, folded}
 use Rattle.cube.proofs.Sums.{sums-add}
-use Rattle.merge.specs.United.{both, united, merged}
+use Rattle.merge.specs.United.{asOne, united, merged}
 use Rattle.merge.proofs.Merging.{united-merged}
 use Rattle.merge.proofs.United.{united-count, united-comm, united-assoc, united-folded, united-none-left, united-none-right, united-self, codes-double, total-double}
 use Rattle.table.specs.Layout.{Records, TableLimits}
@@ -169,22 +169,22 @@ module _ (s t u : List ℕ) (a b c : Held) (f : Bytes s) (g : Bytes t) (i : Byte
 -- ---- an archive and itself
 
 -- what such rows require: the same sizes, codes and lists, with every total twice
-required-double : (zs : List ℕ) (rows : List (Row Total)) → required zs (map (λ r. both sums r r) rows) ≡ doubled (required zs rows)
+required-double : (zs : List ℕ) (rows : List (Row Total)) → required zs (map (λ r. asOne sums r r) rows) ≡ doubled (required zs rows)
 unfolding required
 required-double zs rows =
     let d = length zs in
-    let twice = map (λ r. both sums r r) rows in
+    let twice = map (λ r. asOne sums r r) rows in
     ap₂ (λ (bs : List Based) (cs : List (Row Total)). record { sizes = zs; bases = bs; cells = cs })
-    (map-map (based d twice) (λ r. both sums r r) rows
-    ∙ ap (λ (xs : List (List ℕ)). map (λ r. record { row = both sums r r; list = listed (plain d) xs (r .codes) }) rows) (codes-double (plain d) sums sums-add rows)
-    ∙ sym (map-map (λ b. record { row = both sums (b .row) (b .row); list = b .list }) (based d rows) rows))
+    (map-map (based d twice) (λ r. asOne sums r r) rows
+    ∙ ap (λ (xs : List (List ℕ)). map (λ r. record { row = asOne sums r r; list = listed (plain d) xs (r .codes) }) rows) (codes-double (plain d) sums sums-add rows)
+    ∙ sym (map-map (λ b. record { row = asOne sums (b .row) (b .row); list = b .list }) (based d rows) rows))
     (ap (λ (xs : List (List ℕ)). map (filled (plain d) sums twice) (normals (plain d) xs)) (codes-double (plain d) sums sums-add rows)
-    ∙ map-same (filled (plain d) sums twice) (λ c. both sums (filled (plain d) sums rows c) (filled (plain d) sums rows c)) (normals (plain d) (codesOf rows))
+    ∙ map-same (filled (plain d) sums twice) (λ c. asOne sums (filled (plain d) sums rows c) (filled (plain d) sums rows c)) (normals (plain d) (codesOf rows))
     (λ c m. ap (λ (u : Total). record { codes = c; total = u }) (total-double (plain d) sums sums-add rows c))
-    ∙ sym (map-map (λ r. both sums r r) (filled (plain d) sums rows) (normals (plain d) (codesOf rows))))
+    ∙ sym (map-map (λ r. asOne sums r r) (filled (plain d) sums rows) (normals (plain d) (codesOf rows))))
 
 module _ (s : List ℕ) (a : Held) (f : Bytes s) (e : readArchive s ≡ got a []) where
-  self : united sums (dims a) (rowsIn a) (rowsIn a) ≡ map (λ r. both sums r r) (rowsIn a)
+  self : united sums (dims a) (rowsIn a) (rowsIn a) ≡ map (λ r. asOne sums r r) (rowsIn a)
   self = let l = archive-forth s a [] f e .0 in united-self sums (dims a) sums-add (rowsIn a) (limits-table (a .sizes) (rowsIn a) l) (l .rising)
 
   -- Joined with itself, unless 18 stops it, an archive has the same sizes, codes and lists, and every sum and count twice.

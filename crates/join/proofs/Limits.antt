@@ -7,13 +7,13 @@ use native.Mathlib.Omega.{arith}
 use lib.Dec.{leb}
 use lib.ListN.{length}
 use borrow.Author.Tests.{leb-true, le-leb}
-use Rattle.lists.proofs.Tests.{both as two, both-of, refuted}
+use Rattle.lists.proofs.Tests.{both, both-of, refuted}
 use Rattle.cube.specs.declared.Total.{Total}
 use Rattle.cube.specs.Measure.{sums, Row}
 use Rattle.cube.specs.Bounds.{most, countOf}
 use Rattle.cube.proofs.Sums.{sums-add}
 use Rattle.cube.proofs.Made.{can-plus}
-use Rattle.merge.specs.United.{both, united, merged}
+use Rattle.merge.specs.United.{asOne, united, merged}
 use Rattle.merge.proofs.Merging.{united-merged}
 use Rattle.merge.proofs.United.{united-rising, united-each, united-count}
 use Rattle.entries.specs.Layout.{Fair, Limits, archiveBytes}
@@ -21,7 +21,7 @@ use Rattle.entries.proofs.Limits.{limits-table}
 use Rattle.calls.specs.Answers.{stop, bytes}
 use Rattle.join.specs.Joins.{few, filed}
 
-fair-both : (zs : List ℕ) (r q : Row Total) → r .codes ≡ q .codes → Fair zs r → Fair zs q → Fair zs (both sums r q)
+fair-both : (zs : List ℕ) (r q : Row Total) → r .codes ≡ q .codes → Fair zs r → Fair zs q → Fair zs (asOne sums r q)
 fair-both zs r q e f g = record {
   below = f .below;
   counted = omega (arith, f .counted);
@@ -38,7 +38,7 @@ module _ (zs : List ℕ) (a b : List (Row Total)) (l : Limits zs a) (m : Limits 
 
   pub limits-united : few rows ≡ true → Limits zs rows
   limits-united h =
-      let p = two (leb (length rows) 1024) (leb (countOf rows) most) h in
+      let p = both (leb (length rows) 1024) (leb (countOf rows) most) h in
       record {
         sized = l .sized;
         few = leb-true (length rows) 1024 (p .0);
@@ -56,12 +56,12 @@ module _ (zs : List ℕ) (a b : List (Row Total)) (l : Limits zs a) (m : Limits 
   -- too many readings, or too many rows
   pub filed-counts : most < countOf a + countOf b → filed zs rows ≡ stop 18
   filed-counts h =
-      let e : few rows ≡ false = refuted (λ f. absurd (omega (arith, h, counts-united, leb-true (countOf rows) most (two (leb (length rows) 1024) (leb (countOf rows) most) f .1)))) in
+      let e : few rows ≡ false = refuted (λ f. absurd (omega (arith, h, counts-united, leb-true (countOf rows) most (both (leb (length rows) 1024) (leb (countOf rows) most) f .1)))) in
       rw e
 
   pub filed-over : 1024 < length (merged sums a b) → filed zs rows ≡ stop 18
   filed-over h =
-      let e : few rows ≡ false = refuted (λ f. absurd (omega (arith, h, ap length rows-merged, leb-true (length rows) 1024 (two (leb (length rows) 1024) (leb (countOf rows) most) f .0)))) in
+      let e : few rows ≡ false = refuted (λ f. absurd (omega (arith, h, ap length rows-merged, leb-true (length rows) 1024 (both (leb (length rows) 1024) (leb (countOf rows) most) f .0)))) in
       rw e
 
   -- the merged rows, where there are not too many

@@ -16,7 +16,7 @@ use Rattle.rows.proofs.Flat.{rows-length}
 use Rattle.singles.specs.Ready.{Ready}
 use Rattle.singles.proofs.Ready.{rows-front}
 use Rattle.merge.specs.United.{united, merged}
-use Rattle.merge.specs.Pass.{Pair, Stored}
+use Rattle.merge.specs.Pass.{Pair, Collected}
 use Rattle.entries.specs.Layout.{Limits, archiveBytes}
 use Rattle.required.proofs.Judged.{limits-ready}
 use Rattle.calls.specs.Answers.{stop, bytes}
@@ -49,7 +49,7 @@ module _ {zs codes : List ℕ} {sums : List ℤ} {counts codes′ : List ℕ} {s
   pub stores-pair : sum counts + sum counts′ ≤ 1048576 → Pair (length zs) codes sums counts codes′ sums′ counts′
   stores-pair h = record { one = p .ready; other = q .ready; few = omega (arith, h, counted) }
 
-  module _ {n : ℕ} {cells : List ℕ} {amounts : List ℤ} {tallies : List ℕ} (s : Stored 1024 (merged totals first second) (length zs) n cells amounts tallies) where
+  module _ {n : ℕ} {cells : List ℕ} {amounts : List ℤ} {tallies : List ℕ} (s : Collected 1024 (merged totals first second) (length zs) n cells amounts tallies) where
     pub stored-over : 1024 < n → filed zs (united totals (length zs) first second) ≡ stop 18
     stored-over h = filed-over zs first second (p .limits) (q .limits) (s .more h)
 

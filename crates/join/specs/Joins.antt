@@ -15,7 +15,7 @@ use Rattle.lists.specs.Order.{same}
 use Rattle.cube.specs.declared.Total.{Total}
 use Rattle.cube.specs.Measure.{sums, Row}
 use Rattle.cube.specs.Bounds.{most, countOf}
-use Rattle.merge.specs.United.{both, united}
+use Rattle.merge.specs.United.{asOne, united}
 use Rattle.entries.specs.Layout.{Held, archiveBytes}
 use Rattle.entries.specs.Reading.{rowsIn, readArchive}
 use Rattle.calls.specs.Answers.{Outcome, bytes, refuseUnless}
@@ -37,6 +37,6 @@ joins s t = outcome (λ a. outcome (unites a) (readArchive t)) (readArchive s)
 abbrev pub doubled : Held → Held
 doubled a = record {
   sizes = a .sizes;
-  bases = map (λ b. record { row = both sums (b .row) (b .row); list = b .list }) (a .bases);
-  cells = map (λ r. both sums r r) (a .cells);
+  bases = map (λ b. record { row = asOne sums (b .row) (b .row); list = b .list }) (a .bases);
+  cells = map (λ r. asOne sums r r) (a .cells);
 }

@@ -15,7 +15,7 @@ use Rattle.cube.specs.declared.Total.{Total}
 use Rattle.cube.specs.Measure.{Measure, Adds, Row, sums, totalOf, totalAt, codesOf}
 use Rattle.cube.specs.Bounds.{countOf}
 use Rattle.cube.specs.Table.{Table}
-use Rattle.merge.specs.United.{both, united, merged, Merging}
+use Rattle.merge.specs.United.{asOne, united, merged, Merging}
 use Rattle.cube.proofs.Regroup.{taking, more-swap, sum-taking}
 use Rattle.merge.proofs.Appending.{codes-in, codes-left, codes-right, table-append, more-none, at-append, folded-unique}
 
@@ -34,7 +34,7 @@ module _ {A : Type 0} (M : Measure A) (r q : Row A) (a b : List (Row A)) where
   pub merged-right : earlier (r .codes) (q .codes) ≡ false → earlier (q .codes) (r .codes) ≡ true → merged M (r ∷ a) (q ∷ b) ≡ q ∷ merged M (r ∷ a) b
   merged-right e f = rw (e, f)
 
-  pub merged-both : earlier (r .codes) (q .codes) ≡ false → earlier (q .codes) (r .codes) ≡ false → merged M (r ∷ a) (q ∷ b) ≡ both M r q ∷ merged M a b
+  pub merged-both : earlier (r .codes) (q .codes) ≡ false → earlier (q .codes) (r .codes) ≡ false → merged M (r ∷ a) (q ∷ b) ≡ asOne M r q ∷ merged M a b
   merged-both e f = rw (e, f)
 
 pub merged-none : {A : Type 0} (M : Measure A) (a : List (Row A)) → merged M a [] ≡ a
@@ -76,7 +76,7 @@ module _ {A : Type 0} (M : Measure A) (a b : List (Row A)) where
 
 -- ---- whatever each list's rows have in common, and two rows as one keep, the merged rows have
 
-module _ {A : Type 0} (M : Measure A) (P : Row A → Type 0) (k : (r q : Row A) → r .codes ≡ q .codes → P r → P q → P (both M r q)) where
+module _ {A : Type 0} (M : Measure A) (P : Row A → Type 0) (k : (r q : Row A) → r .codes ≡ q .codes → P r → P q → P (asOne M r q)) where
   pub merged-each : (a b : List (Row A)) → ((r : Row A) → r ∈ a → P r) → ((r : Row A) → r ∈ b → P r) → (r : Row A) → r ∈ merged M a b → P r
   merged-each [] b f g r m = g r m
   merged-each (q ∷ a) [] f g r m = f r m
@@ -169,7 +169,7 @@ module _ {A : Type 0} (M : Measure A) where
         (λ o. ap (passed p) (merged-right M r q a b (o .0) (o .1)) ∙ sum-taking M E p q (merged M (r ∷ a) b)
         ∙ ap (taking M E (p (q .codes)) (q .total)) (passed-merged p (r ∷ a) b) ∙ taking-right (p (q .codes)) (q .total) (passed p (r ∷ a)) (passed p b)
         ∙ ap (M .more (passed p (r ∷ a))) (sym (sum-taking M E p q b)))
-        (λ o. ap (passed p) (merged-both M r q a b (o .0) (o .1)) ∙ sum-taking M E p (both M r q) (merged M a b)
+        (λ o. ap (passed p) (merged-both M r q a b (o .0) (o .1)) ∙ sum-taking M E p (asOne M r q) (merged M a b)
         ∙ ap (taking M E (p (r .codes)) (M .more (r .total) (q .total))) (passed-merged p a b)
         ∙ taking-two (p (r .codes)) (r .total) (q .total) (passed p a) (passed p b)
         ∙ ap₂ (M .more) (sym (sum-taking M E p r a)) (ap (λ (x : List ℕ). taking M E (p x) (q .total) (passed p b)) (o .2) ∙ sym (sum-taking M E p q b))))
@@ -197,9 +197,9 @@ module _ {A : Type 0} (M : Measure A) where
         (λ r m. sym (at-own (merged M a b) (merged-rising a b v w) r m) ∙ passed-merged (same (r .codes)) a b ∙ sym (at-append M E a b (r .codes))))
 
   -- rows merged with themselves
-  pub merged-self : (a : List (Row A)) → merged M a a ≡ map (λ r. both M r r) a
+  pub merged-self : (a : List (Row A)) → merged M a a ≡ map (λ r. asOne M r r) a
   merged-self [] = refl
-  merged-self (r ∷ a) = let e : earlier (r .codes) (r .codes) ≡ false = refuted (by-codes .irrefl (r .codes)) in rw e (ap (λ (l : List (Row A)). both M r r ∷ l) (merged-self a))
+  merged-self (r ∷ a) = let e : earlier (r .codes) (r .codes) ≡ false = refuted (by-codes .irrefl (r .codes)) in rw e (ap (λ (l : List (Row A)). asOne M r r ∷ l) (merged-self a))
 
 -- the counts of both are added
 pub count-merged : (a b : List (Row Total)) → countOf (merged sums a b) ≡ countOf a + countOf b

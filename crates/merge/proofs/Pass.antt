@@ -18,9 +18,9 @@ use Rattle.singles.proofs.Ready.{ready-row}
 use Rattle.entries.proofs.Limits.{count-le}
 use Rattle.merge.specs.declared.Turn.{Turn}
 use Rattle.merge.specs.declared.Turn.the-variants.{First, Second, Both}
-use Rattle.merge.specs.United.{both, merged, Merging}
+use Rattle.merge.specs.United.{asOne, merged, Merging}
 use Rattle.merge.specs.Turns.{turn}
-use Rattle.merge.specs.Pass.{Pair, Passed, Stored}
+use Rattle.merge.specs.Pass.{Pair, Passed, Collected}
 use Rattle.merge.proofs.Merging.{merging-start, merging-done, merging-longer}
 use Rattle.merge.proofs.Turns.{left-first, left-second, left-both, merging-first, merging-second, merging-both}
 
@@ -108,9 +108,9 @@ module _ {d : ℕ} {codes : List ℕ} {amounts : List ℤ} {counts codes′ : Li
       pub passed-both : here ≡ Both → x ≡ rowAt (cut d firsts codes) i → t ≡ plus (mine i) (other j) → Passed d codes amounts counts codes′ amounts′ counts′ (i + 1) (j + 1) done′
       passed-both e q f =
           let h = turn-both e in
-          let r : record { codes = cell 255 x; total = t } ≡ both sums (getD first i blank) (getD second j blank) =
+          let r : record { codes = cell 255 x; total = t } ≡ asOne sums (getD first i blank) (getD second j blank) =
           ap (λ (u : Total). record { codes = cell 255 x; total = u }) f
-          ∙ ap₂ (both sums) (ready-row (p .one) i (h .0) q refl) (sym (rows-at d seconds j codes′ amounts′ counts′ (h .1))) in
+          ∙ ap₂ (asOne sums) (ready-row (p .one) i (h .0) q refl) (sym (rows-at d seconds j codes′ amounts′ counts′ (h .1))) in
           record {
             of-one = omega (arith, h .0);
             of-other = omega (arith, h .1);
@@ -125,7 +125,7 @@ module _ {d : ℕ} {codes : List ℕ} {amounts : List ℤ} {counts codes′ : Li
 
   module _ {i j k : ℕ} {cells : List ℕ} {totals : List ℤ} {tallies : List ℕ} (g : Passed d codes amounts counts codes′ amounts′ counts′ i j (rowsOf d k cells totals tallies)) where
     -- a full store with a row left
-    pub passed-over : k ≡ 1024 → i + j < firsts + seconds → Stored 1024 (merged sums first second) d 1025 cells totals tallies
+    pub passed-over : k ≡ 1024 → i + j < firsts + seconds → Collected 1024 (merged sums first second) d 1025 cells totals tallies
     passed-over e h =
         let l = merging-longer sums first second (rowsOf d k cells totals tallies) (drop i first) (drop j second) (g .merging) in
         record {
@@ -134,7 +134,7 @@ module _ {d : ℕ} {codes : List ℕ} {amounts : List ℤ} {counts codes′ : Li
         }
 
     -- both lists at their ends
-    pub passed-done : k ≤ 1024 → firsts + seconds ≤ i + j → Stored 1024 (merged sums first second) d k cells totals tallies
+    pub passed-done : k ≤ 1024 → firsts + seconds ≤ i + j → Collected 1024 (merged sums first second) d k cells totals tallies
     passed-done h e =
         let m : length first ≤ i = omega (arith, e, g .of-one, g .of-other, rows-length d firsts codes amounts counts) in
         let n : length second ≤ j = omega (arith, e, g .of-one, g .of-other, rows-length d seconds codes′ amounts′ counts′) in

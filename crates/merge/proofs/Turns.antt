@@ -20,7 +20,7 @@ use Rattle.rows.proofs.Parting.{compared-agree}
 use Rattle.entries.proofs.After.{earlier-compared}
 use Rattle.merge.specs.declared.Turn.{Turn}
 use Rattle.merge.specs.declared.Turn.the-variants.{First, Second, Both}
-use Rattle.merge.specs.United.{both, merged, Merging}
+use Rattle.merge.specs.United.{asOne, merged, Merging}
 use Rattle.merge.specs.Turns.{turnBy, turn}
 use Rattle.merge.proofs.Merging.{merged-left, merged-right, merged-both, merged-none, merging-step}
 
@@ -98,7 +98,7 @@ module _ {A : Type 0} (M : Measure A) where
       (λ t. merged-right M r q k m (s .0) t)
       (λ t. absurd (false≢true (sym (s .1) ∙ ap (λ (x : List ℕ). same x (q .codes)) (by-codes .total (r .codes) (q .codes) (s .0) t) ∙ same-refl (q .codes))))
 
-  both-on : (r q : Row A) (k m : List (Row A)) → turn (codesOf (r ∷ k)) (codesOf (q ∷ m)) ≡ Both → merged M (r ∷ k) (q ∷ m) ≡ both M r q ∷ merged M k m
+  both-on : (r q : Row A) (k m : List (Row A)) → turn (codesOf (r ∷ k)) (codesOf (q ∷ m)) ≡ Both → merged M (r ∷ k) (q ∷ m) ≡ asOne M r q ∷ merged M k m
   unfolding turn
   both-on r q k m e =
       let s = both-is (earlier (r .codes) (q .codes)) (same (r .codes) (q .codes)) e in
@@ -148,9 +148,9 @@ module _ {A : Type 0} (M : Measure A) (z : Row A) (a b : List (Row A)) (i j : �
         merging-step M a b done (drop i a) (drop j b) (drop i a) (drop (j + 1) b) (getD b j z)
         (rw (c, add-one j) (second-on M (getD b j z) (drop i a) (drop (suc j) b) (rw c at (turned Second e)))) g
 
-    pub merging-both : here ≡ Both → Merging M a b (done ++ both M (getD a i z) (getD b j z) ∷ []) (drop (i + 1) a) (drop (j + 1) b)
+    pub merging-both : here ≡ Both → Merging M a b (done ++ asOne M (getD a i z) (getD b j z) ∷ []) (drop (i + 1) a) (drop (j + 1) b)
     merging-both e =
         let c = drop-cons a i z (left-both e .0) in
         let k = drop-cons b j z (left-both e .1) in
-        merging-step M a b done (drop i a) (drop j b) (drop (i + 1) a) (drop (j + 1) b) (both M (getD a i z) (getD b j z))
+        merging-step M a b done (drop i a) (drop j b) (drop (i + 1) a) (drop (j + 1) b) (asOne M (getD a i z) (getD b j z))
         (rw (c, k, add-one i, add-one j) (both-on M (getD a i z) (getD b j z) (drop (suc i) a) (drop (suc j) b) (rw (c, k) at (turned Both e)))) g

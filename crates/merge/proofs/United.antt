@@ -20,7 +20,7 @@ use Rattle.cube.specs.Lattice.{Lattice}
 use Rattle.cube.specs.Codes.{keys, plain}
 use Rattle.cube.specs.Cube.{blank, Exists, total, filled, complete}
 use Rattle.cube.specs.Table.{Table, folded, listed-before}
-use Rattle.merge.specs.United.{both, united}
+use Rattle.merge.specs.United.{asOne, united}
 use Rattle.cube.proofs.Sums.{sums-add}
 use Rattle.cube.proofs.Codes.{plain-laws}
 use Rattle.cube.proofs.Existing.{blank-same}
@@ -126,11 +126,11 @@ module _ {A : Type 0} (M : Measure A) (d : ℕ) where
     united-none-right a t v = united-merged M E d a [] t (λ r m. absurd (List·Memᴰ·not-nil m)) v tt ∙ merged-none M a
 
     -- United with themselves, they have the same codes, each with its total twice.
-    pub united-self : (a : List (Row A)) → Table d a → Rising earlier (codesOf a) → united M d a a ≡ map (λ r. both M r r) a
+    pub united-self : (a : List (Row A)) → Table d a → Rising earlier (codesOf a) → united M d a a ≡ map (λ r. asOne M r r) a
     united-self a t v = united-merged M E d a a t t v v ∙ merged-self M a
 
     -- What the rows of both have in common, and two rows as one keep, the united rows have.
-    pub united-each : (P : Row A → Type 0) → ((r q : Row A) → r .codes ≡ q .codes → P r → P q → P (both M r q)) → (a b : List (Row A)) → Table d a → Table d b
+    pub united-each : (P : Row A → Type 0) → ((r q : Row A) → r .codes ≡ q .codes → P r → P q → P (asOne M r q)) → (a b : List (Row A)) → Table d a → Table d b
         → Rising earlier (codesOf a) → Rising earlier (codesOf b) → ((r : Row A) → r ∈ a → P r) → ((r : Row A) → r ∈ b → P r) → (r : Row A) → r ∈ united M d a b → P r
     united-each P k a b t u v w f g r m = merged-each M P k a b f g r (rw (united-merged M E d a b t u v w) at m)
 
@@ -165,10 +165,10 @@ module _ {A : Type 0} (M : Measure A) (E : Adds M) (d : ℕ) where
 
 module _ (L : Lattice) {A : Type 0} (M : Measure A) (E : Adds M) (a : List (Row A)) where
   abbrev double : List (Row A)
-  double = map (λ r. both M r r) a
+  double = map (λ r. asOne M r r) a
 
   pub codes-double : codesOf double ≡ codesOf a
-  codes-double = map-map (λ r. r .codes) (λ r. both M r r) a
+  codes-double = map-map (λ r. r .codes) (λ r. asOne M r r) a
 
   pub total-double : (c : List ℕ) → total L M double c ≡ M .more (total L M a c) (total L M a c)
   unfolding total

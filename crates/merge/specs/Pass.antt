@@ -2,7 +2,7 @@
 --
 --   Pair ..             two lists of base rows, of d codes each, whose counts are not too many together
 --   Passed .. i j done  the pass has made the rows `done` of the first i rows of one list and the first j of the other
---   Stored room rows .. a store for `room` rows has all n of them; or n is more, and so are they
+--   Collected room rows .. a store for `room` rows has all n of them; or n is more, and so are they
 use mathlib.Core.Path.{_≡_}
 use mathlib.Core.List.{List}
 use Prim.Native.Nat.{ℕ, _+_, _≤_, _<_}
@@ -32,6 +32,6 @@ module _ (d : ℕ) (codes : List ℕ) (amounts : List ℤ) (counts codes′ : Li
     pub of-other : j ≤ length counts′
     pub merging : Merging sums first second done (drop i first) (drop j second)
 
-pub record Stored (room : ℕ) (rows : List (Row Total)) (d n : ℕ) (codes : List ℕ) (amounts : List ℤ) (counts : List ℕ) : Type 0 where
+pub record Collected (room : ℕ) (rows : List (Row Total)) (d n : ℕ) (codes : List ℕ) (amounts : List ℤ) (counts : List ℕ) : Type 0 where
   pub fits : n ≤ room → rowsOf d n codes amounts counts ≡ rows
   pub more : room < n → room < length rows

@@ -9,7 +9,7 @@ ghost use Rattle.cube.specs.Measure.{sums as totals};
 ghost use Rattle.rows.specs.Rows.{cut, rowsOf};
 ghost use Rattle.merge.specs.United.{merged};
 ghost use Rattle.merge.specs.Turns.{turn};
-ghost use Rattle.merge.specs.Pass.{Pair, Passed, Stored};
+ghost use Rattle.merge.specs.Pass.{Pair, Passed, Collected};
 
 // Whose row comes next: the first list's, the second's, or one of each with equal codes.
 pub enum Turn {
@@ -134,7 +134,7 @@ pub fn merge_rows(
 ) -> usize
     requires { ⌜ Pair dims (now codes1) (now sums1) (now counts1) (now codes2) (now sums2) (now counts2) ⌝ }
     requires { ⌜ (8192 ≤ length (now codes)) × (1024 ≤ length (now sums)) × (1024 ≤ length (now counts)) ⌝ }
-    ensures { λ r. ⌜ Stored 1024 (merged totals (rowsOf dims (length (now (counts1 .entry))) (now (codes1 .entry)) (now (sums1 .entry)) (now (counts1 .entry))) (rowsOf dims (length (now (counts2 .entry))) (now (codes2 .entry)) (now (sums2 .entry)) (now (counts2 .entry)))) dims r (now (codes .exit)) (now (sums .exit)) (now (counts .exit)) ⌝ }
+    ensures { λ r. ⌜ Collected 1024 (merged totals (rowsOf dims (length (now (counts1 .entry))) (now (codes1 .entry)) (now (sums1 .entry)) (now (counts1 .entry))) (rowsOf dims (length (now (counts2 .entry))) (now (codes2 .entry)) (now (sums2 .entry)) (now (counts2 .entry)))) dims r (now (codes .exit)) (now (sums .exit)) (now (counts .exit)) ⌝ }
 {
     let n = counts1.len();
     let m = counts2.len();
