@@ -112,7 +112,7 @@ module _ (s t : List ℕ) (a b : Held) (f : Bytes s) (g : Bytes t) (e : readArch
     of-both : unites a b ≡ bytes x
     of-both = sym (joins-read s t e h) ∙ k
 
-    pub joined-sizes : a .sizes ≡ b .sizes
+    joined-sizes : a .sizes ≡ b .sizes
     joined-sizes = united-sizes a b of-both
 
     pub joined-bytes : archiveBytes (a .sizes) (united sums (dims a) (rowsIn a) (rowsIn b)) ≡ x

@@ -20,7 +20,7 @@ use Rattle.cube.proofs.Folding.{folded-rising, folded-in, folded-total}
 -- ---- rows one behind the other
 
 module _ {A : Type 0} where
-  pub codes-append : (a b : List (Row A)) → codesOf (a ++ b) ≡ codesOf a ++ codesOf b
+  codes-append : (a b : List (Row A)) → codesOf (a ++ b) ≡ codesOf a ++ codesOf b
   codes-append [] b = refl
   codes-append (r ∷ a) b = ap (λ (l : List (List ℕ)). r .codes ∷ l) (codes-append a b)
 
@@ -49,7 +49,7 @@ module _ {A : Type 0} (M : Measure A) (E : Adds M) where
       ∙ ap (λ (t : A). M .more t (totalOf M b)) (sym (sum-cons M E r a))
 
   -- the total of the rows that pass a test
-  pub passed-append : (p : Row A → Bool) (a b : List (Row A)) → totalOf M (keep p (a ++ b)) ≡ M .more (totalOf M (keep p a)) (totalOf M (keep p b))
+  passed-append : (p : Row A → Bool) (a b : List (Row A)) → totalOf M (keep p (a ++ b)) ≡ M .more (totalOf M (keep p a)) (totalOf M (keep p b))
   passed-append p a b = ap (totalOf M) (keep-append p a b) ∙ sum-append (keep p a) (keep p b)
 
   pub total-append : (L : Lattice) (a b : List (Row A)) (c : List ℕ) → total L M (a ++ b) c ≡ M .more (total L M a c) (total L M b c)

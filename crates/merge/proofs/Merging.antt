@@ -94,7 +94,7 @@ module _ {A : Type 0} (M : Measure A) (P : Row A → Type 0) (k : (r q : Row A) 
 
 module _ {A : Type 0} (M : Measure A) where
   -- each row's codes are among the merged ones
-  pub merged-fst : {x : List ℕ} (a b : List (Row A)) → x ∈ codesOf a → x ∈ codesOf (merged M a b)
+  merged-fst : {x : List ℕ} (a b : List (Row A)) → x ∈ codesOf a → x ∈ codesOf (merged M a b)
   merged-fst [] b m = absurd (List·Memᴰ·not-nil m)
   merged-fst (r ∷ a) [] m = m
   merged-fst (r ∷ a) (q ∷ b) m = cases (order (r .codes) (q .codes))
@@ -103,7 +103,7 @@ module _ {A : Type 0} (M : Measure A) where
       (λ o. rw (o .0, o .1) (List·Memᴰ·tail (merged-fst (r ∷ a) b m)))
       (λ o. rw (o .0, o .1) (cases (List·Memᴰ·cases-cons m) List·Memᴰ·head (λ i. List·Memᴰ·tail (merged-fst a b i)))))
 
-  pub merged-snd : {x : List ℕ} (a b : List (Row A)) → x ∈ codesOf b → x ∈ codesOf (merged M a b)
+  merged-snd : {x : List ℕ} (a b : List (Row A)) → x ∈ codesOf b → x ∈ codesOf (merged M a b)
   merged-snd [] b m = m
   merged-snd (r ∷ a) [] m = absurd (List·Memᴰ·not-nil m)
   merged-snd (r ∷ a) (q ∷ b) m = cases (order (r .codes) (q .codes))
@@ -134,7 +134,7 @@ module _ {A : Type 0} (M : Measure A) where
       (λ o. rw (o .0, o .1) (merged-above (q .codes) (r ∷ a) b (above-cons (q .codes) r a (o .1) u) (v .0), merged-up (r ∷ a) b u (v .1)))
       (λ o. rw (o .0, o .1) (merged-above (r .codes) a b (u .0) (rw (o .2) (v .0)), merged-up a b (u .1) (v .1))))
 
-  pub merged-rising : (a b : List (Row A)) → Rising earlier (codesOf a) → Rising earlier (codesOf b) → Rising earlier (codesOf (merged M a b))
+  merged-rising : (a b : List (Row A)) → Rising earlier (codesOf a) → Rising earlier (codesOf b) → Rising earlier (codesOf (merged M a b))
   merged-rising a b u v =
       pairwise-map (λ x y. earlier x y ≡ true) (λ r. r .codes) (merged M a b)
       (merged-up a b (pairwise-of-map (λ x y. earlier x y ≡ true) (λ r. r .codes) a u) (pairwise-of-map (λ x y. earlier x y ≡ true) (λ r. r .codes) b v))
@@ -175,7 +175,7 @@ module _ {A : Type 0} (M : Measure A) where
         ∙ ap₂ (M .more) (sym (sum-taking M E p r a)) (ap (λ (x : List ℕ). taking M E (p x) (q .total) (passed p b)) (o .2) ∙ sym (sum-taking M E p q b))))
 
     -- a row of rising rows has the total of the rows with its codes
-    pub at-own : (rows : List (Row A)) → Rising earlier (codesOf rows) → (r : Row A) → r ∈ rows → totalAt M rows (r .codes) ≡ r .total
+    at-own : (rows : List (Row A)) → Rising earlier (codesOf rows) → (r : Row A) → r ∈ rows → totalAt M rows (r .codes) ≡ r .total
     at-own rows u r m =
         let one : keep (λ q. same (r .codes) (q .codes)) rows ≡ r ∷ [] =
         keep-one (λ q. same (r .codes) (q .codes)) rows

@@ -31,7 +31,7 @@ use Rattle.merge.proofs.Appending.{codes-in, codes-left, codes-right, t
 use Rattle.merge.proofs.Merging.{merged-none, merged-each, merged-self, passed-merged, united-merged, count-merged}
 
 module _ {A : Type 0} (M : Measure A) (d : ℕ) where
-  pub folded-table : (rows : List (Row A)) → Table d rows → Table d (folded M d rows)
+  folded-table : (rows : List (Row A)) → Table d rows → Table d (folded M d rows)
   folded-table rows t r m = coded d rows t (r .codes) (folded-in M d rows t (r .codes) .0 (Memᴰ·map (λ q. q .codes) m))
 
   module _ (a b : List (Row A)) (t : Table d a) (u : Table d b) where
@@ -39,7 +39,7 @@ module _ {A : Type 0} (M : Measure A) (d : ℕ) where
     rows = a ++ b
 
     -- The united rows are base rows: they rise strictly by codes, and have just the codes of both.
-    pub united-table : Table d (united M d a b)
+    united-table : Table d (united M d a b)
     unfolding united
     united-table = folded-table rows (table-append d a b t u)
 
@@ -92,7 +92,7 @@ module _ {A : Type 0} (M : Measure A) (d : ℕ) where
           (λ x. at-append M E a b x ∙ E .more-comm (totalAt M a x) (totalAt M b x) ∙ sym (at-append M E b a x))
 
       -- Folding either first does not matter,
-      pub united-front : united M d (folded M d a) b ≡ folded M d (a ++ b)
+      united-front : united M d (folded M d a) b ≡ folded M d (a ++ b)
       unfolding united
       united-front = folded-same M d (folded M d a ++ b) (a ++ b) (table-append d (folded M d a) b (folded-table a t) u) (table-append d a b t u)
           (λ x m. cases (codes-in (folded M d a) b m) (λ i. codes-left a b (folded-in M d a t x .0 i)) (codes-right a b))
@@ -100,7 +100,7 @@ module _ {A : Type 0} (M : Measure A) (d : ℕ) where
           (λ x. at-append M E (folded M d a) b x ∙ ap (λ (s : A). M .more s (totalAt M b x)) (at-folded a t x) ∙ sym (at-append M E a b x))
 
     module _ (a b : List (Row A)) (t : Table d a) (u : Table d b) where
-      pub united-behind : united M d a (folded M d b) ≡ folded M d (a ++ b)
+      united-behind : united M d a (folded M d b) ≡ folded M d (a ++ b)
       unfolding united
       united-behind = united-comm a (folded M d b) t (folded-table b u) ∙ united-front b a u t ∙ united-comm b a u t
 
@@ -138,7 +138,7 @@ module _ {A : Type 0} (M : Measure A) (d : ℕ) where
 
 module _ {A : Type 0} (M : Measure A) (E : Adds M) (d : ℕ) where
   -- a complete cube has for each cell its total, and nothing for a cell in which no row falls
-  pub cube-at : (rows : List (Row A)) → Table d rows → (c : List ℕ) → totalAt M (complete (plain d) M rows) c ≡ total (plain d) M rows c
+  cube-at : (rows : List (Row A)) → Table d rows → (c : List ℕ) → totalAt M (complete (plain d) M rows) c ≡ total (plain d) M rows c
   cube-at rows t c =
       let cube = complete (plain d) M rows in
       let iff = complete-iff (plain d) (plain-laws d) M rows (coded d rows t) in

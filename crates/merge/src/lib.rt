@@ -12,16 +12,16 @@ ghost use Rattle.merge.specs.Turns.{turn};
 ghost use Rattle.merge.specs.Pass.{Pair, Passed, Collected};
 
 // Whose row comes next: the first list's, the second's, or one of each with equal codes.
-pub enum Turn {
+enum Turn {
     First,
     Second,
     Both,
 }
 
 // How many rows of each list are done.
-pub struct Places {
-    pub first: usize,
-    pub second: usize,
+struct Places {
+    first: usize,
+    second: usize,
 }
 
 // Whose row comes next, by the codes of the rows from i and from j on.
