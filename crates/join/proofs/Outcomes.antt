@@ -1,7 +1,7 @@
 -- What the call's outcome is for two archives: a stop of either, or by the base rows that their arrays hold.
 use mathlib.Core.Path.{_≡_, sym, ap, ap₂, subst, _∙_}
 use mathlib.Core.Logic.{_≢_}
-use mathlib.Core.Bool.{true, false}
+use mathlib.Core.Bool.{true, false, false≢true}
 use mathlib.Core.List.{List, []}
 use Prim.Native.Nat.{ℕ, _+_, _*_, _≤_}
 use native.Mathlib.Omega.{arith}
@@ -16,7 +16,8 @@ use Rattle.cube.specs.declared.Total.{Total}
 use Rattle.cube.specs.Measure.{Row, sums as totals}
 use Rattle.rows.specs.Rows.{rowsOf}
 use Rattle.walk.proofs.Places.{header-read}
-use Rattle.entries.specs.Layout.{CUBE, Limits}
+use Rattle.walk.specs.Parsed.{Parsed, stop as halt, got}
+use Rattle.entries.specs.Layout.{CUBE, Held, Limits}
 use Rattle.entries.specs.Reading.{readArchive, archiveAnswer, rowsIn}
 use Rattle.entries.specs.declared.ArchiveRead.the-variants as Read
 use Rattle.entries.proofs.Fields.{parts}
@@ -24,21 +25,26 @@ use Rattle.entries.proofs.Accepted.{read-forth, archive-forth}
 use Rattle.singles.specs.Ready.{Ready}
 use Rattle.merge.specs.United.{united}
 use Rattle.calls.specs.Answers.{stop}
+use Rattle.calls.specs.Calls.{outcome}
 use Rattle.archive.proofs.Opened.{Opened}
 use Rattle.archive.proofs.Outcomes.{refused}
-use Rattle.join.specs.Joins.{filed, joins}
+use Rattle.join.specs.Joins.{filed, unites, joins}
 use Rattle.join.specs.Stores.{Store}
 
 pub first-refused : (s t : List ℕ) {k : ℕ} → archiveAnswer (readArchive s) ≡ Read.Stop k → joins s t ≡ stop k
 unfolding joins
 first-refused s t e = rw (refused s e)
 
+pub second-refused : (s t : List ℕ) {d n m k : ℕ} → archiveAnswer (readArchive s) ≡ Read.Entries d n m → archiveAnswer (readArchive t) ≡ Read.Stop k → joins s t ≡ stop k
+unfolding joins
+second-refused s t {d} {n} {m} {k} e f = go (readArchive s) e
+  where
+    go : (p : Parsed Held) → archiveAnswer p ≡ Read.Entries d n m → outcome (λ a. outcome (unites a) (readArchive t)) p ≡ stop k
+    go (halt j) g = let z : false ≡ true = cc in absurd (false≢true z)
+    go (got a rest) g = rw (refused t f)
+
 -- an archive's sizes and rows, as they stand in its bytes and in flat lists
 module _ {s : List ℕ} {d n m : ℕ} {codes : List ℕ} {sums : List ℤ} {counts : List ℕ} (o : Opened s d n m codes sums counts) where
-  pub second-refused : (t : List ℕ) {k : ℕ} → archiveAnswer (readArchive t) ≡ Read.Stop k → joins s t ≡ stop k
-  unfolding joins
-  second-refused t e = rw (o .read, refused t e)
-
   -- the sizes stand within the bytes
   pub opened-sizes : 8 + 4 * d ≤ length s
   opened-sizes = let h = header-read s CUBE (parts s (read-forth s (o .read) .0) .2) in omega (arith, h .whole, h .dims, o .dims)

@@ -115,49 +115,8 @@ fn join_read(
     }
 }
 
-// Reads the second archive into the arrays that are lent, and joins it to the first, which was accepted.
-fn join_second(
-    first: &[u8],
-    codes1: &[u32],
-    sums1: &[i64],
-    counts1: &[u32],
-    dims: u32,
-    rows: u32,
-    second: &[u8],
-    codes2: &mut [u32; 8192],
-    sums2: &mut [i64; 1024],
-    counts2: &mut [u32; 1024],
-    out: &mut [u8],
-) -> Written
-    requires { ⌜ Accepted (now first) (now codes1) (now sums1) (now counts1) dims rows ⌝ }
-    ensures { λ r. ⌜ Answered (joins (now (first .entry)) (now (second .entry))) (now (out .entry)) (now (out .exit)) r ⌝ }
-{
-    match required::read_required(second, codes2, sums2, counts2) {
-        ArchiveRead::Stop(n) => Written::Stop(n),
-        ArchiveRead::Entries {
-            dims: dims2,
-            bases,
-            cells: _,
-        } => join_read(
-            first,
-            codes1,
-            sums1,
-            counts1,
-            dims,
-            rows,
-            second,
-            codes2,
-            sums2,
-            counts2,
-            dims2,
-            bases,
-            out,
-        ),
-    }
-}
-
-// Reads the first archive into the arrays that are lent, and joins the second to it.
-fn join_first(
+// Reads both archives into the arrays that are lent, the first whole before the second, and joins them.
+fn join_in(
     first: &[u8],
     codes1: &mut [u32; 8192],
     sums1: &mut [i64; 1024],
@@ -176,19 +135,30 @@ fn join_first(
             dims,
             bases,
             cells: _,
-        } => join_second(
-            first,
-            codes1,
-            sums1,
-            counts1,
-            dims,
-            bases,
-            second,
-            codes2,
-            sums2,
-            counts2,
-            out,
-        ),
+        } => {
+            match required::read_required(second, codes2, sums2, counts2) {
+                ArchiveRead::Stop(n) => Written::Stop(n),
+                ArchiveRead::Entries {
+                    dims: dims2,
+                    bases: bases2,
+                    cells: _,
+                } => join_read(
+                    first,
+                    codes1,
+                    sums1,
+                    counts1,
+                    dims,
+                    bases,
+                    second,
+                    codes2,
+                    sums2,
+                    counts2,
+                    dims2,
+                    bases2,
+                    out,
+                ),
+            }
+        }
     }
 }
 
@@ -202,7 +172,7 @@ pub fn join(first: &[u8], second: &[u8], out: &mut [u8]) -> Written
     let mut codes2 = [0u32; 8192];
     let mut sums2 = [0i64; 1024];
     let mut counts2 = [0u32; 1024];
-    join_first(
+    join_in(
         first,
         &mut codes1,
         &mut sums1,
