@@ -27,10 +27,11 @@
  *
  * ANSWERS. Every function returns one number. 2^63 or more is a stop
  * (CUBE_IS_STOP), the one of enum cube_stop that is reached first: the file is
- * read from the left, field by field; then comes the question or the set number,
- * then a fee and whether there are rows to share it by, and the output last. A stop changes no byte that was lent. Otherwise the number
- * is what the function says, and bytes of the output beyond the result keep their
- * values. No function relies on an earlier check: each reads and checks its whole
+ * read from the left, field by field, the first of two files whole before the
+ * second; then comes the question or the set number, then a fee and whether there
+ * are rows to share it by, or whether two archives can be one, and the output
+ * last. A stop changes no byte that was lent. Otherwise the number is what the
+ * function says, and bytes of the output beyond the result keep their values. No function relies on an earlier check: each reads and checks its whole
  * input. That a number of 2^63 or more is a stop, and no other is, is proved
  * (crates/promises/proofs/Numbers.antt).
  *
@@ -58,7 +59,7 @@ extern "C" {
 #define CUBE_ALL UINT32_C(65535)
 
 /* Stack that is enough for a call, in bytes: measured in the compiled library, not proved. */
-#define CUBE_STACK 560000
+#define CUBE_STACK 600000
 
 /* Stops: whether an answer is one, and which one it is if so. */
 #define CUBE_STOP_BIT (UINT64_C(1) << 63)
@@ -83,6 +84,8 @@ enum cube_stop {
     CUBE_STOP_SET = 14,       /* the set number is 2^D or more */
     CUBE_STOP_OUTPUT = 15,    /* the result is longer than the output */
     CUBE_STOP_DIMENSION = 16, /* the dimension is not 1 to D; looked at after 14 and before 15 */
+    CUBE_STOP_SIZES = 17,     /* the dimensions or sizes of two archives differ; after both are checked, before 18 and 15 */
+    CUBE_STOP_MANY = 18,      /* the result has over 1,024 base rows or a total count over 1,048,576; before 15 */
     CUBE_STOP_FEE = 23,       /* the fee is above 1,000,000,000; looked at after 14 and before 15 */
     CUBE_STOP_NO_ROWS = 24    /* the archive has no base row; looked at after 23 and before 15 */
 };
@@ -110,6 +113,10 @@ enum cube_stop {
 #define CUBE_EXPANSION_ROOM(d, n) (CUBE_CUBOID_ROOM(d, n) << (d))
 /* Keys: a count and at most 70 set numbers, as many as there can be of which none holds another. */
 #define CUBE_KEYS_ROOM ((size_t)284)
+
+/* Two archives joined, of n and m base rows: as many as both have, and no more than 1,024. */
+#define CUBE_JOIN_ROOM(d, n, m) \
+    CUBE_ARCHIVE_ROOM(d, (size_t)(n) + (size_t)(m) < 1024 ? (size_t)(n) + (size_t)(m) : 1024)
 
 /* Shares of a fee: n is the number of cells, or the base count, which is no less where a fee can be shared. */
 #define CUBE_FEE_ROOM(n) (4 + 4 * (size_t)(n))
@@ -160,6 +167,16 @@ uint64_t cube_fixes(const uint8_t *archive, size_t archive_len, uint32_t set, ui
  */
 uint64_t cube_share_fee(const uint8_t *archive, size_t archive_len, uint32_t fee, uint32_t set,
                         uint8_t *out, size_t out_len);
+
+/*
+ * Joins two archives of the same dimensions and sizes: the length of the archive
+ * of both lists of base rows, rows with equal codes as one with both sums and
+ * counts. Which comes first does not matter; an archive without rows leaves the
+ * other's bytes. Both inputs may be the same bytes. Stops: 1 to 12 of the first,
+ * then 1 to 12 of the second (the number does not tell which), 17, 18, 15.
+ */
+uint64_t cube_join(const uint8_t *first, size_t first_len, const uint8_t *second, size_t second_len,
+                   uint8_t *out, size_t out_len);
 
 #ifdef __cplusplus
 }

@@ -1,4 +1,4 @@
-//! Asks an archive, which it reads from standard input:
+//! Asks an archive, which it reads from standard input, or joins two:
 //!
 //!     ask check < ARCHIVE              5 base entries, 5 normal entries
 //!     ask cell '*' 5 1 < ARCHIVE       * 5 1 70 1 : entry 3
@@ -13,6 +13,7 @@
 //!     ask fee 101 2 < ARCHIVE          * 1 * 41
 //!                                      * 3 * 20
 //!                                      * 5 * 40
+//!     ask join FIRST SECOND > JOINED   the archive of both
 //!
 //! `cargo build --release --examples` makes the program, `target/release/examples/ask`.
 //!
@@ -23,12 +24,17 @@
 //!
 //! `fee` shares so many cents over the cells of a set by their counts: a cell's line has its codes and its cents.
 //!
+//! `join` reads two archives of the same dimensions and sizes from files, `-` being standard input, and writes the archive of the
+//! rows of both; a stop for what is in one of them names the file.
+//!
 //! A stop is written to standard error as `refused`, its number in document 01 or 02 and what is wrong, and the exit status is 1; a
 //! question of another length, or with a code that is not below its size, is stop 13. A dimension that the archive has not is
 //! no stop, and is refused in the same way without a number. Wrong usage has exit status 2.
 use cube_archive::{Archive, Code, Codes, Cuboid, Stop};
 use std::error::Error;
+use std::ffi::{OsStr, OsString};
 use std::fmt;
+use std::fs;
 use std::io::{self, Read, Write};
 use std::process::ExitCode;
 
@@ -40,7 +46,13 @@ usage: ask check < ARCHIVE
        ask keys < ARCHIVE            the smallest sets on which no two rows agree
        ask fixes SET DIMENSION < ARCHIVE
        ask totals DIM < ARCHIVE      the cells of a dimension, counted from 1, added up beside the grand total
-       ask fee CENTS SET < ARCHIVE   the cents of each cell of a set, by the cells' counts";
+       ask fee CENTS SET < ARCHIVE   the cents of each cell of a set, by the cells' counts
+       ask join FIRST SECOND > JOINED   the archive of both; '-' for one of them is standard input";
+
+enum Command {
+    Ask(Question),
+    Join(OsString, OsString),
+}
 
 enum Question {
     Check,
@@ -76,12 +88,11 @@ impl fmt::Display for Refusal {
 }
 
 fn main() -> ExitCode {
-    let words: Vec<String> = std::env::args_os().skip(1).map(|word| word.to_string_lossy().into()).collect();
-    let Some(question) = question(&words.iter().map(String::as_str).collect::<Vec<_>>()) else {
+    let Some(command) = command(std::env::args_os().skip(1).collect()) else {
         eprintln!("{USAGE}");
         return ExitCode::from(2);
     };
-    match ask(question) {
+    match carry_out(command) {
         Ok(()) => ExitCode::SUCCESS,
         Err(error) => {
             eprintln!("{error}");
@@ -90,13 +101,45 @@ fn main() -> ExitCode {
     }
 }
 
-fn ask(question: Question) -> Result<(), Box<dyn Error>> {
-    let mut archive = vec![];
-    io::stdin().read_to_end(&mut archive)?;
-    let answer = answer(archive, question).map_err(|refusal| refusal.to_string())?;
+fn carry_out(command: Command) -> Result<(), Box<dyn Error>> {
+    let answer = match command {
+        Command::Ask(question) => answer(read("-".as_ref())?, question).map_err(|refusal| refusal.to_string())?.into_bytes(),
+        Command::Join(first, second) => join(&first, &second)?,
+    };
     let mut out = io::stdout();
-    out.write_all(answer.as_bytes())?;
+    out.write_all(&answer)?;
     Ok(out.flush()?)
+}
+
+/// The bytes of a file; of standard input for `-`.
+fn read(name: &OsStr) -> Result<Vec<u8>, Box<dyn Error>> {
+    if name != "-" {
+        return fs::read(name).map_err(|error| format!("{}: {error}", name.to_string_lossy()).into());
+    }
+    let mut bytes = vec![];
+    io::stdin().read_to_end(&mut bytes)?;
+    Ok(bytes)
+}
+
+/// The archive of two archives.
+fn join(first: &OsStr, second: &OsStr) -> Result<Vec<u8>, Box<dyn Error>> {
+    let open = |name: &OsStr| -> Result<Archive, Box<dyn Error>> {
+        let refused = |stop| format!("{}, in {}", Refusal::Stop(stop), name.to_string_lossy());
+        Ok(Archive::open(read(name)?).map_err(refused)?)
+    };
+    let joined = open(first)?.join(&open(second)?).map_err(|stop| Refusal::Stop(stop).to_string())?;
+    Ok(joined.into_bytes())
+}
+
+/// The command that the words are, if they are one.
+fn command(words: Vec<OsString>) -> Option<Command> {
+    match words.as_slice() {
+        [join, first, second] if join == "join" => (first != "-" || second != "-").then(|| Command::Join(first.clone(), second.clone())),
+        _ => {
+            let words: Vec<_> = words.iter().map(|word| word.to_string_lossy()).collect();
+            question(&words.iter().map(AsRef::as_ref).collect::<Vec<_>>()).map(Command::Ask)
+        }
+    }
 }
 
 /// The question that the words are, if they are one.

@@ -174,6 +174,38 @@ impl Archive {
         Ok((0..cells).map(|_| fields.word().expect("and so many shares")).collect())
     }
 
+    /// This archive and another, of the same dimensions and sizes, as one: the archive of both lists of base rows, folded.
+    ///
+    /// Each cell has the sums and counts of both. Which comes first does not matter; one without rows leaves the other's bytes.
+    ///
+    /// Stop 17 if the dimensions or sizes differ, 18 if there are over 1,024 base rows or a total count over 1,048,576.
+    ///
+    /// ```
+    /// use cube_archive::{Archive, Found, Stop, Table};
+    ///
+    /// let site = |rows: &[([u16; 2], i32)]| -> Result<Archive, Box<dyn std::error::Error>> {
+    ///     let mut table = Table::new(&[7, 6])?;
+    ///     for (codes, reading) in rows {
+    ///         table.push(codes, *reading)?;
+    ///     }
+    ///     Ok(Archive::build(&table.to_bytes())?)
+    /// };
+    /// let here = site(&[([0, 1], 50), ([2, 3], 60)])?;
+    /// let there = site(&[([2, 3], -10), ([4, 1], 5)])?;
+    /// let both = here.join(&there)?;
+    /// assert_eq!(both, there.join(&here)?);
+    /// assert_eq!(both.look_up(&[Some(2), Some(3)])?, Some(Found { sum: 50, count: 2, entry: 1 }));
+    /// assert_eq!(both.look_up(&[None, None])?.map(|all| (all.sum, all.count)), Some((105, 4)));
+    /// assert_eq!(here.join(&site(&[])?)?, here, "no rows leave the other's bytes");
+    /// let other = Archive::build(&Table::new(&[7, 7])?.to_bytes())?;
+    /// assert_eq!(here.join(&other), Err(Stop::Sizes));
+    /// # Ok::<(), Box<dyn std::error::Error>>(())
+    /// ```
+    pub fn join(&self, other: &Archive) -> Result<Archive, Stop> {
+        let room = room::join(self.head.dims, self.head.rows, other.head.rows);
+        Ok(Archive::accepted(written(room, |out| raw::join(&self.bytes, &other.bytes, out))?))
+    }
+
     /// The cuboids of these sets, which the bytes list one behind the other.
     fn decoded(&self, bytes: &[u8], sets: &[u32]) -> Vec<Cuboid> {
         let mut fields = Fields(bytes);

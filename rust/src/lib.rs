@@ -20,7 +20,7 @@
 //! ```
 //!
 //! * [`Table`]: the bytes of a table; [`csv`]: a table from CSV text
-//! * [`Archive`]: build, open, check, look up, list a cuboid, expand, list the smallest keys, tell what a set fixes, share a fee
+//! * [`Archive`]: build, open, check, look up, list a cuboid, expand, list the smallest keys, tell what a set fixes, share a fee, join two
 //! * [`Stop`]: why a call refuses its input, with the documents' numbers
 //! * [`raw`]: the calls on slices, into an output of the caller's; [`room`]: how long an output is enough
 //!
@@ -53,4 +53,4 @@ pub use stop::Stop;
 pub use table::{Table, TableError};
 
 /// Stack that is enough for a call, in bytes: measured in the compiled library, not proved.
-pub const STACK: usize = 560_000;
+pub const STACK: usize = 600_000;

@@ -34,6 +34,7 @@ mod ffi {
         pub fn cube_smallest_keys(archive: *const u8, archive_len: usize, out: *mut u8, out_len: usize) -> u64;
         pub fn cube_fixes(archive: *const u8, archive_len: usize, set: u32, dimension: u32) -> u64;
         pub fn cube_share_fee(archive: *const u8, archive_len: usize, fee: u32, set: u32, out: *mut u8, out_len: usize) -> u64;
+        pub fn cube_join(first: *const u8, first_len: usize, second: *const u8, second_len: usize, out: *mut u8, out_len: usize) -> u64;
     }
 }
 
@@ -104,6 +105,12 @@ pub fn fixes(archive: &[u8], set: u32, dimension: u32) -> Result<bool, Stop> {
 pub fn share_fee(archive: &[u8], fee: u32, set: u32, out: &mut [u8]) -> Result<usize, Stop> {
     // SAFETY: two slices, and the output is apart from the input.
     length(unsafe { ffi::cube_share_fee(archive.as_ptr(), archive.len(), fee, set, out.as_mut_ptr(), out.len()) })
+}
+
+/// Joins two archives of the same dimensions and sizes; the length of the archive of both lists of base rows, folded.
+pub fn join(first: &[u8], second: &[u8], out: &mut [u8]) -> Result<usize, Stop> {
+    // SAFETY: three slices, and the output is apart from the inputs.
+    length(unsafe { ffi::cube_join(first.as_ptr(), first.len(), second.as_ptr(), second.len(), out.as_mut_ptr(), out.len()) })
 }
 
 /// The answer, or the stop: 2 to the power 63 plus its number.

@@ -10,6 +10,12 @@ pub const fn archive(dims: usize, rows: usize) -> usize {
     20 + 4 * dims + at_least_1(rows) * each
 }
 
+/// For two archives joined, of so many base rows: they have no more together, and no more than 1,024.
+pub const fn join(dims: usize, rows: usize, others: usize) -> usize {
+    let both = rows + others;
+    archive(dims, if both < 1024 { both } else { 1024 })
+}
+
 /// For a listed cuboid.
 pub const fn cuboid(dims: usize, rows: usize) -> usize {
     4 + at_least_1(rows) * (4 * dims + 12)

@@ -45,6 +45,10 @@ pub enum Stop {
     Output = 15,
     /// The dimension that a call is given is not 1 to D.
     Dimension = 16,
+    /// The dimensions or sizes of two archives differ.
+    Sizes = 17,
+    /// Two archives have over 1,024 base rows together, or a total count over 1,048,576.
+    Many = 18,
     /// The fee is above 1,000,000,000.
     Fee = 23,
     /// The archive has no base row, so that there is nothing to share a fee by.
@@ -53,7 +57,7 @@ pub enum Stop {
 
 impl Stop {
     /// All stops, in checking order.
-    pub const IN_ORDER: [Stop; 18] = [
+    pub const IN_ORDER: [Stop; 20] = [
         Stop::Opening,
         Stop::Cut,
         Stop::Dimensions,
@@ -69,6 +73,8 @@ impl Stop {
         Stop::Question,
         Stop::Set,
         Stop::Dimension,
+        Stop::Sizes,
+        Stop::Many,
         Stop::Fee,
         Stop::NoRows,
         Stop::Output,
@@ -106,6 +112,8 @@ impl Stop {
             Stop::Set => "the set has a dimension that the archive has not",
             Stop::Output => "the result is longer than the output",
             Stop::Dimension => "the dimension is not one of the archive's, which are counted from 1",
+            Stop::Sizes => "the two archives have not the same dimensions and sizes",
+            Stop::Many => "the two archives together have over 1,024 base rows, or a total count over 1,048,576",
             Stop::Fee => "the fee is above 1,000,000,000 cents",
             Stop::NoRows => "the archive has no base row",
         }

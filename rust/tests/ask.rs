@@ -17,6 +17,7 @@ usage: ask check < ARCHIVE
        ask fixes SET DIMENSION < ARCHIVE
        ask totals DIM < ARCHIVE      the cells of a dimension, counted from 1, added up beside the grand total
        ask fee CENTS SET < ARCHIVE   the cents of each cell of a set, by the cells' counts
+       ask join FIRST SECOND > JOINED   the archive of both; '-' for one of them is standard input
 ";
 const QUESTION: &str = "13: the question has not one code for each dimension, or a code that is not below its dimension's size";
 
@@ -248,6 +249,65 @@ fn a_wrong_question_is_refused() {
     }
 }
 
+/// A file of this test's own.
+struct Named(std::path::PathBuf);
+
+impl Named {
+    fn new(name: &str, bytes: &[u8]) -> Named {
+        let path = std::env::temp_dir().join(format!("ask-{}-{name}", std::process::id()));
+        std::fs::write(&path, bytes).unwrap();
+        Named(path)
+    }
+
+    fn word(&self) -> &OsStr {
+        self.0.as_os_str()
+    }
+}
+
+impl Drop for Named {
+    fn drop(&mut self) {
+        let _ = std::fs::remove_file(&self.0);
+    }
+}
+
+fn join(first: &OsStr, second: &OsStr, input: &[u8]) -> (Option<i32>, Vec<u8>, String) {
+    let Output { status, stdout, stderr } = example::run("ask", &[OsStr::new("join"), first, second], input);
+    (status.code(), stdout, String::from_utf8(stderr).unwrap())
+}
+
+/// Two files, or standard input for either: the bytes that the library joins, and no line end.
+#[test]
+fn two_archives_are_joined() {
+    let dash = OsStr::new("-");
+    let rows = [(vec![0, 1, 1], -50), (vec![3, 3, 2], 7)];
+    let other = Records { sizes: vec![7, 6, 3], rows: rows.to_vec() }.archive();
+    let joined = Records::five().archive().join(&other).unwrap().into_bytes();
+    let (five, other) = (Named::new("five.cube", &five()), Named::new("other.cube", other.as_bytes()));
+    let (five_bytes, other_bytes) = (std::fs::read(&five.0).unwrap(), std::fs::read(&other.0).unwrap());
+    assert_eq!(join(five.word(), other.word(), &[]), (Some(0), joined.clone(), "".into()));
+    assert_eq!(join(other.word(), five.word(), &[]), (Some(0), joined.clone(), "".into()));
+    assert_eq!(join(dash, other.word(), &five_bytes), (Some(0), joined.clone(), "".into()));
+    assert_eq!(join(five.word(), dash, &other_bytes), (Some(0), joined, "".into()));
+}
+
+/// A stop names the file that it is about, the first before the second; one that is about both names none.
+#[test]
+fn archives_that_are_not_joined() {
+    let dash = OsStr::new("-");
+    let [five, four, cut] = [("right.cube", five()), ("four.cube", four().archive().into_bytes()), ("cut.cube", five()[..40].to_vec())]
+        .map(|(name, bytes)| Named::new(name, &bytes));
+    let cut_short = "refused 2: the file ends before the last byte of a field that its earlier fields demand, in";
+    let refused = |message: String| (Some(1), vec![], message + "\n");
+    assert_eq!(join(five.word(), cut.word(), &[]), refused(format!("{cut_short} {}", cut.0.display())));
+    assert_eq!(join(cut.word(), dash, &[]), refused(format!("{cut_short} {}", cut.0.display())));
+    let opening = "refused 1: the first four bytes are missing or are not the opening of such a file, in -";
+    assert_eq!(join(dash, cut.word(), b"FACT"), refused(opening.into()));
+    assert_eq!(join(five.word(), four.word(), &[]), refused("refused 17: the two archives have not the same dimensions and sizes".into()));
+    let (status, stdout, stderr) = join(five.word(), OsStr::new("no such file"), &[]);
+    assert_eq!((status, stdout), (Some(1), vec![]));
+    assert!(stderr.starts_with("no such file: "), "{stderr}");
+}
+
 /// The program ends before it reads, so the input is empty.
 #[test]
 fn wrong_usage() {
@@ -255,6 +315,9 @@ fn wrong_usage() {
     let fees = ["fee", "fee 1", "fee 1 2 3", "fee 1.5 2", "fee -1 2", "fee 1 *"];
     let wrong = wrong.into_iter().chain(fees);
     for words in wrong.chain(["cuboid", "cuboid *", "cuboid two", "cuboid -1", "cuboid 1 2", "expand 1", "five-rows.cube"]) {
+        assert_eq!(ask(words, &[]), (Some(2), "".into(), USAGE.into()), "{words}");
+    }
+    for words in ["join", "join a", "join a b c", "join - -"] {
         assert_eq!(ask(words, &[]), (Some(2), "".into(), USAGE.into()), "{words}");
     }
     for words in ["keys 1", "fixes", "fixes 1", "fixes 1 2 3", "fixes * 1", "fixes 1 *", "fixes -1 1"] {

@@ -45,6 +45,16 @@ fn a_fee() {
 }
 
 #[test]
+fn two_archives_joined() {
+    let archive = Records::five().archive().into_bytes();
+    try_lengths(324, room::join(3, 5, 5), |out| raw::join(&archive, &archive, out));
+    let empty = Records { sizes: vec![1], rows: vec![] }.archive().into_bytes();
+    try_lengths(40, room::join(1, 0, 0), |out| raw::join(&empty, &empty, out));
+    assert_eq!(room::join(8, 1_000, 24), room::archive(8, 1_024));
+    assert_eq!(room::join(8, 1_024, 1_024), room::archive(8, 1_024));
+}
+
+#[test]
 fn no_rows() {
     let empty = Records { sizes: vec![1], rows: vec![] };
     let (table, archive) = (empty.table(), empty.archive().into_bytes());

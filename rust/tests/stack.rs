@@ -21,6 +21,7 @@ fn the_stack_is_enough() {
             raw::expand(&archive, &mut out).unwrap();
             raw::smallest_keys(&archive, &mut out).unwrap();
             raw::fixes(&archive, 1, 2).unwrap();
+            raw::join(&archive, &archive, &mut out).unwrap();
             raw::share_fee(&archive, 1_000_000_000, 255 >> (8 - question.len()), &mut out).unwrap();
         };
         Builder::new().stack_size(STACK).spawn(calls).unwrap().join().unwrap();

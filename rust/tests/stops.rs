@@ -4,8 +4,8 @@ mod cube;
 use cube::Records;
 use cube_archive::{raw, Archive, Stop, ALL};
 
-/// In checking order: dimension and fee are looked at after the set and before the output.
-const STOPS: [(Stop, &str); 18] = [
+/// In checking order: dimension, fee and what two archives are together are looked at after the file and the set, and before the output.
+const STOPS: [(Stop, &str); 20] = [
     (Stop::Opening, "the first four bytes are missing or are not the opening of such a file"),
     (Stop::Cut, "the file ends before the last byte of a field that its earlier fields demand"),
     (Stop::Dimensions, "the number of dimensions is not 1 to 8"),
@@ -21,6 +21,8 @@ const STOPS: [(Stop, &str); 18] = [
     (Stop::Question, "the question has not one code for each dimension, or a code that is not below its dimension's size"),
     (Stop::Set, "the set has a dimension that the archive has not"),
     (Stop::Dimension, "the dimension is not one of the archive's, which are counted from 1"),
+    (Stop::Sizes, "the two archives have not the same dimensions and sizes"),
+    (Stop::Many, "the two archives together have over 1,024 base rows, or a total count over 1,048,576"),
     (Stop::Fee, "the fee is above 1,000,000,000 cents"),
     (Stop::NoRows, "the archive has no base row"),
     (Stop::Output, "the result is longer than the output"),
@@ -29,7 +31,7 @@ const STOPS: [(Stop, &str); 18] = [
 #[test]
 fn numbers_and_words() {
     assert_eq!(STOPS.map(|(stop, _)| stop), Stop::IN_ORDER);
-    for (number, (stop, words)) in (1..=14).chain([16, 23, 24, 15]).zip(STOPS) {
+    for (number, (stop, words)) in (1..=14).chain([16, 17, 18, 23, 24, 15]).zip(STOPS) {
         assert_eq!(stop.number(), number);
         assert_eq!(stop.to_string(), format!("stop {number}: {words}"));
     }
@@ -100,6 +102,8 @@ fn wrong_archives() {
         assert_eq!(raw::smallest_keys(&file, &mut []), Err(stop));
         assert_eq!(raw::fixes(&file, 8, 0), Err(stop));
         assert_eq!(raw::share_fee(&file, u32::MAX, 8, &mut []), Err(stop));
+        assert_eq!(raw::join(&file, &[], &mut []), Err(stop));
+        assert_eq!(raw::join(&right, &file, &mut []), Err(stop));
         assert_eq!(Archive::open(file), Err(stop));
     }
 }
@@ -137,6 +141,26 @@ fn wrong_dimensions() {
         assert_eq!(archive.fixes(8, dimension), Err(Stop::Set));
     }
     assert_eq!(archive.fixes(u32::MAX, 1), Err(Stop::Set));
+}
+
+/// 17, 18 and 15, each with everything wrong that comes after it.
+#[test]
+fn archives_that_cannot_be_one() {
+    let rows = |from, to| (from..to).map(|code| (vec![code], 1)).collect();
+    let of = |size, from, to| Records { sizes: vec![size], rows: rows(from, to) }.archive();
+    let (full, more) = (of(2_000, 0, 1_024), of(2_000, 1_000, 1_025));
+    assert_eq!(full.join(&of(2_001, 1_000, 1_025)), Err(Stop::Sizes));
+    assert_eq!(full.join(&Records::five().archive()), Err(Stop::Sizes));
+    assert_eq!(full.join(&more), Err(Stop::Many));
+    assert_eq!(more.join(&full), Err(Stop::Many));
+    assert_eq!(full.join(&of(2_000, 1_000, 1_024)).map(|both| both.check().unwrap().bases), Ok(1_024));
+    assert_eq!(raw::join(full.as_bytes(), full.as_bytes(), &mut []), Err(Stop::Output));
+    let mut site = of(1, 0, 1);
+    for _ in 0..20 {
+        site = site.join(&site).unwrap();
+    }
+    assert_eq!(site.look_up(&[None]).unwrap().map(|all| (all.sum, all.count)), Some((1 << 20, 1 << 20)));
+    assert_eq!(site.join(&of(1, 0, 1)), Err(Stop::Many));
 }
 
 /// 14, 23, 24 and 15, each with everything wrong that comes after it.

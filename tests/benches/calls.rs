@@ -15,7 +15,7 @@ use std::hint::black_box;
 use std::time::{Duration, Instant};
 
 /// The columns, and the stop that a column's call ends with, if it has one.
-const CALLS: [(&str, Option<Stop>); 9] = [
+const CALLS: [(&str, Option<Stop>); 10] = [
     ("build", None),
     ("wrong check word", Some(11)),
     ("check", None),
@@ -25,6 +25,7 @@ const CALLS: [(&str, Option<Stop>); 9] = [
     ("keys", None),
     ("fixes", None),
     ("share a fee", None),
+    ("join", None),
 ];
 
 /// The set whose cuboid is listed and shares the fee, and on which the looked-up cell has codes: every other dimension.
@@ -47,6 +48,8 @@ struct Inputs {
     archive: Vec<u8>,
     set: u32,
     question: Vec<u32>,
+    /// The archives of the even rows and of the odd ones.
+    halves: [Vec<u8>; 2],
 }
 
 /// A file with another check word.
@@ -60,9 +63,15 @@ impl Inputs {
         let codes = &rows[rows.len() / 2].0;
         let table = table_bytes(&SIZES[..codes.len()], rows);
         let refused = miswritten(table.clone());
-        let length = Good.build(&table, out).unwrap();
+        let sizes = &SIZES[..codes.len()];
+        let mut built = |table: &[u8]| {
+            let length = Good.build(table, out).unwrap();
+            out[..length].to_vec()
+        };
+        let half = |first| rows.iter().skip(first).step_by(2).cloned().collect::<Vec<_>>();
+        let halves = [0, 1].map(|first| built(&table_bytes(sizes, &half(first))));
         let set = SET % (1 << codes.len());
-        Inputs { table, refused, archive: out[..length].to_vec(), set, question: cube::cell(codes, set) }
+        Inputs { archive: built(&table), table, refused, set, question: cube::cell(codes, set), halves }
     }
 
     /// Those of the first rows and dimensions alone.
@@ -74,7 +83,7 @@ impl Inputs {
 
 /// One of the calls. What it returns, as words.
 fn run(calls: &dyn Calls, call: usize, inputs: &Inputs, out: &mut [u8]) -> Result<[u64; 3], Stop> {
-    let Inputs { table, refused, archive, set, question } = black_box(inputs);
+    let Inputs { table, refused, archive, set, question, halves } = black_box(inputs);
     match call {
         0 => calls.build(table, out).map(|length| [length as u64, 0, 0]),
         1 => calls.build(refused, out).map(|length| [length as u64, 0, 0]),
@@ -84,7 +93,8 @@ fn run(calls: &dyn Calls, call: usize, inputs: &Inputs, out: &mut [u8]) -> Resul
         5 => calls.expand(archive, out).map(|length| [length as u64, 0, 0]),
         6 => calls.smallest_keys(archive, out).map(|length| [length as u64, 0, 0]),
         7 => calls.fixes(archive, *set, DIMENSION).map(|fixes| [fixes as u64, 0, 0]),
-        _ => calls.share_fee(archive, FEE, *set, out).map(|length| [length as u64, 0, 0]),
+        8 => calls.share_fee(archive, FEE, *set, out).map(|length| [length as u64, 0, 0]),
+        _ => calls.join(&halves[0], &halves[1], out).map(|length| [length as u64, 0, 0]),
     }
 }
 
@@ -186,10 +196,10 @@ fn main() {
     let kinds = kinds(&mut Random::seeded(7));
     let tables: Vec<_> = kinds.iter().map(|(name, rows)| (name, Inputs::of(rows, &mut out))).collect();
     println!("1,024 rows, D 8: milliseconds of the library and of good, and library / good");
-    for calls in [[0, 1, 2], [3, 4, 5], [6, 7, 8]] {
-        println!("{}", head(&calls));
+    for calls in [&[0, 1, 2][..], &[3, 4, 5], &[6, 7], &[8, 9]] {
+        println!("{}", head(calls));
         for (name, inputs) in &tables {
-            println!("{}", line(name, inputs, &calls, &mut out, repeat));
+            println!("{}", line(name, inputs, calls, &mut out, repeat));
         }
     }
     let (name, rows) = &kinds[1];

@@ -58,6 +58,21 @@ static uint64_t share_fee(const struct file *input, uint32_t set, uint8_t *out, 
     return cube_share_fee(input->bytes, input->length, fee, set, out, room);
 }
 
+/* The archive that is joined next to the input: behind it, and in front of it. */
+static struct file other;
+
+static uint64_t join_other(const struct file *input, uint32_t set, uint8_t *out, size_t room)
+{
+    (void)set;
+    return cube_join(input->bytes, input->length, other.bytes, other.length, out, room);
+}
+
+static uint64_t join_to_other(const struct file *input, uint32_t set, uint8_t *out, size_t room)
+{
+    (void)set;
+    return cube_join(other.bytes, other.length, input->bytes, input->length, out, room);
+}
+
 /* The call stops so, and the output keeps every byte. */
 static void check_stopped(writer *call, const struct file *input, uint32_t set, size_t room, unsigned stop)
 {
@@ -111,13 +126,13 @@ static int nothing_stored(const struct numbers *n)
 
 static void macros(void)
 {
-    const enum cube_stop stops[16] = {
+    const enum cube_stop stops[18] = {
         CUBE_STOP_OPENING, CUBE_STOP_CUT, CUBE_STOP_DIMENSIONS, CUBE_STOP_SIZE, CUBE_STOP_ROWS,
         CUBE_STOP_CODE, CUBE_STOP_ORDER, CUBE_STOP_AMOUNT, CUBE_STOP_LIST, CUBE_STOP_TRAILING,
         CUBE_STOP_CHECK, CUBE_STOP_ENTRIES, CUBE_STOP_QUESTION, CUBE_STOP_SET, CUBE_STOP_OUTPUT,
-        CUBE_STOP_DIMENSION,
+        CUBE_STOP_DIMENSION, CUBE_STOP_SIZES, CUBE_STOP_MANY,
     };
-    for (unsigned i = 0; i < 16; i++)
+    for (unsigned i = 0; i < 18; i++)
         CHECK_CASE(i, (unsigned)stops[i] == i + 1);
     CHECK(CUBE_STOP_FEE == 23 && CUBE_STOP_NO_ROWS == 24);
     CHECK(CUBE_FEE_ROOM(0) == 4 && CUBE_FEE_ROOM(5) == 24 && CUBE_FEE_ROOM(1024) == 4100);
@@ -128,6 +143,8 @@ static void macros(void)
     CHECK(CUBE_ARCHIVE_ROOM(1, 2) == 80 && CUBE_ARCHIVE_ROOM(8, 1024) == 52 + 1024 * (48 + 255 * 22));
     CHECK(CUBE_CUBOID_ROOM(3, 5) == 124 && CUBE_EXPANSION_ROOM(3, 5) == 8 * 124);
     CHECK(CUBE_EXPANSION_ROOM(8, 1024) == 11535360);
+    CHECK(CUBE_JOIN_ROOM(3, 2, 3) == CUBE_ARCHIVE_ROOM(3, 5) && CUBE_JOIN_ROOM(3, 0, 0) == CUBE_ARCHIVE_ROOM(3, 0));
+    CHECK(CUBE_JOIN_ROOM(8, 1000, 25) == CUBE_ARCHIVE_ROOM(8, 1024) && CUBE_JOIN_ROOM(8, 1024, 1024) == CUBE_ARCHIVE_ROOM(8, 1024));
     CHECK(CUBE_ARCHIVE_ROOM(1, 0) == 52 && CUBE_CUBOID_ROOM(1, 0) == 20 && CUBE_EXPANSION_ROOM(1, 0) == 40);
     for (unsigned d = 1; d <= 8; d++) {
         CHECK_CASE(d, CUBE_ARCHIVE_ROOM(d, 0) == CUBE_ARCHIVE_ROOM(d, 1));
@@ -358,6 +375,10 @@ static void check_archive_stopped(const struct file *archive, unsigned stop)
     CHECK_CASE(stop, cube_fixes(archive->bytes, archive->length, SETS, 0) == CUBE_STOP_BIT + stop);
     fee = UINT32_MAX;
     check_stopped(share_fee, archive, SETS, 0, stop);
+    other.length = 0;
+    check_stopped(join_other, archive, 0, 0, stop);
+    other = five_archive();
+    check_stopped(join_to_other, archive, 0, 0, stop);
 }
 
 static void check_table_stopped(const struct file *table, unsigned stop)
@@ -529,6 +550,48 @@ static void stops_of_fees(void)
     check_stopped(share_fee, &empty, 1, ROOM, CUBE_STOP_NO_ROWS);
 }
 
+/* The five rows with themselves: the same entries, every sum and count twice. With no rows they keep their bytes. */
+static void joining(void)
+{
+    struct file archive = five_archive(), twice, empty;
+    put_head(&twice, ARCHIVE, BASES);
+    for (int i = 0; i < BASES + NORMALS; i++) {
+        const struct entry *e = &ENTRIES[i];
+        if (i == BASES)
+            put_word(&twice, NORMALS);
+        put_cell(&twice, e->codes, 2 * e->sum, 2 * e->count);
+        if (i < BASES) {
+            put_word(&twice, e->list_count);
+            put_words(&twice, e->list, e->list_count);
+        }
+    }
+    put_check_word(&twice);
+    other = archive;
+    check_written(join_other, &archive, 0, CUBE_JOIN_ROOM(D, BASES, BASES), &twice);
+    put_head(&empty, TABLE, 0);
+    put_check_word(&empty);
+    other.length = (size_t)cube_build(empty.bytes, empty.length, other.bytes, sizeof other.bytes);
+    CHECK(other.length == 32 + 8 * D);
+    check_written(join_other, &archive, 0, CUBE_JOIN_ROOM(D, BASES, 0), &archive);
+    check_written(join_to_other, &archive, 0, CUBE_JOIN_ROOM(D, 0, BASES), &archive);
+}
+
+/* 17, 18, 15, each with what is wrong behind it. */
+static void stops_of_joins(void)
+{
+    const uint32_t none[] = {1, 1, 0, 1, CUBE_ALL, 0, 0, 0}, wider[] = {1, 2, 0, 1, CUBE_ALL, 0, 0, 0};
+    const uint32_t most[] = {1, 1, 1, 0, 7, 0, 1048576, 1, 0, 0}, one[] = {1, 1, 1, 0, 7, 0, 1, 1, 0, 0};
+    struct file archive = five_archive(), empty = file_of(ARCHIVE, none, 8), full = file_of(ARCHIVE, most, 10);
+    other = file_of(ARCHIVE, wider, 8);
+    check_stopped(join_other, &archive, 0, 0, CUBE_STOP_SIZES);
+    check_stopped(join_other, &full, 0, 0, CUBE_STOP_SIZES);
+    other = file_of(ARCHIVE, one, 10);
+    check_stopped(join_other, &full, 0, 0, CUBE_STOP_MANY);
+    check_stopped(join_to_other, &full, 0, ROOM, CUBE_STOP_MANY);
+    check_written(join_other, &empty, 0, CUBE_JOIN_ROOM(1, 0, 1), &other);
+    check_stopped(join_other, &empty, 0, other.length - 1, CUBE_STOP_OUTPUT);
+}
+
 int main(void)
 {
     macros();
@@ -548,6 +611,8 @@ int main(void)
     stops_of_fixes();
     sharing();
     stops_of_fees();
+    joining();
+    stops_of_joins();
     printf("%u passed, %u failed\n", passed, failed);
     return failed == 0 ? 0 : 1;
 }

@@ -35,4 +35,7 @@ pub trait Calls: Sync {
 
     /// Writes the number of cells of one set, then each cell's cents of a fee; the length.
     fn share_fee(&self, archive: &[u8], fee: u32, set: u32, out: &mut [u8]) -> Result<usize, Stop>;
+
+    /// Writes the archive of the base rows of two archives; its length.
+    fn join(&self, first: &[u8], second: &[u8], out: &mut [u8]) -> Result<usize, Stop>;
 }

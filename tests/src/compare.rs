@@ -3,7 +3,7 @@ use crate::calls::{Calls, Stop};
 use crate::good::Good;
 use crate::lent::Lent;
 use crate::library::Library;
-use crate::model::{self, Accepted};
+use crate::model::{self, joins, Accepted};
 use std::fmt::Debug;
 use std::hint::black_box;
 
@@ -27,11 +27,12 @@ pub const EXPAND: usize = 4;
 pub const KEYS: usize = 5;
 pub const FIXES: usize = 6;
 pub const SHARE: usize = 7;
+pub const JOIN: usize = 8;
 
-const NAMES: [&str; 8] = ["build", "check", "look up", "list", "expand", "keys", "fixes", "share a fee"];
+const NAMES: [&str; 9] = ["build", "check", "look up", "list", "expand", "keys", "fixes", "share a fee", "join"];
 
 /// The stops that each call can have.
-const STOPS: [&[usize]; 8] = [
+const STOPS: [&[usize]; 9] = [
     &[1, 2, 3, 4, 5, 6, 10, 11, 15],
     &[1, 2, 3, 4, 5, 6, 7, 8, 9, 10, 11, 12],
     &[1, 2, 3, 4, 5, 6, 7, 8, 9, 10, 11, 12, 13],
@@ -40,6 +41,7 @@ const STOPS: [&[usize]; 8] = [
     &[1, 2, 3, 4, 5, 6, 7, 8, 9, 10, 11, 12, 15],
     &[1, 2, 3, 4, 5, 6, 7, 8, 9, 10, 11, 12, 14, 16],
     &[1, 2, 3, 4, 5, 6, 7, 8, 9, 10, 11, 12, 14, 15, 23, 24],
+    &[1, 2, 3, 4, 5, 6, 7, 8, 9, 10, 11, 12, 15, 17, 18],
 ];
 
 /// The greatest number of a stop.
@@ -49,7 +51,7 @@ const LAST: usize = 24;
 #[derive(Default)]
 pub struct Compare {
     /// How often each call had each answer: place 0 for answers without a stop.
-    pub seen: [[u64; LAST + 1]; 8],
+    pub seen: [[u64; LAST + 1]; 9],
     /// How many results were written, or refused, in a call with an output.
     outputs: usize,
 }
@@ -81,7 +83,7 @@ impl Compare {
     fn refused(&mut self, s: &[u8], stop: Stop, what: &str) {
         // If the file says D, the question fits it.
         let dims = s.get(4).map_or(0, |&d| d as usize % 9);
-        match self.seen[CHECK].iter().sum::<u64>() % 10 {
+        match self.seen[CHECK].iter().sum::<u64>() % 12 {
             0 => self.answer(LOOK_UP, s, Err(stop), what, |calls| calls.look_up(s, &vec![model::ALL; dims])),
             1 => self.answer(LOOK_UP, s, Err(stop), what, |calls| calls.look_up(s, &[])),
             2 => self.output(LIST, s, &Err(stop), what, |calls, out| calls.list_cuboid(s, 0, out)),
@@ -91,6 +93,8 @@ impl Compare {
             6 => self.answer(FIXES, s, Err(stop), what, |calls| calls.fixes(s, u32::MAX, 0)),
             7 => self.output(SHARE, s, &Err(stop), what, |calls, out| calls.share_fee(s, 100, 0, out)),
             8 => self.output(SHARE, s, &Err(stop), what, |calls, out| calls.share_fee(s, u32::MAX, u32::MAX, out)),
+            9 => self.output(JOIN, s, &Err(stop), what, |calls, out| calls.join(s, b"CUBE", out)),
+            10 => self.output(JOIN, s, &Err(stop), what, |calls, out| calls.join(s, s, out)),
             _ => self.output(EXPAND, s, &Err(stop), what, |calls, out| calls.expand(s, out)),
         }
     }
@@ -121,6 +125,14 @@ impl Compare {
     pub fn share(&mut self, s: &[u8], accepted: &Accepted, fee: u32, set: u32, what: &str) {
         let want = accepted.share_fee(fee, set);
         self.output(SHARE, s, &want, &format!("{what}, fee {fee}, set {set}"), |calls, out| calls.share_fee(s, fee, set, out));
+    }
+
+    /// Two archives joined. The model's archive.
+    pub fn join(&mut self, first: &[u8], second: &[u8], what: &str) -> Result<Vec<u8>, Stop> {
+        let want = joins::join(first, second);
+        let what = format!("{what}, second archive {}", hex(second));
+        self.output(JOIN, first, &want, &what, |calls, out| keeping(second, || calls.join(first, second, out)));
+        want
     }
 
     /// A call that answers with numbers alone.

@@ -7,6 +7,7 @@ mod condense;
 mod fees;
 mod fixed;
 mod groups;
+mod join;
 mod look_up;
 mod read;
 mod rows;
@@ -130,5 +131,11 @@ impl Calls for Good {
         let out = out.get_mut(..4 + 4 * counts.len()).ok_or(15u32)?;
         fees::write(fee, &counts, out);
         Ok(out.len())
+    }
+
+    fn join(&self, first: &[u8], second: &[u8], out: &mut [u8]) -> Result<usize, Stop> {
+        let first = Checked::open(first)?.read.rows;
+        let rows = join::merged(&first, &Checked::open(second)?.read.rows)?;
+        write::archive(&rows, &Condensed::of(&rows, false), out)
     }
 }

@@ -19,6 +19,7 @@ extern "C" {
     fn cube_smallest_keys(archive: *const u8, archive_len: usize, out: *mut u8, out_len: usize) -> u64;
     fn cube_fixes(archive: *const u8, archive_len: usize, set: u32, dimension: u32) -> u64;
     fn cube_share_fee(archive: *const u8, archive_len: usize, fee: u32, set: u32, out: *mut u8, out_len: usize) -> u64;
+    fn cube_join(first: *const u8, first_len: usize, second: *const u8, second_len: usize, out: *mut u8, out_len: usize) -> u64;
 }
 
 const STOP: u64 = 1 << 63;
@@ -29,7 +30,7 @@ fn split(answer: u64) -> Result<u64, Stop> {
         return Ok(answer);
     }
     let stop = answer - STOP;
-    assert!(matches!(stop, 1..=16 | 23 | 24), "the stop {stop} is none of documents 01 and 02");
+    assert!(matches!(stop, 1..=18 | 23 | 24), "the stop {stop} is none of documents 01 and 02");
     Err(stop as Stop)
 }
 
@@ -138,6 +139,12 @@ impl Calls for Library {
     fn share_fee(&self, archive: &[u8], fee: u32, set: u32, out: &mut [u8]) -> Result<usize, Stop> {
         // SAFETY: both are slices, and apart.
         let answer = unsafe { cube_share_fee(archive.as_ptr(), archive.len(), fee, set, out.as_mut_ptr(), out.len()) };
+        Ok(split(answer)? as usize)
+    }
+
+    fn join(&self, first: &[u8], second: &[u8], out: &mut [u8]) -> Result<usize, Stop> {
+        // SAFETY: all are slices, and the output is apart from the inputs.
+        let answer = unsafe { cube_join(first.as_ptr(), first.len(), second.as_ptr(), second.len(), out.as_mut_ptr(), out.len()) };
         Ok(split(answer)? as usize)
     }
 }

@@ -3,6 +3,7 @@
 pub mod cube;
 pub mod fees;
 pub mod fields;
+pub mod joins;
 pub mod keys;
 mod listing;
 pub mod programs;

@@ -3,7 +3,7 @@ use calls::calls::{Calls, Stop};
 use calls::cases::{five_archive, five_table};
 use calls::compare::subjects;
 use calls::lent::Lent;
-use calls::model::{self, cube};
+use calls::model::{self, cube, joins};
 
 /// The call writes just these bytes where they fit, and nothing where they do not.
 fn every_length(result: &[u8], what: &str, run: impl Fn(&dyn Calls, &mut [u8]) -> Result<usize, Stop>) {
@@ -56,4 +56,10 @@ fn a_set_number_comes_before_the_output() {
         assert_eq!(calls.list_cuboid(&five_archive(), 8, &mut []), Err(14), "{name}");
         assert_eq!(calls.list_cuboid(&five_archive(), 7, &mut []), Err(15), "{name}");
     }
+}
+
+#[test]
+fn two_archives_joined() {
+    let twice = joins::join(&five_archive(), &five_archive()).unwrap();
+    every_length(&twice, "join", |calls, out| calls.join(&five_archive(), &five_archive(), out));
 }

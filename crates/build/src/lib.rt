@@ -12,7 +12,26 @@ ghost use Rattle.singles.specs.Ready.{Ready};
 ghost use Rattle.calls.specs.Answers.{bytes, Answered};
 ghost use Rattle.calls.specs.Calls.{builds};
 
-// Writes the archive of base rows where there is room for it; the sizes, which stand in the table, go into the buffer that is lent.
+// Writes the archive of sizes and base rows where there is room for it.
+pub fn fit_archive(
+    out: &mut [u8],
+    sizes: &[u32],
+    codes: &[u32],
+    sums: &[i64],
+    counts: &[u32],
+    rows: usize,
+) -> Written
+    requires { ⌜ Ready (length (now sizes)) rows (now codes) (now sums) (now counts) × Limits (now sizes) (rowsOf (length (now sizes)) rows (now codes) (now sums) (now counts)) ⌝ }
+    ensures { λ r. ⌜ Answered (bytes (archiveBytes (now (sizes .entry)) (rowsOf (length (now (sizes .entry))) rows (now (codes .entry)) (now (sums .entry)) (now (counts .entry))))) (now (out .entry)) (now (out .exit)) r ⌝ }
+{
+    let needed = building::write_archive(out, sizes, codes, sums, counts, rows);
+    if out.len() < needed {
+        return Written::Stop(15);
+    }
+    Written::Length(needed)
+}
+
+// Writes the archive of a table's base rows where there is room for it; the sizes, which stand in the table, go into the buffer that is lent.
 fn write_sized(
     s: &[u8],
     sizes: &mut [u32],
@@ -27,11 +46,7 @@ fn write_sized(
     ensures { λ r. ⌜ Answered (bytes (archiveBytes (wordsAt (now (s .entry)) (length (now (sizes .entry))) 8) (rowsOf (length (now (sizes .entry))) rows (now (codes .entry)) (now (sums .entry)) (now (counts .entry))))) (now (out .entry)) (now (out .exit)) r ⌝ }
 {
     fields::read_words(s, 8, sizes);
-    let needed = building::write_archive(out, sizes, codes, sums, counts, rows);
-    if out.len() < needed {
-        return Written::Stop(15);
-    }
-    Written::Length(needed)
+    fit_archive(out, sizes, codes, sums, counts, rows)
 }
 
 // Writes the archive of a table that was accepted; the arrays have its base rows.

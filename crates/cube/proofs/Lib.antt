@@ -1,5 +1,6 @@
 -- The theorems of the condensed cube.
 pub mod Sums
+pub mod Made
 pub mod Codes
 pub mod Nodes
 pub mod Singles

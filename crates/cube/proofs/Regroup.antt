@@ -30,7 +30,7 @@ module _ {A : Type 0} (M : Measure A) (E : Adds M) where
   more-swap a b c = sym (E .more-assoc a b c) ∙ ap (λ (t : A). M .more t c) (E .more-comm a b) ∙ E .more-assoc b a c
 
   -- the amount a more where the test passed
-  abbrev taking : Bool → A → A → A
+  abbrev pub taking : Bool → A → A → A
   taking b a t = cond b (M .more a t) t
 
   taking-swap : (p q : Bool) (a b t : A) → taking p a (taking q b t) ≡ taking q b (taking p a t)
@@ -47,7 +47,7 @@ module _ {A : Type 0} (M : Measure A) (E : Adds M) where
   taking-none false = refl
 
   -- one row more, where it passes
-  sum-taking : (p : List ℕ → Bool) (r : Row A) (l : List (Row A))
+  pub sum-taking : (p : List ℕ → Bool) (r : Row A) (l : List (Row A))
       → totalOf M (keep (λ q. p (q .codes)) (r ∷ l)) ≡ taking (p (r .codes)) (r .total) (totalOf M (keep (λ q. p (q .codes)) l))
   sum-taking p r l = cases (truth (p (r .codes)))
       (λ e. rw e (sum-cons r (keep (λ q. p (q .codes)) l)))

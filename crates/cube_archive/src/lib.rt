@@ -11,6 +11,7 @@ ghost use Rattle.calls.specs.Numbers.{writtenNumber, checkedNumber, foundNumber
 ghost use Rattle.keys.specs.Calls.{listsKeys, tellsFixed};
 ghost use Rattle.keys.specs.Numbers.{fixedNumber};
 ghost use Rattle.fee_call.specs.Fees.{sharesFee};
+ghost use Rattle.join.specs.Joins.{joins};
 
 // The number of a call that writes an output.
 fn number(answer: Written) -> u64
@@ -117,4 +118,13 @@ pub extern "C" fn cube_share_fee(archive: &[u8], fee: u32, set: u32, out: &mut [
     ensures { λ _. ⌜ now (out .exit) ≡ leftOf (within (length (now (out .entry))) (sharesFee (now (archive .entry)) fee set)) (now (out .entry)) ⌝ }
 {
     number(fee_call::share_fee(archive, fee, set, out))
+}
+
+// Joins two archives: the length written.
+#[no_mangle]
+pub extern "C" fn cube_join(first: &[u8], second: &[u8], out: &mut [u8]) -> u64
+    ensures { λ r. ⌜ r ≡ writtenNumber (answerOf (within (length (now (out .entry))) (joins (now (first .entry)) (now (second .entry))))) ⌝ }
+    ensures { λ _. ⌜ now (out .exit) ≡ leftOf (within (length (now (out .entry))) (joins (now (first .entry)) (now (second .entry)))) (now (out .entry)) ⌝ }
+{
+    number(join::join(first, second, out))
 }

@@ -36,6 +36,8 @@ use Rattle.calls.specs.Calls.{builds, checks, listsCuboid, expands, entriesIn, 
 use Rattle.fees.specs.Shares.{left, shares}
 use Rattle.fee_list.specs.Listed.{feeBytes}
 use Rattle.fee_call.specs.Fees.{weights, sharesFee}
+use Rattle.merge.specs.United.{united}
+use Rattle.join.specs.Joins.{joins}
 
 -- what an example says of the bytes: the archive's length and check word, its entries, how long its expansion is, and answers to questions; a refusal is none of these
 pub record Told : Type 0 where
@@ -175,3 +177,19 @@ no-rows = bytesOf (builds (tableBytes (record { sizes = 1 ∷ []; rows = [] })))
 pub empty-shared : sharesFee no-rows 5 0 ∷ sharesFee no-rows 1000000001 0 ∷ sharesFee no-rows 1000000001 2 ∷ [] ≡ stopped 24 ∷ stopped 23 ∷ stopped 14 ∷ []
 unfolding sharesFee builds readTable body row reading readingAt tableBytes folded readArchive walkArchive header field word sum sumAt room many codes rising fair amount list entry bases entries cell cells close wordAt checkOf words archiveBytes required layout baseBytes cellBytes listed single canMake normals common shared proper cuboid existing total grouped cellsOf sets ones onesIn wordsBytes flatMap
 empty-shared = refl
+
+-- ---- C-15: the five rows joined with themselves, every sum and count twice; with no rows, either way round, which leaves their bytes; with other sizes
+
+abbrev no-five : List ℕ
+no-five = bytesOf (builds (tableBytes (record { sizes = 7 ∷ 6 ∷ 3 ∷ []; rows = [] })))
+
+abbrev five-twice : List (Row Total)
+five-twice = many-read (0 ∷ 1 ∷ 1 ∷ []) 100 2 ∷ many-read (1 ∷ 1 ∷ 1 ∷ []) 200 2 ∷ many-read (2 ∷ 3 ∷ 1 ∷ []) 120 2 ∷ many-read (4 ∷ 5 ∷ 1 ∷ []) 140 2 ∷ many-read (6 ∷ 5 ∷ 2 ∷ []) 160 2 ∷ []
+
+pub five-joined : map (joins (bytesOf (builds five))) (bytesOf (builds five) ∷ no-five ∷ no-rows ∷ []) ≡ bytes (archiveBytes (7 ∷ 6 ∷ 3 ∷ []) five-twice) ∷ builds five ∷ stopped 17 ∷ []
+unfolding joins united builds readTable body row reading readingAt tableBytes folded readArchive walkArchive header field word sum sumAt room many codes rising fair amount list entry bases entries cell cells close wordAt checkOf words archiveBytes required layout baseBytes cellBytes listed single canMake normals common shared proper cuboid existing total grouped cellsOf sets ones onesIn wordsBytes flatMap
+five-joined = refl
+
+pub joined-five : joins no-five (bytesOf (builds five)) ≡ builds five
+unfolding joins united builds readTable body row reading readingAt tableBytes folded readArchive walkArchive header field word sum sumAt room many codes rising fair amount list entry bases entries cell cells close wordAt checkOf words archiveBytes required layout baseBytes cellBytes listed single canMake normals common shared proper cuboid existing total grouped cellsOf sets ones onesIn wordsBytes flatMap
+joined-five = refl

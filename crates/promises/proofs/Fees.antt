@@ -17,6 +17,7 @@ use Rattle.cube.specs.Codes.{plain}
 use Rattle.cube.specs.Cube.{cells}
 use Rattle.entries.specs.Layout.{Held}
 use Rattle.entries.specs.Reading.{readArchive, rowsIn}
+use Rattle.entries.proofs.Limits.{limits-table}
 use Rattle.entries.proofs.Accepted.{archive-forth}
 use Rattle.calls.specs.Answers.{bytes}
 use Rattle.calls.specs.Calls.{dims}
@@ -26,7 +27,7 @@ use Rattle.fee_list.specs.Listed.{feeBytes}
 use Rattle.fee_list.proofs.Listed.{fee-read}
 use Rattle.fee_call.specs.Fees.{weights, sharesFee}
 use Rattle.fee_call.proofs.Counts.{weights-total, counts-some}
-use Rattle.promises.proofs.Room.{coded, weights-few}
+use Rattle.promises.proofs.Room.{weights-few}
 
 module _ (s : List ℕ) (a : Held) (b : Bytes s) (e : readArchive s ≡ got a []) (n : 0 < length (a .bases)) {fee set : ℕ} (k : fee ≤ 1000000000) (h : set < 2 ^ dims a) where
   -- the counts of the set's cells, in listing order, and how many readings there are
@@ -46,7 +47,7 @@ module _ (s : List ℕ) (a : Held) (b : Bytes s) (e : readArchive s ≡ got a []
   -- The counts are together the readings, of which there is at least one.
   pub counts-add-up : sum counts ≡ readings
   unfolding weights
-  counts-add-up = weights-total (dims a) (rowsIn a) (coded (a .sizes) (rowsIn a) (archive-forth s a [] b e .0)) (sets-of (dims a) h)
+  counts-add-up = weights-total (dims a) (rowsIn a) (limits-table (a .sizes) (rowsIn a) (archive-forth s a [] b e .0)) (sets-of (dims a) h)
 
   read-once : 0 < readings
   read-once = counts-some (rowsIn a) some (λ r m. archive-forth s a [] b e .0 .each r m .counted)

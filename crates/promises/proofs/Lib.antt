@@ -4,5 +4,6 @@ pub mod Empty
 pub mod Keys
 pub mod Room
 pub mod Fees
+pub mod Joins
 pub mod Examples
 pub mod Numbers

@@ -1,6 +1,7 @@
 -- Outputs that are always enough: no result is longer than its room, so no call that is lent as much stops with 15.
-use mathlib.Core.Path.{_≡_, ap}
-use mathlib.Core.List.{List, [], _∷_, map, flatMap, Memᴰ·map}
+use mathlib.Core.Path.{_≡_, refl, ap}
+use mathlib.Core.Logic.{_⊎_}
+use mathlib.Core.List.{List, [], _∷_, map, flatMap}
 use Prim.Native.Nat.{ℕ, zero, suc, _+_, _-_, _*_, _^_, _≤_, _<_}
 use native.Mathlib.Nat.{le-refl, le-trans, add-le-add, mul-le-mul-right}
 use native.Mathlib.Omega.{arith}
@@ -30,11 +31,11 @@ use Rattle.table.proofs.Accepted.{table-forth}
 use Rattle.entries.specs.Layout.{Held, required, archiveBytes, Limits}
 use Rattle.entries.specs.Reading.{readArchive, rowsIn}
 use Rattle.entries.proofs.Accepted.{archive-forth}
-use Rattle.entries.proofs.Limits.{limits-base}
+use Rattle.entries.proofs.Limits.{limits-table, limits-base}
 use Rattle.entries.proofs.Lengths.{sets-listed, archive-length}
 use Rattle.cuboids.specs.Cuboids.{cuboidBytes, expansionBytes}
 use Rattle.cuboids.proofs.Lengths.{cuboid-length}
-use Rattle.calls.specs.Answers.{bytes, within}
+use Rattle.calls.specs.Answers.{Outcome, stop as stopped, bytes, within}
 use Rattle.calls.specs.Calls.{builds, dims, listsCuboid, expands}
 use Rattle.build.proofs.Folded.{folded-within}
 use Rattle.keys.specs.Calls.{listsKeys}
@@ -42,11 +43,12 @@ use Rattle.keys.proofs.Promises.{keys-listed, keys-short}
 use Rattle.fee_list.specs.Listed.{feeBytes}
 use Rattle.fee_list.proofs.Listed.{fee-length}
 use Rattle.fee_call.specs.Fees.{countIn, weights, sharesFee}
+use Rattle.merge.specs.United.{united}
+use Rattle.merge.proofs.United.{united-few}
+use Rattle.join.specs.Joins.{joins}
+use Rattle.join.proofs.Joins.{joined-bytes, joined-limits}
 use Rattle.promises.specs.Room.{atLeast1, cuboidRoom, expansionRoom, archiveRoom, keysRoom, feeRoom}
 use Rattle.promises.proofs.Promises.{built}
-
-pub coded : (zs : List ℕ) (rows : List (Row Total)) → Limits zs rows → Rows (length zs) rows
-coded zs rows l r m = limits-base zs rows l .valid (r .codes) (Memᴰ·map (λ q. q .codes) m)
 
 -- ---- the results
 
@@ -95,9 +97,12 @@ archive-room zs rows l =
     let all = rw (length-map rows (λ r. r .codes)) at (normals-count (plain d) xs) in
     omega (arith, archive-length zs rows l, sets-listed d rows rows, rest, ap (λ (n : ℕ). n * (4 * d + 12)) all)
 
+archive-mono : (d m n : ℕ) → m ≤ n → archiveRoom d m ≤ archiveRoom d n
+archive-mono d m n h = add-le-add (le-refl _) (mul-le-mul-right _ (least-mono m n h))
+
 -- where it was built, by the rows of the table too
 pub built-room : (t : Records) → TableLimits t → length (archiveBytes (t .sizes) (baseRows t)) ≤ archiveRoom (length (t .sizes)) (length (t .rows))
-built-room t l = le-trans (archive-room (t .sizes) (baseRows t) (folded-within t l)) (add-le-add (le-refl _) (mul-le-mul-right _ (least-mono _ _ (folded-few sums (length (t .sizes)) (t .rows)))))
+built-room t l = le-trans (archive-room (t .sizes) (baseRows t) (folded-within t l)) (archive-mono (length (t .sizes)) (length (baseRows t)) (length (t .rows)) (folded-few sums (length (t .sizes)) (t .rows)))
 
 -- as many shares as cells, and with a base row no more cells than base rows
 weights-length : (d : ℕ) (rows : List (Row Total)) (set : ℕ) → length (weights d rows set) ≡ length (cells (plain d) sums rows set)
@@ -123,7 +128,7 @@ build-enough s t b e k h = rw (built s t b e) (enough (archiveBytes (t .sizes) (
 -- by the base count of an archive
 module _ (s : List ℕ) (a : Held) (b : Bytes s) (e : readArchive s ≡ got a []) (k : ℕ) where
   rows-coded : Rows (dims a) (rowsIn a)
-  rows-coded = coded (a .sizes) (rowsIn a) (archive-forth s a [] b e .0)
+  rows-coded = limits-table (a .sizes) (rowsIn a) (archive-forth s a [] b e .0)
 
   pub list-enough : (set : ℕ) → cuboidRoom (dims a) (length (a .bases)) ≤ k → within k (listsCuboid s set) ≡ listsCuboid s set
   unfolding listsCuboid
@@ -159,3 +164,21 @@ module _ (s : List ℕ) (a : Held) (b : Bytes s) (e : readArchive s ≡ got a []
 
   pub fee-just-enough : (fee set : ℕ) → feeRoom (length (cells (plain (dims a)) sums (rowsIn a) set)) ≤ k → within k (sharesFee s fee set) ≡ sharesFee s fee set
   fee-just-enough fee set h = fee-fits fee set (λ n. omega (arith, h, fee-length fee (weights (dims a) (rowsIn a) set), weights-length (dims a) (rowsIn a) set))
+
+-- by the base counts of two archives, or by 1,024
+module _ (s t : List ℕ) (a b : Held) (f : Bytes s) (g : Bytes t) (e : readArchive s ≡ got a []) (h : readArchive t ≡ got b []) where
+  pub join-room : {x : List ℕ} → joins s t ≡ bytes x → (n : ℕ) → (length (a .bases) + length (b .bases) ≤ n) ⊎ (1024 ≤ n) → length x ≤ archiveRoom (dims a) n
+  join-room k n m =
+      let l = joined-limits s t a b f g e h k in
+      let rows = united sums (dims a) (rowsIn a) (rowsIn b) in
+      let few : length rows ≤ n = cases m
+      (λ i. omega (arith, i, united-few sums (dims a) (rowsIn a) (rowsIn b), length-map (a .bases) (λ q. q .row), length-map (b .bases) (λ q. q .row)))
+      (λ i. omega (arith, i, l .few)) in
+      le-trans (rw (joined-bytes s t a b f g e h k) at (archive-room (a .sizes) rows l)) (archive-mono (dims a) (length rows) n few)
+
+  pub join-enough : (k n : ℕ) → (length (a .bases) + length (b .bases) ≤ n) ⊎ (1024 ≤ n) → archiveRoom (dims a) n ≤ k → within k (joins s t) ≡ joins s t
+  join-enough k n m i = go (joins s t) refl
+    where
+      go : (o : Outcome) → joins s t ≡ o → within k o ≡ o
+      go (stopped j) q = refl
+      go (bytes x) q = enough x k (le-trans (join-room q n m) i)

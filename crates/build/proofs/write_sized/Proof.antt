@@ -1,4 +1,4 @@
--- `archive::write_sized` meets its contract: the buffer has the sizes that stand behind D, and the archive was written just if its length is no more than the output's.
+-- `build::write_sized` meets its contract: the buffer has the sizes that stand behind D.
 use mathlib.Core.Path.{_≡_, sym, ap, ap₂, subst, _∙_}
 use mathlib.Core.List.{List}
 use Prim.Native.Nat.{ℕ}
@@ -10,7 +10,7 @@ use Rattle.rows.specs.Rows.{rowsOf}
 use Rattle.entries.specs.Layout.{archiveBytes, Limits}
 use Rattle.singles.specs.Ready.{Ready}
 use Rattle.calls.specs.Answers.{bytes}
-use Rattle.build.proofs.Building.{fitted-short, fitted-done}
+use Rattle.calls.proofs.Answers.{answered-as}
 use borrow.Author.Needs.{needs}
 use Rattle.build.proofs.write_sized.Statement.{statement}
 use Rattle.build.proofs.write_sized.Tie as tie
@@ -22,8 +22,8 @@ sizes c = c .read-words .last .1 .1 .0
 long : (c : tie.After-read-words) → length (now (c .before .before .before .before .before .before .before .args .sizes)) ≡ length (sizes c)
 long c = sym (ap length (c .read-words .ensures) ∙ length-wordsAt (now (c .before .before .before .before .before .before .before .args .s)) (length (now (c .before .before .before .before .before .before .before .args .sizes))) _)
 
-write-archive-requires : tie.Need-write-archive-requires
-write-archive-requires c κs =
+fit-archive-requires : tie.Need-fit-archive-requires
+fit-archive-requires c κs =
     let a = c .before .before .before .before .before .before .before .before .before .before .before .args in
     let r = c .before .before .before .before in (
       subst (λ (d : ℕ). Ready d (a .rows) (now (a .codes)) (now (a .sums)) (now (a .counts))) (long r) (c .before .before .before .before .before .before .before .before .before .before .before .pre .0 .1),
@@ -39,12 +39,9 @@ same-archive c = let a = c .before .before .before .before .before .before .befo
     ap₂ (λ (zs : List ℕ) (d : ℕ). bytes (archiveBytes zs (rowsOf d (a .rows) (now (a .codes)) (now (a .sums)) (now (a .counts))))) (sym (c .read-words .ensures)) (long c)
 
 returns : tie.Need-returns
-returns c = fitted-short (same-archive (c .before .before .before .before .before .before .before .before)) (c .before .before .before .write-archive .ensures) (c .before .before .out .given) (c .if1 .taken)
-
-returns-2 : tie.Need-returns-2
-returns-2 c = fitted-done (same-archive (c .before .before .before .before .before .before .before .before)) (c .before .before .before .write-archive .ensures) (c .before .before .out .given) (c .if1 .left)
+returns c = answered-as (same-archive (c .before .before .before .before .before .before .before)) (c .before .before .fit-archive .ensures)
 
 pub write-sized-spec : {M : Type 1} → statement M
 write-sized-spec =
     tie.close
-    (tie.spec (λ c κs. search needs) write-archive-requires (λ c. search needs) (λ c. search needs) returns (λ c. search needs) (λ c. search needs) returns-2)
+    (tie.spec (λ c κs. search needs) fit-archive-requires (λ c. search needs) (λ c. search needs) returns)

@@ -1,0 +1,3 @@
+-- Two archives into one, and what the code knows of them.
+pub mod Joins
+pub mod Stores
