@@ -60,13 +60,18 @@ impl fmt::Display for Fault {
             Fault::NotText => write!(f, "this is no UTF-8 text: save the records as CSV in UTF-8"),
             Fault::NoHeader => write!(f, "there is no header: the first line names the columns"),
             Fault::Name(text) => {
-                write!(f, "{text:?} is no column name: the header names each column, without '=' and commas, and not beginning with a number")
+                write!(
+                    f,
+                    "{text:?} is no column name: the header names each column, without '=' and commas, and not beginning with a number"
+                )
             }
             Fault::Twice(name) => write!(f, "two columns are named {name:?}: give each a name of its own"),
             Fault::NoColumn(name) => write!(f, "no column is named {name:?}, which was to be the reading"),
             Fault::Size(text) => write!(f, "{text:?} is no size: a size is a number from 1 to {}", u16::MAX),
             Fault::ReadingWithSize => write!(f, "the reading's column has no size: only dimensions have one"),
-            Fault::Quote(text) => write!(f, "a quote or text beside one, {text:?}: put the whole field in quotes, and write each quote in it twice"),
+            Fault::Quote(text) => {
+                write!(f, "a quote or text beside one, {text:?}: put the whole field in quotes, and write each quote in it twice")
+            }
             Fault::OpenQuote => write!(f, "a quoted field has no closing quote"),
             Fault::CarriageReturn => write!(f, "a carriage return within a line: lines end with LF or CRLF"),
             Fault::Fields { fields, columns } => write!(f, "expected {columns} fields parted by commas, found {fields}"),
