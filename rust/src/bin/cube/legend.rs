@@ -4,6 +4,7 @@ mod fit;
 mod text;
 
 use crate::failure::{Failure, Outcome};
+use std::collections::HashMap;
 use std::fs;
 use std::path::{Path, PathBuf};
 
@@ -21,6 +22,8 @@ pub struct Dimension {
     sizes: Vec<u16>,
     /// The label of each code, from 0 on.
     labels: Vec<String>,
+    /// The code of each label.
+    codes: HashMap<String, u16>,
 }
 
 impl Legend {
@@ -36,6 +39,20 @@ impl Legend {
 }
 
 impl Dimension {
+    /// A dimension that has no label yet.
+    fn new(name: String) -> Dimension {
+        Dimension { name, sizes: vec![], labels: vec![], codes: HashMap::new() }
+    }
+
+    /// Gives the next code to a new label, if there is one.
+    fn push(&mut self, label: &str) -> Result<(), String> {
+        let code = u16::try_from(self.labels.len()).ok().filter(|&code| code < u16::MAX);
+        let code = code.ok_or_else(|| format!("dimension {:?} has no code left for {label:?}: it has {} labels", self.name, u16::MAX))?;
+        self.labels.push(label.into());
+        self.codes.insert(label.into(), code);
+        Ok(())
+    }
+
     pub fn size(&self) -> u16 {
         self.sizes.last().copied().unwrap_or(1)
     }
@@ -45,7 +62,7 @@ impl Dimension {
     }
 
     pub fn code(&self, label: &str) -> Option<u16> {
-        self.labels.iter().position(|one| one == label).map(|code| code as u16)
+        self.codes.get(label).copied()
     }
 }
 

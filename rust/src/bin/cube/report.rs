@@ -38,8 +38,8 @@ pub fn page(opened: &Opened) -> Outcome<String> {
 fn facts(opened: &Opened, totals: &[Totals]) -> Outcome<String> {
     let counts = opened.archive.check().map_err(|stop| opened.stop(stop))?;
     let all = totals[0].all;
-    let dimensions: Vec<String> =
-        opened.names().iter().zip(opened.archive.sizes()).map(|(name, size)| format!("{} ({size})", text(name))).collect();
+    let sizes = opened.archive.sizes();
+    let dimensions: Vec<String> = (0..).zip(sizes).map(|(place, size)| format!("{} ({size})", text(&heading(opened, place)))).collect();
     let legend = opened.legend.as_ref().map_or("none: dimensions and codes are numbers".into(), |(path, _)| {
         let name = path.file_name().unwrap_or_default().to_string_lossy();
         text(&name)
@@ -53,6 +53,12 @@ fn facts(opened: &Opened, totals: &[Totals]) -> Outcome<String> {
         ("Legend", legend),
     ];
     Ok(facts.iter().map(|(name, fact)| format!("<div><dt>{name}</dt><dd>{fact}</dd></div>\n")).collect())
+}
+
+/// The name of a dimension, or without a legend what it is and its number.
+fn heading(opened: &Opened, place: usize) -> String {
+    let kind = if opened.legend.is_some() { "" } else { "dimension " };
+    kind.to_string() + &opened.name(place)
 }
 
 fn card(point: &Point, number: usize) -> String {
@@ -87,13 +93,13 @@ fn bars(opened: &Opened, place: usize, totals: &Totals) -> String {
     let rows: String = totals.cells.iter().map(row).collect();
     let (class, words) = if totals.equal() { ("right", "&#10003; equal") } else { ("wrong", "&#10007; not equal") };
     format!(
-        "<section class=\"totals\">\n<h3>{name}</h3>\n<table>\n<thead><tr><th scope=\"col\">{name}</th><th></th><th scope=\"col\">sum</th><th scope=\"col\">count</th></tr></thead>\n\
+        "<section class=\"totals\">\n<h3>{name}</h3>\n<table>\n<thead><tr><th></th><th></th><th scope=\"col\">sum</th><th scope=\"col\">count</th></tr></thead>\n\
          <tbody>\n{rows}</tbody>\n<tfoot>\n<tr><th scope=\"row\" colspan=\"2\">added up</th><td>{}</td><td>{}</td></tr>\n\
          <tr class=\"{class}\"><th scope=\"row\" colspan=\"2\">all records <strong>{words}</strong></th><td>{}</td><td>{}</td></tr>\n</tfoot>\n</table>\n</section>\n",
         totals.sum(),
         totals.count(),
         totals.all.sum,
         totals.all.count,
-        name = text(&opened.name(place)),
+        name = text(&heading(opened, place)),
     )
 }

@@ -52,14 +52,16 @@ impl Dimension {
         if labels.contains("*") {
             return Err(format!("column {:?} has the label \"*\", which stands for ALL: use another", self.name));
         }
-        let old: BTreeSet<String> = self.labels.iter().cloned().collect();
-        self.labels.extend(labels.into_iter().filter(|label| !old.contains(*label)).map(String::from));
-        let (count, now) = (self.labels.len(), self.sizes.last().copied().unwrap_or(1));
-        let needed = u16::try_from(count).map_err(|_| format!("dimension {:?} has more than {} labels", self.name, u16::MAX))?.max(now);
+        for label in labels {
+            if self.code(label).is_none() {
+                self.push(label)?;
+            }
+        }
+        let needed = self.size().max(self.labels.len() as u16);
         let size = given.unwrap_or(needed);
         if size < needed {
             return Err(format!(
-                "the header gives dimension {:?} the size {size}, but it has {count} labels and the size {now}",
+                "the header gives dimension {:?} the size {size}, but its labels and its size so far need {needed}",
                 self.name
             ));
         }

@@ -17,7 +17,7 @@ beginning or end. Notes may be written here, above the first dimension.
 impl Legend {
     /// A legend of dimensions that have no labels yet.
     pub fn new(names: impl Iterator<Item = String>) -> Legend {
-        Legend { head: HEAD.into(), dimensions: names.map(|name| Dimension { name, sizes: vec![], labels: vec![] }).collect() }
+        Legend { head: HEAD.into(), dimensions: names.map(Dimension::new).collect() }
     }
 
     /// The legend that bytes are, or what is wrong with them.
@@ -47,7 +47,7 @@ impl Legend {
             if self.dimensions.iter().any(|dimension| dimension.name == name) {
                 return Err(format!("a second dimension {name:?}: take one of them out"));
             }
-            self.dimensions.push(Dimension { name, sizes: vec![], labels: vec![] });
+            self.dimensions.push(Dimension::new(name));
             return Ok(());
         }
         let dimension = self.dimensions.last_mut().expect("the first line is a dimension's");
@@ -81,10 +81,7 @@ impl Dimension {
         match self.code(&label) {
             _ if label == "*" => Err("'*' stands for ALL and is no label".into()),
             Some(code) => Err(format!("label {label:?} is that of code {code} too")),
-            None => {
-                self.labels.push(label);
-                Ok(())
-            }
+            None => self.push(&label),
         }
     }
 

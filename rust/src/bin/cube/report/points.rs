@@ -1,6 +1,6 @@
 //! The five points of the field engineer's checklist, carried out.
 use super::questions::{lone, needed, never_met};
-use super::Totals;
+use super::{heading, Totals};
 use crate::commands::entries;
 use crate::failure::Outcome;
 use crate::opened::Opened;
@@ -47,8 +47,10 @@ fn accepted(opened: &Opened) -> Outcome<Point> {
 
 fn added_up(opened: &Opened, totals: &[Totals]) -> Point {
     let all = totals[0].all;
-    let sums =
-        totals.iter().enumerate().map(|(place, totals)| format!("{}: {} in {}", opened.name(place), totals.sum(), records(totals.count())));
+    let sums = totals
+        .iter()
+        .enumerate()
+        .map(|(place, totals)| format!("{}: {} in {}", heading(opened, place), totals.sum(), records(totals.count())));
     Point {
         title: "Totals of each dimension against the grand total",
         catches: "Catches a record lost or counted twice.",
@@ -104,10 +106,10 @@ fn look_up(opened: &Opened, question: &[Code]) -> Outcome<Option<Found>> {
     opened.archive.look_up(question).map_err(|stop| opened.stop(stop))
 }
 
-/// A cell in words: the dimensions that are not ALL.
+/// A cell as it is asked for: the dimensions that are not ALL.
 fn cell(opened: &Opened, codes: &[Code]) -> String {
     let named = codes.iter().enumerate().filter(|(_, code)| code.is_some());
-    let words: Vec<String> = named.map(|(place, &code)| format!("{} {}", opened.name(place), opened.label(place, code))).collect();
+    let words: Vec<String> = named.map(|(place, &code)| format!("{}={}", opened.name(place), opened.label(place, code))).collect();
     if words.is_empty() {
         "all records".into()
     } else {
