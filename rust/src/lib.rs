@@ -22,6 +22,7 @@
 //! * [`Table`]: the bytes of a table; [`csv`]: a table from CSV text
 //! * [`Archive`]: build, open, check, entries, look up, list a cuboid, expand, list the smallest keys, tell what a set fixes, share a fee
 //! * [`Stop`]: why a call refuses its input, with the documents' numbers
+//! * the command `cube` (`src/bin/cube`), for a person: docs/COMMAND.md
 //! * [`raw`]: the calls on slices, into an output of the caller's; [`room`]: how long an output is enough
 //!
 //! # Stack
