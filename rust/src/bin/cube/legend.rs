@@ -70,3 +70,18 @@ impl Dimension {
 pub fn beside(archive: &Path) -> Option<PathBuf> {
     Some(archive.with_extension("legend")).filter(|path| path != archive && path.exists())
 }
+
+/// A legend beside a new archive will be taken for its own, so it must agree with the one that the archive has.
+pub fn agree_beside(archive: &Path, legend: Option<&Legend>) -> Outcome<()> {
+    let Some(path) = beside(archive) else { return Ok(()) };
+    match legend {
+        Some(legend) if Legend::read(&path)?.agrees(legend) => Ok(()),
+        Some(_) => {
+            Err(Failure::of(path.display(), "it stands beside the new archive, but has other labels: give the archive another name"))
+        }
+        None => {
+            let what = "it would be taken for the legend of the new archive: give it with --legend, or give the archive another name";
+            Err(Failure::of(path.display(), what))
+        }
+    }
+}

@@ -2,7 +2,7 @@
 use crate::failure::{Failure, Outcome};
 use std::ffi::OsString;
 use std::fs::{self, File, OpenOptions};
-use std::io::{self, ErrorKind, Write};
+use std::io::{self, ErrorKind, IsTerminal, Write};
 use std::os::unix::fs::MetadataExt;
 use std::path::{Path, PathBuf};
 
@@ -11,6 +11,14 @@ pub fn print(bytes: &[u8]) -> Outcome<()> {
     let mut out = io::stdout();
     match out.write_all(bytes).and_then(|()| out.flush()) {
         Err(error) if error.kind() != ErrorKind::BrokenPipe => Err(Failure::of("standard output", error)),
+        _ => Ok(()),
+    }
+}
+
+/// An archive must not go to a terminal.
+pub fn not_to_a_terminal(output: Option<&Path>) -> Outcome<()> {
+    match output {
+        None if io::stdout().is_terminal() => Err(Failure::Usage("an archive is no text: give it a file, -o FILE".into())),
         _ => Ok(()),
     }
 }
@@ -51,9 +59,10 @@ impl Draft {
 
     /// Puts the file into its place.
     pub fn put(self) -> Outcome<()> {
-        fs::rename(&self.part, &self.path)
-            .and_then(|()| File::open(folder(&self.path))?.sync_all())
-            .map_err(|error| Failure::of(self.path.display(), error))
+        fs::rename(&self.part, &self.path).map_err(|error| Failure::of(self.path.display(), error))?;
+        // The new name goes to the disk too, where the file system can do that for a folder.
+        let _ = File::open(folder(&self.path)).and_then(|folder| folder.sync_all());
+        Ok(())
     }
 }
 
@@ -65,21 +74,26 @@ impl Drop for Draft {
 }
 
 /// The path without links. What is not there yet is in a folder that is.
-pub fn resolved(path: &Path) -> io::Result<PathBuf> {
+fn resolved(path: &Path) -> io::Result<PathBuf> {
     match (fs::canonicalize(path), path.file_name()) {
         (Err(error), Some(name)) if error.kind() == ErrorKind::NotFound => Ok(folder(path).canonicalize()?.join(name)),
         (found, _) => found,
     }
 }
 
-/// Whether two paths are one file, or would be.
-pub fn same(a: &Path, b: &Path) -> bool {
+/// Whether a path is this resolved one, or another name of the same file.
+fn same(path: &Path, place: &Path) -> bool {
     let file = |path: &Path| fs::metadata(path).map(|file| (file.dev(), file.ino())).ok();
-    file(a).map_or_else(|| resolved(a).ok() == resolved(b).ok(), |a| Some(a) == file(b))
+    resolved(path).is_ok_and(|path| path == place) || file(path).is_some_and(|one| Some(one) == file(place))
 }
 
-/// The folder of a file.
-pub fn folder(path: &Path) -> &Path {
+/// Holds back every other process that locks the folder of this file, until the lock is dropped.
+pub fn lock(path: &Path) -> Outcome<File> {
+    let locked = resolved(path).and_then(|place| File::open(folder(&place))).and_then(|folder| folder.lock().map(|()| folder));
+    locked.map_err(|error| Failure::of(path.display(), error))
+}
+
+fn folder(path: &Path) -> &Path {
     path.parent().filter(|folder| !folder.as_os_str().is_empty()).unwrap_or(Path::new("."))
 }
 

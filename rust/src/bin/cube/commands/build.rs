@@ -2,12 +2,10 @@ use super::Command;
 use crate::args::Args;
 use crate::failure::{Failure, Outcome};
 use crate::input::Input;
-use crate::legend::{beside, Legend};
+use crate::legend::{agree_beside, Legend};
 use crate::output::{self, Draft};
 use cube_archive::csv::{text_of, Sheet};
 use cube_archive::{Archive, Table};
-use std::fs::File;
-use std::io::IsTerminal;
 use std::path::Path;
 
 pub const COMMAND: Command = Command {
@@ -27,11 +25,11 @@ standard error tells; one that is not there is made. It needs -o.
 
 fn run(args: &Args) -> Outcome<()> {
     let [file] = args.files()?;
+    output::not_to_a_terminal(args.output.as_deref())?;
     match (&args.legend, &args.output) {
-        (None, None) if std::io::stdout().is_terminal() => Err(Failure::Usage("an archive is no text: give it a file, -o FILE".into())),
-        (Some(_), None) => Err(Failure::Usage("--legend needs -o FILE: a legend is kept beside its archives".into())),
         (None, _) => without_legend(args, &Input::read(file)?),
         (Some(legend), Some(archive)) => with_legend(args, &Input::read(file)?, legend, archive),
+        (Some(_), None) => Err(Failure::Usage("--legend needs -o FILE: a legend is kept beside its archives".into())),
     }
 }
 
@@ -50,24 +48,19 @@ fn made(args: &Args, input: &Input, table: &Table) -> Outcome<Vec<u8>> {
 }
 
 fn without_legend(args: &Args, input: &Input) -> Outcome<()> {
-    if let Some(legend) = args.output.as_deref().and_then(beside) {
-        let what = "it would be taken for the legend of the new archive: give it with --legend, or give the archive another name";
-        return Err(Failure::of(legend.display(), what));
-    }
+    args.output.as_deref().map_or(Ok(()), |archive| agree_beside(archive, None))?;
     let table = sheet(args, input)?.table().map_err(|error| Failure::of(&input.name, error))?;
     output::deliver(args.output.as_deref(), &[input.place()], &made(args, input, &table)?)
 }
 
-/// Builds with a legend. The folder is locked, so that no other build takes in labels at the same time.
+/// Builds with a legend. A lock keeps other builds from taking in labels at the same time.
 fn with_legend(args: &Args, input: &Input, path: &Path, archive: &Path) -> Outcome<()> {
     let sheet = sheet(args, input)?;
-    let folder = output::folder(path);
-    let lock =
-        File::open(folder).and_then(|folder| folder.lock().map(|()| folder)).map_err(|error| Failure::of(folder.display(), error))?;
+    let lock = output::lock(path)?;
     let old = path.exists().then(|| Legend::read(path)).transpose()?;
     let mut legend = old.clone().unwrap_or_else(|| Legend::new(sheet.dimensions.iter().map(|column| column.name.clone())));
     let table = legend.code(&sheet).map_err(|what| Failure::of(&input.name, what))?;
-    agreed(&legend, archive)?;
+    agree_beside(archive, Some(&legend))?;
     let archive = Draft::write(archive, &[input.place(), path], &made(args, input, &table)?)?;
     if old.as_ref() != Some(&legend) {
         Draft::write(path, &[input.place()], legend.text().as_bytes())?.put()?;
@@ -78,15 +71,4 @@ fn with_legend(args: &Args, input: &Input, path: &Path, archive: &Path) -> Outco
         eprintln!("cube: {}: {news}", path.display());
     }
     Ok(())
-}
-
-/// A legend that stands beside the new archive must give its codes the same labels.
-fn agreed(legend: &Legend, archive: &Path) -> Outcome<()> {
-    match beside(archive) {
-        Some(path) if !Legend::read(&path)?.agrees(legend) => {
-            let what = "it stands beside the new archive, but has other labels: give the archive another name";
-            Err(Failure::of(path.display(), what))
-        }
-        _ => Ok(()),
-    }
 }
