@@ -27,8 +27,8 @@ mod lines;
 
 use crate::table::Table;
 pub use error::{Error, Fault};
-pub use header::Column;
 use header::Header;
+pub use header::{is_name, Column};
 use lines::Lines;
 
 /// CSV text taken apart: what stands in the dimensions' columns may be codes or anything else.

@@ -168,7 +168,7 @@ fn a_full_disk_leaves_legend_and_archive() {
     let many_pairs = (0..1_024).map(|i| format!("{},{},1\n", i / 32, i % 32)).collect::<String>();
     for (lines, file) in [(long_labels, "x.legend"), (many_pairs, "x.cube")] {
         folder.write("b.csv", format!("chip,port,reading\n{lines}"));
-        let output = shell(&folder, "trap '' XFSZ; ulimit -f 40; \"$cube\" build b.csv --legend x.legend -o x.cube");
+        let output = shell(&folder, "trap '' XFSZ; ulimit -f 20; \"$cube\" build b.csv --legend x.legend -o x.cube");
         let error = String::from_utf8(output.stderr).unwrap();
         assert!(output.status.code() == Some(1) && error.starts_with(&format!("cube: {file}: File too large")), "{error}");
         assert_eq!((folder.read("x.legend"), folder.read("x.cube")), (legend.clone(), archive.clone()));

@@ -171,9 +171,9 @@ fn a_size_with_room() {
     assert_eq!(folder.read("a.cube")[8..16], folder.read("b.cube")[8..16]);
     folder.write("c.csv", "chip:60,port,late\nA,x,1\n").succeeds("build c.csv --legend l -o c.cube");
     assert_eq!(labels(&folder, "l")[0], "chip | sizes 50 60 | 0 A | 1 B | 2 C");
-    let what = "d.csv: the header gives dimension \"chip\" the size 59, but its labels and its size so far need 60";
+    let what = "d.csv: line 1: the header gives dimension \"chip\" the size 59, but its labels and its size so far need 60";
     folder.write("d.csv", "chip:59,port,late\nA,x,1\n").fails("build d.csv --legend l -o d.cube", what);
-    let what = "e.csv: the header gives dimension \"a\" the size 1, but its labels and its size so far need 2";
+    let what = "e.csv: line 1: the header gives dimension \"a\" the size 1, but its labels and its size so far need 2";
     folder.write("e.csv", "a:1,r\nx,1\ny,1\n").fails("build e.csv --legend new -o e.cube", what);
     assert_eq!(folder.answers("cell a.cube --legend l 1=49", "chip       port\n(code 49)  *     no record\n"), ());
 }
@@ -267,12 +267,12 @@ fn odd_labels() {
 fn labels_that_cannot_be() {
     let folder = folder("legend_star");
     folder
-        .write("x.csv", "a,r\n*,1\n")
-        .fails("build x.csv --legend l -o x.cube", "x.csv: column \"a\" has the label \"*\", which stands for ALL: use another");
+        .write("x.csv", "a,r\nx,0\n*,1\n")
+        .fails("build x.csv --legend l -o x.cube", "x.csv: line 3: the label \"*\" stands for ALL: use another");
     let full: String = (0..65_535).map(|i| format!("{i}\tl{i}\n")).collect();
     folder.write("l", format!("Legend of condensed cube archives, form 1\n\ndimension a\nsizes 65535\n{full}"));
     folder.write("x.csv", "a,r\nl65534,1\n").succeeds("build x.csv --legend l -o x.cube");
-    let what = "x.csv: dimension \"a\" has no code left for \"new\": it has 65535 labels";
+    let what = "x.csv: line 1: dimension \"a\" has no code left for \"new\": it has 65535 labels";
     folder.write("x.csv", "a,r\nnew,1\n").fails("build x.csv --legend l -o x.cube", what);
     assert_eq!(folder.files(), ["l", "x.csv", "x.cube"]);
 }
@@ -292,8 +292,14 @@ fn a_legend_that_does_not_fit() {
     ] {
         folder.write("bench.legend", &legend).write("l", &legend);
         for command in ["check", "cell", "cuboid", "expand", "keys", "totals", "report"] {
-            folder.fails(&format!("{command} bench.cube"), &format!("bench.legend: not the legend of bench.cube: {what}"));
-            folder.fails(&format!("{command} bench.cube --legend l"), &format!("l: not the legend of bench.cube: {what}"));
+            folder.fails(
+                &format!("{command} bench.cube"),
+                &format!("bench.legend: not the legend of bench.cube: {what}; name its own with --legend"),
+            );
+            folder.fails(
+                &format!("{command} bench.cube --legend l"),
+                &format!("l: not the legend of bench.cube: {what}; name its own with --legend"),
+            );
         }
     }
     let longer = text.replace("port\nsizes 3", "port\nsizes 2 3 4").replace("2\tP10\n", "2\tP10\n3\tP11\n");
@@ -335,6 +341,8 @@ fn what_is_no_legend() {
             text.replace("dimension port", "dimension chip"),
             format!("line {}: a second dimension \"chip\": take one of them out", line("dimension port")),
         ),
+        (text.replace("dimension port", "dimension 7"), format!("line {}: \"7\" is no name of a dimension", line("dimension port"))),
+        (text.replace("dimension port", "dimension a=b"), format!("line {}: \"a=b\" is no name of a dimension", line("dimension port"))),
         (text.clone() + "\ndimension task\n", "dimension \"task\" has no line with its sizes".into()),
     ] {
         folder.write("l", legend);
@@ -352,7 +360,7 @@ fn columns_that_are_not_the_legends() {
     for header in ["chip,port,late", "chip,port,task,late", "chip,port,priority,task,late"] {
         let fields = header.split(',').map(|_| "1").collect::<Vec<_>>().join(",");
         let columns = header.rsplit_once(',').unwrap().0.replace(',', ", ");
-        let what = format!("x.csv: the columns are {columns}, but the legend's dimensions are chip, port, priority");
+        let what = format!("x.csv: line 1: the columns are {columns}, but the legend's dimensions are chip, port, priority");
         folder.write("x.csv", format!("{header}\n{fields}\n")).fails("build x.csv --legend bench.legend -o x.cube", &what);
     }
 }

@@ -1,18 +1,14 @@
 //! `cube list` prints the text of the proved program lister, byte for byte, and is refused at the same stops.
-//! The program comes from the folder that CUBE_BIN names, or from ../target/bin.
 mod command;
 mod cube;
 
-use command::{folder, Folder};
+use command::{folder, programs, Folder};
 use cube::random::Random;
 use cube::Records;
-use std::path::PathBuf;
 use std::process::Command;
 
 fn lister(folder: &Folder, archive: &[u8]) -> String {
-    let bin = std::env::var_os("CUBE_BIN").map(PathBuf::from).unwrap_or_else(|| PathBuf::from("../target/bin"));
-    let program = bin.join("lister").canonicalize().expect("run 'rt check lister', or set CUBE_BIN");
-    String::from_utf8(folder.started(&mut Command::new(program), archive).stdout).unwrap()
+    String::from_utf8(folder.started(&mut Command::new(programs().join("lister")), archive).stdout).unwrap()
 }
 
 /// The text, or the line `refused N`.

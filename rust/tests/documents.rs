@@ -1,9 +1,9 @@
 //! The commands in the documents print what the documents say. Lines that begin with `$` are run in a folder as ./demo leaves it;
-//! the lines below are what they print, all of it. The programs come from the folder that CUBE_BIN names, or from ../target/bin.
+//! the lines below are what they print, all of it.
 mod command;
 
-use command::folder;
-use std::path::{Path, PathBuf};
+use command::{folder, programs};
+use std::path::Path;
 use std::process::Command;
 
 /// A command, which may have several lines, and what the document shows below it.
@@ -37,9 +37,8 @@ fn hold(name: &str, document: &str) {
     if !document.contains("$ cube build bench.csv") {
         folder.succeeds("build bench.csv --legend bench.legend -o bench.cube");
     }
-    let programs = std::env::var_os("CUBE_BIN").map(PathBuf::from).unwrap_or_else(|| PathBuf::from("../target/bin"));
     let cube = Path::new(env!("CARGO_BIN_EXE_cube")).parent().unwrap();
-    let path = format!("{}:{}:{}", cube.display(), programs.canonicalize().unwrap().display(), std::env::var("PATH").unwrap());
+    let path = format!("{}:{}:{}", cube.display(), programs().display(), std::env::var("PATH").unwrap());
     let shown = commands(document);
     assert!(!shown.is_empty());
     for (command, wanted) in shown {

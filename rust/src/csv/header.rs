@@ -53,10 +53,16 @@ impl Header {
 fn column(heading: &str) -> Result<Column, Fault> {
     let (name, size) = heading.rsplit_once(':').map_or((heading, None), |(name, size)| (name, Some(size.trim())));
     let name = name.trim();
-    let wrong = |c: char| c == '=' || c == ',' || c.is_control();
-    if name.is_empty() || name.starts_with(|c: char| c.is_ascii_digit() || c == '+' || c == '-') || name.contains(wrong) {
+    if !is_name(name) {
         return Err(Fault::Name(name.into()));
     }
     let size = size.map(|size| unsigned(size).filter(|&n| n > 0).ok_or_else(|| Fault::Size(size.into()))).transpose()?;
     Ok(Column { name: name.into(), size })
+}
+
+/// Whether a column, and so a dimension, may have this name: it begins with neither a digit nor a sign, and has no `=`, comma or
+/// control character, nor a space at either end.
+pub fn is_name(name: &str) -> bool {
+    let number = |c: char| c.is_ascii_digit() || c == '+' || c == '-';
+    !name.is_empty() && !name.starts_with(number) && !name.contains(|c: char| c == '=' || c == ',' || c.is_control()) && name.trim() == name
 }

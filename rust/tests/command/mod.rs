@@ -16,6 +16,12 @@ pub fn folder(name: &str) -> Folder {
     Folder(path)
 }
 
+/// The folder of the proved programs: the one that CUBE_BIN names, or ../target/bin.
+pub fn programs() -> PathBuf {
+    let folder = std::env::var_os("CUBE_BIN").map(PathBuf::from).unwrap_or_else(|| PathBuf::from("../target/bin"));
+    folder.canonicalize().unwrap_or_else(|error| panic!("{}: {error}; run 'rt check builder lister', or set CUBE_BIN", folder.display()))
+}
+
 /// Exit status, standard output and standard error.
 pub type Ended = (Option<i32>, String, String);
 

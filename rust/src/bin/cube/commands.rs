@@ -45,7 +45,7 @@ const COMMANDS: [&Command; 11] = [
 /// The options and what they do.
 const OPTIONS: [(&str, &str); 5] = [
     ("-o FILE", "write to FILE, which keeps its old content unless the new one is whole"),
-    ("--legend FILE", "names and labels from FILE; else from the file of the archive's name that ends in .legend, if it is there"),
+    ("--legend FILE", "names and labels; without it build has none, and others take the file of the archive's name that ends in .legend"),
     ("--csv", "for programs: the answer as CSV"),
     ("--reading COLUMN", "the column of the readings; else the last one"),
     ("--table", "write the table, which the program builder reads, and not the archive"),

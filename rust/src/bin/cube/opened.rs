@@ -22,7 +22,9 @@ impl Opened {
         let path = args.legend.clone().or_else(|| input.path.as_deref().and_then(beside));
         let legend = path.map(|path| Legend::read(&path).map(|legend| (path, legend))).transpose()?;
         if let Some((path, legend)) = &legend {
-            legend.fits(&archive).map_err(|what| Failure::of(path.display(), format!("not the legend of {}: {what}", input.name)))?;
+            legend.fits(&archive).map_err(|what| {
+                Failure::of(path.display(), format!("not the legend of {}: {what}; name its own with --legend", input.name))
+            })?;
         }
         Ok(Opened { input, archive, legend })
     }

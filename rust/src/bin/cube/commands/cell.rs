@@ -7,7 +7,7 @@ use crate::opened::Opened;
 pub const COMMAND: Command = Command {
     name: "cell",
     words: "ARCHIVE [DIMENSION=CODE ..]",
-    about: "looks up the sum and count of one cell, or 'no record'",
+    about: "one cell: its sum and count, or 'no record'",
     more: "\
 A dimension that is not named is ALL, which is printed as *. Behind a dimension's name comes a label of its legend, behind its
 number, counted from 1, a code: chip=A7 or 1=7. The entry is the number of the one that carries the cell, from 0 through base,

@@ -7,8 +7,11 @@ use crate::opened::Opened;
 pub const COMMAND: Command = Command {
     name: "check",
     words: "ARCHIVE",
-    about: "checks every field of an archive, and its legend against it, and counts the entries",
-    more: "A damaged archive, or a file of another kind, is refused with the stop's number and what is wrong.\n",
+    about: "checks an archive and its legend, and counts the entries",
+    more: "\
+Every field is checked, and that the legend is the archive's. A damaged archive, or a file of another kind, is refused with the
+stop's number and what is wrong.
+",
     options: &["--legend", "--csv"],
     run,
 };

@@ -7,7 +7,7 @@ use crate::opened::{places, Opened};
 pub const COMMAND: Command = Command {
     name: "cuboid",
     words: "ARCHIVE [DIMENSION,..]",
-    about: "lists the cells of a set of dimensions with their sums and counts",
+    about: "the cells of a set of dimensions",
     more: "Dimensions go by name or by number, counted from 1. Without any, the one cell is that of all records.\n",
     options: &["--legend", "--csv"],
     run,

@@ -7,7 +7,7 @@ use crate::opened::Opened;
 pub const COMMAND: Command = Command {
     name: "expand",
     words: "ARCHIVE",
-    about: "lists every cell of the complete cube",
+    about: "every cell of the complete cube",
     more: "Sets of fewer dimensions come first. A dimension that a cell does not have is ALL, which is printed as *.\n",
     options: &["--legend", "--csv"],
     run,

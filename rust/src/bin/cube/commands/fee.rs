@@ -7,7 +7,7 @@ use crate::opened::{number, places, Opened};
 pub const COMMAND: Command = Command {
     name: "fee",
     words: "ARCHIVE CENTS [DIMENSION,..]",
-    about: "shares a fee over the cells of a set of dimensions by their counts",
+    about: "a fee shared over the cells of a set of dimensions by their counts",
     more: "\
 Each cell gets its proportion in whole cents, rounded down; the cents left go one each to the largest remainders, the earlier
 cell first if they are equal. The shares add up to the fee, which is at most 1,000,000,000 cents.

@@ -7,7 +7,7 @@ use crate::opened::Opened;
 pub const COMMAND: Command = Command {
     name: "fixes",
     words: "ARCHIVE DIMENSION,.. DIMENSION",
-    about: "tells whether the codes of some dimensions settle that of another: yes or no",
+    about: "whether the codes of some dimensions settle that of another",
     more: "Yes: base rows that agree on the first dimensions agree on the last one too. '' is the empty set.\n",
     options: &["--legend", "--csv"],
     run,

@@ -7,7 +7,7 @@ use crate::opened::Opened;
 pub const COMMAND: Command = Command {
     name: "keys",
     words: "ARCHIVE",
-    about: "lists the smallest sets of dimensions whose codes tell all the others",
+    about: "the smallest sets of dimensions whose codes tell all the others",
     more: "\
 A key is a set on which no two base rows agree. Listed are the keys that hold no other key; every set that holds one of them is
 a key too. With no base row, or one, the empty set is the only smallest key: it is printed as (none), and as CSV as an empty

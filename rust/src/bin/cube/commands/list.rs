@@ -7,7 +7,7 @@ use crate::output;
 pub const COMMAND: Command = Command {
     name: "list",
     words: "ARCHIVE",
-    about: "lists the entries as the archive holds them: the text of the program lister",
+    about: "the entries as they are stored: the text of the program lister",
     more: "\
 First line: the number of dimensions, the base count and the normal count. Then for each entry its codes (* is ALL), sum and
 count, and on base entries a colon and the smallest sets on which the row is single; in a set's number dimension i, counted

@@ -7,10 +7,10 @@ use crate::report::page;
 pub const COMMAND: Command = Command {
     name: "report",
     words: "ARCHIVE",
-    about: "writes a page in HTML: the five points of the checklist carried out, and the totals of every dimension",
+    about: "a page in HTML: the five points carried out, the totals of every dimension",
     more: "\
-The page is one file without scripts and asks nothing of a network. An archive that is refused has no page: the command says
-what is wrong with it.
+The five points are those of the field engineer's checklist. The page is one file without scripts and asks nothing of a network.
+An archive that is refused has no page: the command says what is wrong with it.
 ",
     options: &["--legend"],
     run,

@@ -8,7 +8,7 @@ use crate::report::Totals;
 pub const COMMAND: Command = Command {
     name: "totals",
     words: "ARCHIVE [DIMENSION ..]",
-    about: "adds up the cells of dimensions and holds them against the grand total",
+    about: "the cells of dimensions added up, beside the grand total",
     more: "Without a dimension, all are added up. A record that was lost or counted twice in one of them makes it differ.\n",
     options: &["--legend", "--csv"],
     run,

@@ -7,10 +7,14 @@ use std::collections::BTreeSet;
 impl Legend {
     /// Takes in the labels of records, and gives the records' table. The columns may stand in another order than the dimensions.
     pub fn code(&mut self, sheet: &Sheet) -> Result<Table, String> {
-        let places = self.places(&sheet.dimensions)?;
+        let in_header = |what| format!("line {}: {what}", sheet.line);
+        let places = self.places(&sheet.dimensions).map_err(in_header)?;
+        if let Some(record) = sheet.records.iter().find(|record| record.fields.iter().any(|label| label == "*")) {
+            return Err(format!("line {}: the label \"*\" stands for ALL: use another", record.line));
+        }
         for (dimension, &place) in self.dimensions.iter_mut().zip(&places) {
             let labels = sheet.records.iter().map(|record| record.fields[place].as_str());
-            dimension.extend(labels.collect(), sheet.dimensions[place].size)?;
+            dimension.extend(labels.collect(), sheet.dimensions[place].size).map_err(in_header)?;
         }
         let mut table = Table::new(&self.sizes()).map_err(|error| error.to_string())?;
         for record in &sheet.records {
@@ -49,9 +53,6 @@ impl Legend {
 impl Dimension {
     /// Takes in labels, new ones in the order of their bytes. The size grows as far as it must, or to the size that is given.
     fn extend(&mut self, labels: BTreeSet<&str>, given: Option<u16>) -> Result<(), String> {
-        if labels.contains("*") {
-            return Err(format!("column {:?} has the label \"*\", which stands for ALL: use another", self.name));
-        }
         for label in labels {
             if self.code(label).is_none() {
                 self.push(label)?;

@@ -1,6 +1,7 @@
 //! The legend as a text file.
 use super::{Dimension, Legend};
 use crate::escape::{escaped, unescaped};
+use cube_archive::csv::is_name;
 
 const TITLE: &str = "Legend of condensed cube archives, form 1";
 
@@ -11,7 +12,7 @@ Legend of condensed cube archives, form 1
 The dimensions follow in the order that the archives have them. Each has its name, its sizes (the size it has now is the
 last, those before it are sizes it had), and a line for each code: the code and its label. A code keeps its label for ever;
 new labels come behind the others. Signs in labels: \\\\ is a backslash, \\t a tab, \\n and \\r line ends, \\s a space at the
-beginning or end. Notes may be written here, above the first dimension.
+beginning or end, \\u{1b} the character with that hexadecimal number. Notes may be written here, above the first dimension.
 ";
 
 impl Legend {
@@ -43,7 +44,7 @@ impl Legend {
     /// Takes in a line.
     fn add(&mut self, line: &str) -> Result<(), String> {
         if let Some(name) = dimension(line) {
-            let name = unescaped(name).filter(|name| !name.is_empty()).ok_or("this is no name of a dimension")?;
+            let name = unescaped(name).filter(|name| is_name(name)).ok_or_else(|| format!("{name:?} is no name of a dimension"))?;
             if self.dimensions.iter().any(|dimension| dimension.name == name) {
                 return Err(format!("a second dimension {name:?}: take one of them out"));
             }
