@@ -35,8 +35,13 @@ impl Opened {
         output::deliver(args.output.as_deref(), &inputs.into_iter().flatten().collect::<Vec<_>>(), answer.as_bytes())
     }
 
+    /// What a call answered, or the failure that its stop is.
+    pub fn ask<T>(&self, answer: Result<T, Stop>) -> Outcome<T> {
+        answer.map_err(|stop| self.stop(stop))
+    }
+
     /// The failure that a stop is. A wrong question is answered with the sizes.
-    pub fn stop(&self, stop: Stop) -> Failure {
+    fn stop(&self, stop: Stop) -> Failure {
         match stop {
             Stop::Question => {
                 let sizes: Vec<String> = self.archive.sizes().iter().map(u16::to_string).collect();

@@ -21,7 +21,7 @@ fn run(args: &Args) -> Outcome<()> {
     let (file, words) = args.file_and_texts()?;
     let opened = Opened::read(file, args)?;
     let question = opened.question(&words)?;
-    let found = opened.archive.look_up(&question).map_err(|stop| opened.stop(stop))?;
+    let found = opened.ask(opened.archive.look_up(&question))?;
     let mut columns = Columns::new(opened.names(), &["sum", "count", "entry"]);
     let mut row = opened.labels(&question);
     match found {

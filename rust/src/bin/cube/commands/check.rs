@@ -19,7 +19,7 @@ stop's number and what is wrong.
 fn run(args: &Args) -> Outcome<()> {
     let [file] = args.files()?;
     let opened = Opened::read(file, args)?;
-    let counts = opened.archive.check().map_err(|stop| opened.stop(stop))?;
+    let counts = opened.ask(opened.archive.check())?;
     let answer = if args.csv {
         let mut columns = Columns::new(vec![], &["base entries", "normal entries"]);
         columns.push(vec![counts.bases.to_string(), counts.normals.to_string()]);

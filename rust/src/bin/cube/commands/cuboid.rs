@@ -22,7 +22,7 @@ fn run(args: &Args) -> Outcome<()> {
     };
     let opened = Opened::read(file, args)?;
     let set = opened.set(word)?;
-    let cuboid = opened.archive.list_cuboid(set).map_err(|stop| opened.stop(stop))?;
+    let cuboid = opened.ask(opened.archive.list_cuboid(set))?;
     let mut columns = Columns::new(places(set).map(|place| opened.name(place)).collect(), &["sum", "count"]);
     for cell in cuboid.cells {
         let labels = places(set).map(|place| opened.label(place, cell.codes[place]));

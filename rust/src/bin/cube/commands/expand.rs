@@ -16,7 +16,7 @@ pub const COMMAND: Command = Command {
 fn run(args: &Args) -> Outcome<()> {
     let [file] = args.files()?;
     let opened = Opened::read(file, args)?;
-    let cuboids = opened.archive.expand().map_err(|stop| opened.stop(stop))?;
+    let cuboids = opened.ask(opened.archive.expand())?;
     let mut columns = Columns::new(opened.names(), &["sum", "count"]);
     for cell in cuboids.iter().flat_map(|cuboid| &cuboid.cells) {
         columns.push(opened.labels(&cell.codes).into_iter().chain([cell.sum.to_string(), cell.count.to_string()]).collect());

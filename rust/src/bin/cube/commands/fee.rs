@@ -26,8 +26,8 @@ fn run(args: &Args) -> Outcome<()> {
     let cents = number(cents).ok_or_else(|| Failure::Usage(format!("{cents:?} is no number of cents")))?;
     let opened = Opened::read(file, args)?;
     let set = opened.set(word)?;
-    let shares = opened.archive.share_fee(cents, set).map_err(|stop| opened.stop(stop))?;
-    let cuboid = opened.archive.list_cuboid(set).map_err(|stop| opened.stop(stop))?;
+    let shares = opened.ask(opened.archive.share_fee(cents, set))?;
+    let cuboid = opened.ask(opened.archive.list_cuboid(set))?;
     let mut columns = Columns::new(places(set).map(|place| opened.name(place)).collect(), &["count", "cents"]);
     for (cell, cents) in cuboid.cells.iter().zip(shares) {
         let labels = places(set).map(|place| opened.label(place, cell.codes[place]));

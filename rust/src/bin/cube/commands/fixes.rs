@@ -18,7 +18,7 @@ fn run(args: &Args) -> Outcome<()> {
     let [set, dimension] = words[..] else { return Err(Failure::Usage("expected a set of dimensions and a dimension".into())) };
     let opened = Opened::read(file, args)?;
     let (set, place) = (opened.set(set)?, opened.place(dimension)?);
-    let fixes = opened.archive.fixes(set, place as u32 + 1).map_err(|stop| opened.stop(stop))?;
+    let fixes = opened.ask(opened.archive.fixes(set, place as u32 + 1))?;
     let mut columns = Columns::new(["set", "dimension", "fixes"].map(String::from).to_vec(), &[]);
     let answer = if fixes { "yes" } else { "no" };
     columns.push(vec![opened.set_names(set), opened.name(place), answer.into()]);

@@ -20,7 +20,7 @@ field.
 fn run(args: &Args) -> Outcome<()> {
     let [file] = args.files()?;
     let opened = Opened::read(file, args)?;
-    let keys = opened.archive.smallest_keys().map_err(|stop| opened.stop(stop))?;
+    let keys = opened.ask(opened.archive.smallest_keys())?;
     let mut columns = Columns::new(vec!["key".into()], &[]);
     for key in keys {
         columns.push(vec![if key == 0 && !args.csv { "(none)".into() } else { opened.set_names(key) }]);

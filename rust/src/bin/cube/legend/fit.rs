@@ -10,12 +10,12 @@ impl Legend {
         if sizes.len() != self.dimensions.len() {
             return Err(format!("it has {} dimensions, the archive {}", self.dimensions.len(), sizes.len()));
         }
-        for ((dimension, size), i) in self.dimensions.iter().zip(sizes).zip(0..) {
-            if !dimension.sizes.contains(&size) {
-                return Err(format!("dimension {:?} has never had the archive's size {size}", dimension.name));
-            }
-            let cells = archive.list_cuboid(1 << i).map_err(|stop| stop.to_string())?.cells;
-            if let Some(code) = cells.iter().filter_map(|cell| cell.codes[i]).find(|&code| dimension.label(code).is_none()) {
+        if let Some((dimension, size)) = self.dimensions.iter().zip(&sizes).find(|(dimension, size)| !dimension.sizes.contains(size)) {
+            return Err(format!("dimension {:?} has never had the archive's size {size}", dimension.name));
+        }
+        let rows = archive.list_cuboid((1 << sizes.len()) - 1).map_err(|stop| stop.to_string())?.cells;
+        for (dimension, i) in self.dimensions.iter().zip(0..) {
+            if let Some(code) = rows.iter().filter_map(|row| row.codes[i]).find(|&code| dimension.label(code).is_none()) {
                 return Err(format!("dimension {:?} has no label for code {code}", dimension.name));
             }
         }

@@ -1,10 +1,10 @@
 //! The five points of the field engineer's checklist, carried out.
 use super::questions::{lone, needed, never_met};
-use super::{heading, Totals};
+use super::{heading, Asked, Totals};
 use crate::commands::entries;
 use crate::failure::Outcome;
 use crate::opened::Opened;
-use cube_archive::{Code, Cuboid, Found};
+use cube_archive::{Code, Found};
 
 pub struct Point {
     pub title: &'static str,
@@ -15,22 +15,14 @@ pub struct Point {
     pub right: bool,
 }
 
-pub fn all(opened: &Opened, totals: &[Totals]) -> Outcome<[Point; 5]> {
-    let cuboids = opened.archive.expand().map_err(|stop| opened.stop(stop))?;
-    Ok([
-        accepted(opened)?,
-        added_up(opened, totals),
-        no_record(opened, &cuboids)?,
-        one_record(opened, &cuboids)?,
-        counted(opened, &cuboids)?,
-    ])
+pub fn all(asked: &Asked) -> Outcome<[Point; 5]> {
+    Ok([accepted(asked), added_up(asked), no_record(asked)?, one_record(asked)?, counted(asked)])
 }
 
-fn accepted(opened: &Opened) -> Outcome<Point> {
-    let counts = opened.archive.check().map_err(|stop| opened.stop(stop))?;
-    let bytes = opened.archive.as_bytes();
+fn accepted(asked: &Asked) -> Point {
+    let (counts, bytes) = (asked.counts, asked.opened.archive.as_bytes());
     let hex = |bytes: &[u8]| bytes.iter().map(|byte| format!("{byte:02x}")).collect::<Vec<_>>().join(" ");
-    Ok(Point {
+    Point {
         title: "Opening bytes and check word",
         catches: "Catches damage, and files of another kind.",
         asked: "every field, the check word, and every list and normal entry against the base entries".into(),
@@ -42,15 +34,13 @@ fn accepted(opened: &Opened) -> Outcome<Point> {
             hex(&bytes[bytes.len() - 4..])
         ),
         right: true,
-    })
+    }
 }
 
-fn added_up(opened: &Opened, totals: &[Totals]) -> Point {
-    let all = totals[0].all;
-    let sums = totals
-        .iter()
-        .enumerate()
-        .map(|(place, totals)| format!("{}: {} in {}", heading(opened, place), totals.sum(), records(totals.count())));
+fn added_up(asked: &Asked) -> Point {
+    let (opened, totals, all) = (asked.opened, &asked.totals, asked.all());
+    let line = |(place, totals): (usize, &Totals)| format!("{}: {} in {}", heading(opened, place), totals.sum(), records(totals.count()));
+    let sums = totals.iter().enumerate().map(line);
     Point {
         title: "Totals of each dimension against the grand total",
         catches: "Catches a record lost or counted twice.",
@@ -60,8 +50,9 @@ fn added_up(opened: &Opened, totals: &[Totals]) -> Point {
     }
 }
 
-fn no_record(opened: &Opened, cuboids: &[Cuboid]) -> Outcome<Point> {
-    let (asked, answer, right) = match never_met(cuboids, &opened.archive.sizes()) {
+fn no_record(asked: &Asked) -> Outcome<Point> {
+    let opened = asked.opened;
+    let (asked, answer, right) = match never_met(&asked.cuboids, &opened.archive.sizes()) {
         None => ("two codes that never met".into(), "all have met: there is nothing to ask".into(), true),
         Some(question) => {
             let found = look_up(opened, &question)?;
@@ -72,8 +63,9 @@ fn no_record(opened: &Opened, cuboids: &[Cuboid]) -> Outcome<Point> {
     Ok(Point { title, catches, asked, answer, right })
 }
 
-fn one_record(opened: &Opened, cuboids: &[Cuboid]) -> Outcome<Point> {
-    let (asked, answer, right) = match lone(cuboids) {
+fn one_record(asked: &Asked) -> Outcome<Point> {
+    let opened = asked.opened;
+    let (asked, answer, right) = match lone(&asked.cuboids) {
         None => ("a cell that one record falls in".into(), "each has more records: there is nothing to ask".into(), true),
         Some((lone, own)) => {
             let (found, record) = (look_up(opened, &lone.codes)?, look_up(opened, &own.codes)?);
@@ -86,10 +78,9 @@ fn one_record(opened: &Opened, cuboids: &[Cuboid]) -> Outcome<Point> {
     Ok(Point { title, catches, asked, answer, right })
 }
 
-fn counted(opened: &Opened, cuboids: &[Cuboid]) -> Outcome<Point> {
-    let counts = opened.archive.check().map_err(|stop| opened.stop(stop))?;
-    let (bases, normals) = needed(cuboids);
-    Ok(Point {
+fn counted(asked: &Asked) -> Point {
+    let (counts, (bases, normals)) = (asked.counts, needed(&asked.cuboids));
+    Point {
         title: "The entries counted",
         catches: "Catches cells stored although one record already stands for them.",
         asked: "how many entries there are, and how many are needed".into(),
@@ -99,11 +90,11 @@ fn counted(opened: &Opened, cuboids: &[Cuboid]) -> Outcome<Point> {
             entries(counts.normals, "normal")
         ),
         right: (counts.bases, counts.normals) == (bases, normals),
-    })
+    }
 }
 
 fn look_up(opened: &Opened, question: &[Code]) -> Outcome<Option<Found>> {
-    opened.archive.look_up(question).map_err(|stop| opened.stop(stop))
+    opened.ask(opened.archive.look_up(question))
 }
 
 /// A cell as it is asked for: the dimensions that are not ALL.

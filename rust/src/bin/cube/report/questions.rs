@@ -60,7 +60,8 @@ fn rows(cuboids: &[Cuboid]) -> &[Cell] {
     &cuboids[cuboids.len() - 1].cells
 }
 
-fn cells(cuboids: &[Cuboid], set: u32) -> &[Cell] {
+/// The cells of a set.
+pub fn cells(cuboids: &[Cuboid], set: u32) -> &[Cell] {
     cuboids.iter().find(|cuboid| cuboid.set == set).map_or(&[], |cuboid| &cuboid.cells)
 }
 

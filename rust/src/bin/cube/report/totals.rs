@@ -11,9 +11,8 @@ pub struct Totals {
 
 impl Totals {
     pub fn of(opened: &Opened, place: usize) -> Outcome<Totals> {
-        let cells = opened.archive.list_cuboid(1 << place).map_err(|stop| opened.stop(stop))?.cells;
-        let all = opened.archive.look_up(&vec![None; opened.dims()]).map_err(|stop| opened.stop(stop))?;
-        Ok(Totals { cells, all: all.expect("the cell of all records exists") })
+        let cells = opened.ask(opened.archive.list_cuboid(1 << place))?.cells;
+        Ok(Totals { cells, all: grand(opened)? })
     }
 
     /// The cells' sums added up.
@@ -29,4 +28,10 @@ impl Totals {
     pub fn equal(&self) -> bool {
         (self.sum(), self.count()) == (self.all.sum, self.all.count)
     }
+}
+
+/// The cell of all records.
+pub fn grand(opened: &Opened) -> Outcome<Found> {
+    let all = opened.ask(opened.archive.look_up(&vec![None; opened.dims()]))?;
+    Ok(all.expect("the cell of all records exists"))
 }
