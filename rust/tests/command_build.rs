@@ -50,7 +50,10 @@ fn faults_are_named_with_file_and_line() {
         ("chip,port,reading\n0,1,50\n0,one,50\n", "line 3: \"one\" is no code: a code is a number from 0 to 65534"),
         ("chip,port,reading\n\n0,50\n", "line 3: expected 3 fields parted by commas, found 2"),
         ("chip,port,reading\n0,\"1,50\n", "line 2: a quoted field has no closing quote"),
-        ("chip;port;reading\n0;1;50\n", "line 1: 0 dimensions: a table has 1 to 8"),
+        (
+            "chip;port;reading\n0;1;50\n",
+            "line 1: there is one column only: commas part the columns, one to eight dimensions and the reading",
+        ),
         ("", "line 1: there is no header: the first line names the columns"),
     ] {
         folder.write("x.csv", text).write("x.cube", "old").fails("build x.csv -o x.cube", &format!("x.csv: {what}"));

@@ -90,7 +90,12 @@ fn no_header() {
 
 #[test]
 fn no_columns_or_too_many() {
-    refused("r\n5\n", 1, TableError::Dimensions(0).into(), "0 dimensions: a table has 1 to 8");
+    refused(
+        "r\n5\n",
+        1,
+        TableError::Dimensions(0).into(),
+        "there is one column only: commas part the columns, one to eight dimensions and the reading",
+    );
     refused("\na,b,c,d,e,f,g,h,i,r\n", 2, TableError::Dimensions(9).into(), "9 dimensions: a table has 1 to 8");
     assert_eq!(table_of("a,b,c,d,e,f,g,h,r\n").unwrap().sizes().len(), 8);
 }

@@ -77,6 +77,9 @@ impl fmt::Display for Fault {
             Fault::Fields { fields, columns } => write!(f, "expected {columns} fields parted by commas, found {fields}"),
             Fault::Code(text) => write!(f, "{text:?} is no code: a code is a number from 0 to {}", u16::MAX - 1),
             Fault::Reading(text) => write!(f, "{text:?} is no reading: a reading is a number from {} to {}", i32::MIN, i32::MAX),
+            Fault::Table(TableError::Dimensions(0)) => {
+                write!(f, "there is one column only: commas part the columns, one to eight dimensions and the reading")
+            }
             Fault::Table(error) => error.fmt(f),
         }
     }

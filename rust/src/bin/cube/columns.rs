@@ -1,7 +1,6 @@
 //! Results in columns: aligned for people, or as CSV for programs.
 use crate::escape::escaped;
 
-#[derive(Default)]
 pub struct Columns {
     heads: Vec<String>,
     /// How many columns at the front are text; the others are numbers.

@@ -23,7 +23,7 @@ impl Input {
     }
 
     /// Where the bytes came from, to be told from an output.
-    pub fn place(&self) -> &Path {
+    pub fn source(&self) -> &Path {
         self.path.as_deref().unwrap_or(Path::new("/dev/stdin"))
     }
 

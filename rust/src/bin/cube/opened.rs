@@ -31,7 +31,7 @@ impl Opened {
 
     /// Delivers an answer.
     pub fn deliver(&self, args: &Args, answer: &str) -> Outcome<()> {
-        let inputs = [Some(self.input.place()), self.legend.as_ref().map(|(path, _)| path.as_path())];
+        let inputs = [Some(self.input.source()), self.legend.as_ref().map(|(path, _)| path.as_path())];
         output::deliver(args.output.as_deref(), &inputs.into_iter().flatten().collect::<Vec<_>>(), answer.as_bytes())
     }
 

@@ -50,7 +50,7 @@ fn made(args: &Args, input: &Input, table: &Table) -> Outcome<Vec<u8>> {
 fn without_legend(args: &Args, input: &Input) -> Outcome<()> {
     args.output.as_deref().map_or(Ok(()), |archive| agree_beside(archive, None))?;
     let table = sheet(args, input)?.table().map_err(|error| Failure::of(&input.name, error))?;
-    output::deliver(args.output.as_deref(), &[input.place()], &made(args, input, &table)?)
+    output::deliver(args.output.as_deref(), &[input.source()], &made(args, input, &table)?)
 }
 
 /// Builds with a legend. A lock keeps other builds from taking in labels at the same time.
@@ -61,9 +61,9 @@ fn with_legend(args: &Args, input: &Input, path: &Path, archive: &Path) -> Outco
     let mut legend = old.clone().unwrap_or_else(|| Legend::new(sheet.dimensions.iter().map(|column| column.name.clone())));
     let table = legend.code(&sheet).map_err(|what| Failure::of(&input.name, what))?;
     agree_beside(archive, Some(&legend))?;
-    let archive = Draft::write(archive, &[input.place(), path], &made(args, input, &table)?)?;
+    let archive = Draft::write(archive, &[input.source(), path], &made(args, input, &table)?)?;
     if old.as_ref() != Some(&legend) {
-        Draft::write(path, &[input.place()], legend.text().as_bytes())?.put()?;
+        Draft::write(path, &[input.source()], legend.text().as_bytes())?.put()?;
     }
     archive.put()?;
     drop(lock);

@@ -21,5 +21,5 @@ fn run(args: &Args) -> Outcome<()> {
     let [file] = args.files()?;
     let input = Input::read(file)?;
     let text = input.archive()?.entries().to_string();
-    output::deliver(args.output.as_deref(), &[input.place()], text.as_bytes())
+    output::deliver(args.output.as_deref(), &[input.source()], text.as_bytes())
 }

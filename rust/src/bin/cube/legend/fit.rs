@@ -1,5 +1,5 @@
 //! Which archives a legend is for, and whether two legends can be of one archive.
-use super::Legend;
+use super::{Dimension, Legend};
 use cube_archive::Archive;
 
 impl Legend {
@@ -24,8 +24,7 @@ impl Legend {
 
     /// Two legends agree if each gives every code that both have the same label, in dimensions of the same names.
     pub fn agrees(&self, other: &Legend) -> bool {
-        let alike =
-            |(a, b): (&super::Dimension, &super::Dimension)| a.name == b.name && a.labels.iter().zip(&b.labels).all(|(a, b)| a == b);
+        let alike = |(a, b): (&Dimension, &Dimension)| a.name == b.name && a.labels.iter().zip(&b.labels).all(|(a, b)| a == b);
         self.dimensions.len() == other.dimensions.len() && self.dimensions.iter().zip(&other.dimensions).all(alike)
     }
 }

@@ -100,6 +100,6 @@ fn dimension(line: &str) -> Option<&str> {
 }
 
 fn rising(sizes: &str) -> Option<Vec<u16>> {
-    let sizes = sizes.split_whitespace().map(|size| size.parse().ok()).collect::<Option<Vec<u16>>>()?;
+    let sizes = sizes.split_whitespace().map(|size| size.parse().ok().filter(|_| !size.starts_with('+'))).collect::<Option<Vec<u16>>>()?;
     (!sizes.is_empty() && sizes[0] > 0 && sizes.is_sorted_by(|a, b| a < b)).then_some(sizes)
 }
