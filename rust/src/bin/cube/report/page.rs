@@ -91,3 +91,26 @@ fn bars(opened: &Opened, place: usize, totals: &Totals) -> String {
         name = text(&heading(opened, place)),
     )
 }
+
+#[cfg(test)]
+mod tests {
+    use super::*;
+    use cube_archive::{Cell, Found};
+
+    /// No accepted archive has such a point; the page would show it.
+    #[test]
+    fn a_point_that_is_not_right() {
+        let point = Point { title: "T", catches: "C", asked: "1 < 2".into(), answer: "3 & 4".into(), right: false };
+        let card = card(&point, 2);
+        assert!(card.starts_with("<li class=\"wrong\">\n<h3><span>2. T</span> <strong>&#10007; not right</strong></h3>"), "{card}");
+        assert!(card.contains("<dd>1 &lt; 2</dd>") && card.contains("<dd>3 &amp; 4</dd>"), "{card}");
+    }
+
+    /// A record lost, and a record counted twice.
+    #[test]
+    fn totals_that_are_not_equal() {
+        let cells = vec![Cell { codes: vec![Some(0)], sum: 5, count: 2 }, Cell { codes: vec![Some(1)], sum: -7, count: 1 }];
+        let equal = |sum, count| Totals { cells: cells.clone(), all: Found { sum, count, entry: 0 } }.equal();
+        assert_eq!([equal(-2, 3), equal(-1, 3), equal(-2, 4)], [true, false, false]);
+    }
+}

@@ -4,32 +4,29 @@ use std::collections::{HashMap, HashSet};
 
 /// Two codes that records have, but never together; else one code that no record has. None if all codes have met.
 pub fn never_met(cuboids: &[Cuboid], sizes: &[u16]) -> Option<Vec<Code>> {
-    let codes = |place: usize| -> Vec<u16> { codes_of(cuboids, place).collect() };
-    let pairs = (0..sizes.len()).flat_map(|i| (i + 1..sizes.len()).map(move |j| (i, j)));
-    let apart = pairs.flat_map(|(i, j)| {
-        let met: HashSet<&Vec<Code>> = cells(cuboids, 1 << i | 1 << j).iter().map(|cell| &cell.codes).collect();
-        let pairs: Vec<_> = codes(i).into_iter().flat_map(|a| codes(j).into_iter().map(move |b| (a, b))).take(met.len() + 1).collect();
-        let question = |(a, b)| {
-            (0..sizes.len())
-                .map(|k| {
-                    if k == i {
-                        Some(a)
-                    } else if k == j {
-                        Some(b)
-                    } else {
-                        None
-                    }
-                })
-                .collect()
-        };
-        pairs.into_iter().map(question).find(|question| !met.contains(question))
-    });
-    let unused = (0..sizes.len()).filter_map(|i| {
-        let used: HashSet<u16> = codes(i).into_iter().collect();
-        let code = (0..sizes[i]).find(|code| !used.contains(code))?;
-        Some((0..sizes.len()).map(|k| (k == i).then_some(code)).collect())
-    });
-    apart.chain(unused).next()
+    let dims = sizes.len();
+    let mut pairs = (0..dims).flat_map(|i| (i + 1..dims).map(move |j| (i, j)));
+    pairs.find_map(|(i, j)| apart(cuboids, dims, i, j)).or_else(|| (0..dims).find_map(|i| unused(cuboids, sizes, i)))
+}
+
+/// A code at one place and a code at another that never met.
+fn apart(cuboids: &[Cuboid], dims: usize, i: usize, j: usize) -> Option<Vec<Code>> {
+    let met: HashSet<&Vec<Code>> = cells(cuboids, 1 << i | 1 << j).iter().map(|cell| &cell.codes).collect();
+    let mut questions = codes(cuboids, i).flat_map(|a| codes(cuboids, j).map(move |b| question(dims, &[(i, a), (j, b)])));
+    questions.find(|question| !met.contains(question))
+}
+
+/// A code at a place that no record has.
+fn unused(cuboids: &[Cuboid], sizes: &[u16], i: usize) -> Option<Vec<Code>> {
+    let used: HashSet<u16> = codes(cuboids, i).collect();
+    (0..sizes[i]).find(|code| !used.contains(code)).map(|code| question(sizes.len(), &[(i, code)]))
+}
+
+/// The question with these codes at their places, and ALL elsewhere.
+fn question(dims: usize, codes: &[(usize, u16)]) -> Vec<Code> {
+    let mut question = vec![None; dims];
+    codes.iter().for_each(|&(place, code)| question[place] = Some(code));
+    question
 }
 
 /// The first cell that one record alone falls in, and that record's own cell.
@@ -66,6 +63,6 @@ pub fn cells(cuboids: &[Cuboid], set: u32) -> &[Cell] {
 }
 
 /// The codes that records have at a place.
-fn codes_of(cuboids: &[Cuboid], place: usize) -> impl Iterator<Item = u16> + '_ {
+fn codes(cuboids: &[Cuboid], place: usize) -> impl Iterator<Item = u16> + '_ {
     cells(cuboids, 1 << place).iter().filter_map(move |cell| cell.codes[place])
 }
