@@ -6,7 +6,7 @@ use crate::legend::{beside, Legend};
 use crate::output;
 use cube_archive::{Archive, Code, Stop};
 use std::ffi::OsStr;
-use std::path::PathBuf;
+use std::path::{Path, PathBuf};
 
 pub struct Opened {
     pub input: Input,
@@ -31,8 +31,12 @@ impl Opened {
 
     /// Delivers an answer.
     pub fn deliver(&self, args: &Args, answer: &str) -> Outcome<()> {
-        let inputs = [Some(self.input.source()), self.legend.as_ref().map(|(path, _)| path.as_path())];
-        output::deliver(args.output.as_deref(), &inputs.into_iter().flatten().collect::<Vec<_>>(), answer.as_bytes())
+        output::deliver(args.output.as_deref(), &self.sources().collect::<Vec<_>>(), answer.as_bytes())
+    }
+
+    /// The files that were read.
+    pub fn sources(&self) -> impl Iterator<Item = &Path> {
+        std::iter::once(self.input.source()).chain(self.legend.as_ref().map(|(path, _)| path.as_path()))
     }
 
     /// What a call answered, or the failure that its stop is.
