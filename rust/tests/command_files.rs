@@ -111,8 +111,12 @@ fn a_process_killed_while_it_writes_leaves_the_old_file() {
     let folder = folder("killed_writing");
     folder.write("x.csv", many()).write("x.cube", "old");
     let output = shell(&folder, "ulimit -c 0; ulimit -f 20; exec \"$cube\" build x.csv -o x.cube");
-    assert!(output.status.signal().is_some(), "{:?}", output.status);
     assert_eq!(folder.text("x.cube"), "old");
+    if output.status.signal().is_none() {
+        // Whoever started the tests ignores the signal: the write fails, as on a full disk.
+        assert_eq!(output.status.code(), Some(1));
+        return;
+    }
     let files = folder.files();
     let part = files.iter().find(|name| name.starts_with("x.cube.") && name.ends_with(".part")).expect("what was written");
     let wanted = archive(&many(), &folder);
