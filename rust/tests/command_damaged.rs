@@ -6,7 +6,7 @@ use command::folder;
 use cube::Records;
 use cube_archive::ALL;
 
-const COMMANDS: [&str; 13] = [
+const COMMANDS: [&str; 14] = [
     "check FILE",
     "cell FILE 2=5",
     "cell FILE 9=5",
@@ -17,6 +17,7 @@ const COMMANDS: [&str; 13] = [
     "keys FILE",
     "fixes FILE 2 3",
     "fixes FILE 8 0",
+    "join FILE five-rows.csv",
     "totals FILE",
     "fee FILE 4294967295 9",
     "report FILE",

@@ -7,7 +7,7 @@ use cube::Records;
 use std::ffi::OsStr;
 use std::os::unix::ffi::OsStrExt;
 
-const NAMES: [&str; 11] = ["build", "check", "cell", "cuboid", "expand", "list", "keys", "fixes", "totals", "fee", "report"];
+const NAMES: [&str; 12] = ["build", "check", "cell", "cuboid", "expand", "list", "keys", "fixes", "join", "totals", "fee", "report"];
 
 #[test]
 fn wrong_usage() {
@@ -29,6 +29,10 @@ fn wrong_usage() {
         ("build", "expected 1 file, found 0"),
         ("build a.csv b.csv", "expected 1 file, found 2"),
         ("build five.csv --legend x.legend", "--legend needs -o FILE"),
+        ("join five.cube", "expected 2 files, found 1"),
+        ("join five.cube five.cube five.cube", "expected 2 files, found 3"),
+        ("join - -", "standard input is one archive and not two"),
+        ("join --csv five.cube five.cube", "there is no option --csv here"),
         ("cell", "a file is missing"),
         ("cuboid", "a file is missing"),
         ("totals", "a file is missing"),

@@ -6,6 +6,7 @@ mod cuboid;
 mod expand;
 mod fee;
 mod fixes;
+mod join;
 mod keys;
 mod list;
 mod report;
@@ -28,7 +29,7 @@ pub struct Command {
     pub run: fn(&Args) -> Outcome<()>,
 }
 
-const COMMANDS: [&Command; 11] = [
+const COMMANDS: [&Command; 12] = [
     &build::COMMAND,
     &check::COMMAND,
     &cell::COMMAND,
@@ -37,6 +38,7 @@ const COMMANDS: [&Command; 11] = [
     &list::COMMAND,
     &keys::COMMAND,
     &fixes::COMMAND,
+    &join::COMMAND,
     &totals::COMMAND,
     &fee::COMMAND,
     &report::COMMAND,
