@@ -1,6 +1,7 @@
 //! An archive, and the calls on it with decoded results.
 use crate::cell::Cuboid;
 use crate::code::{to_word, Code};
+use crate::entries::Entries;
 use crate::fields::Fields;
 use crate::head::Head;
 use crate::raw::{self, Counts, Found};
@@ -54,6 +55,23 @@ impl Archive {
     /// Checks the archive once more; its base count and normal count.
     pub fn check(&self) -> Result<Counts, Stop> {
         raw::check(&self.bytes)
+    }
+
+    /// The entries as the bytes hold them.
+    ///
+    /// ```
+    /// use cube_archive::{Archive, Table};
+    ///
+    /// let mut table = Table::new(&[1, 2])?;
+    /// table.push(&[0, 0], 5)?;
+    /// table.push(&[0, 1], 0)?;
+    /// let archive = Archive::build(&table.to_bytes())?;
+    /// assert_eq!(archive.entries().to_string(), "2 2 2\n0 0 5 1 : 2\n0 1 0 1 : 2\n* * 5 2\n0 * 5 2\n");
+    /// # Ok::<(), Box<dyn std::error::Error>>(())
+    /// ```
+    pub fn entries(&self) -> Entries {
+        let mut fields = Fields(&self.bytes[8 + 4 * self.head.dims..]);
+        Entries::read(&mut fields, self.head.dims).expect("an accepted archive has all its entries")
     }
 
     /// The sum and count of a cell, or `None` for 'no record'. The question has a code, or `None` for ALL, for each dimension.

@@ -26,7 +26,7 @@ pub struct Cuboid {
 }
 
 impl Cell {
-    fn read(fields: &mut Fields, dims: usize) -> Option<Cell> {
+    pub(crate) fn read(fields: &mut Fields, dims: usize) -> Option<Cell> {
         let codes = (0..dims).map(|_| fields.word().map(from_word)).collect::<Option<_>>()?;
         Some(Cell { codes, sum: fields.sum()?, count: fields.word()? })
     }

@@ -20,8 +20,9 @@
 //! ```
 //!
 //! * [`Table`]: the bytes of a table; [`csv`]: a table from CSV text
-//! * [`Archive`]: build, open, check, look up, list a cuboid, expand, list the smallest keys, tell what a set fixes, share a fee, join two
+//! * [`Archive`]: build, open, check, entries, look up, list a cuboid, expand, list the smallest keys, tell what a set fixes, share a fee, join two
 //! * [`Stop`]: why a call refuses its input, with the documents' numbers
+//! * the command `cube` (`src/bin/cube`), for a person: docs/COMMAND.md
 //! * [`raw`]: the calls on slices, into an output of the caller's; [`room`]: how long an output is enough
 //!
 //! # Stack
@@ -38,6 +39,7 @@ mod archive;
 mod cell;
 mod code;
 pub mod csv;
+mod entries;
 mod fields;
 mod head;
 pub mod raw;
@@ -48,6 +50,7 @@ mod table;
 pub use archive::Archive;
 pub use cell::{Cell, Cuboid};
 pub use code::{Code, Codes, ALL};
+pub use entries::{Base, Entries};
 pub use raw::{Counts, Found};
 pub use stop::Stop;
 pub use table::{Table, TableError};

@@ -1,5 +1,7 @@
 //! The complete cube of a table by brute force over its rows.
 #![allow(dead_code)]
+pub mod random;
+
 use cube_archive::{Archive, Cell, Code, Cuboid, Table};
 use std::collections::BTreeSet;
 
