@@ -194,15 +194,20 @@ fn sum_both(s: &[u8], t: &[u8]) -> u32
     std::num::wrapping_add_u32(first, second)
 }
 
-// The check word of the bytes s: the sum of their words, modulo 2^32. It is that of two halves and of the few words behind them, added.
-// A half is a multiple of 16 bytes, as wide as the loads that the compiler makes of four words.
+// The check word of the bytes s: the sum of their words, modulo 2^32. Blocks of 2,048 bytes are summed in two halves at once; the words behind the last block one by one.
 pub fn check_word(s: &[u8]) -> u32
     ensures { λ r. ⌜ r ≡ checkOf (now (s .entry)) ⌝ }
 {
-    let half = 16 * (s.len() / 32);
-    let behind = half + half;
-    let sum = sum_both(&s[..half], &s[half..behind]);
-    std::num::wrapping_add_u32(sum, sum_words(&s[behind..]))
+    let mut sum: u32 = 0;
+    let mut at = 0;
+    while 2048 <= s.len() - at {
+        let half = at + 1024;
+        let end = half + 1024;
+        let block = sum_both(&s[at..half], &s[half..end]);
+        sum = std::num::wrapping_add_u32(sum, block);
+        at = end;
+    }
+    std::num::wrapping_add_u32(sum, sum_words(&s[at..]))
 }
 
 // Writes the check word of the first at bytes of out straight after them.

@@ -1,39 +1,46 @@
--- `fields::check_word` meets its contract. Its bytes are cut in two between words, and those behind the cut once more.
-use borrow.Author.Needs.{needs}
-use mathlib.Core.Path.{_≡_, sym, ap, _∙_}
+-- `fields::check_word` meets its contract: the blocks so far, and the bytes from there on, have the check word of all.
+use mathlib.Core.Path.{_≡_, ap, _∙_}
 use mathlib.Core.List.{List}
+use Prim.Native.Nat.{ℕ, _+_, _-_, _%_, _^_, _≤_}
 use native.Mathlib.Omega.{arith}
-use Prim.Native.Nat.{ℕ, _+_, _-_, _*_, _/_, _%_, _^_}
 use lib.ListN.{length, take, drop, length-take, length-drop}
-use lib.Seq.{drop-drop, take-all}
+use lib.Seq.{take-all}
+use denote.Ref.{now}
 use Rattle.fields.specs.Check.{checkOf}
-use Rattle.fields.specs.CheckLaws.{check-cut}
+use Rattle.fields.proofs.Summed.{Blocks, blocks-none, blocks-on, blocks-all}
+use borrow.Author.Needs.{needs}
 use Rattle.fields.proofs.check_word.Statement.{statement}
 use Rattle.fields.proofs.check_word.Tie as tie
 
-cut-twice : (h k : ℕ) (s : List ℕ) {sum rest : ℕ} → h ≡ 4 * k → sum ≡ (checkOf (take h s) + checkOf (take (h + h - h) (drop h s))) % 2 ^ 32
-    → rest ≡ checkOf (take (length s - (h + h)) (drop (h + h) s)) → (sum + rest) % 2 ^ 32 ≡ checkOf s
-cut-twice h k s {sum} {rest} e x y =
-    let f : h + h - h ≡ h = omega arith in
-    let x' : sum ≡ (checkOf (take h s) + checkOf (take h (drop h s))) % 2 ^ 32 = rw f at x in
-    let y' : rest ≡ checkOf (drop h (drop h s)) = y ∙ ap checkOf (take-all (length s - (h + h)) (drop (h + h) s) (simp length-drop (omega arith)) ∙ sym (drop-drop h h s)) in
-    let z : checkOf s ≡ (checkOf (take h s) + checkOf (drop h s)) % 2 ^ 32 = rw e (check-cut k s) in
-    let w : checkOf (drop h s) ≡ (checkOf (take h (drop h s)) + checkOf (drop h (drop h s))) % 2 ^ 32 = rw e (check-cut k (drop (4 * k) s)) in
-    omega arith
+abbrev Inv-loop : tie.InvT-loop
+Inv-loop s sum₀ at₀ sum at = Blocks s sum at
 
-slice-aggregate-sum-both : tie.Need-slice-aggregate-sum-both
-slice-aggregate-sum-both c = simp length-take (omega arith)
+abbrev μ-loop : tie.MeasureT-loop
+μ-loop s sum₀ at₀ sum at = length s - at
 
-sum-both-requires : tie.Need-sum-both-requires
-sum-both-requires c κs = simp (length-take, length-drop) (omega arith)
+loop-holds : tie.Need-loop-holds Inv-loop μ-loop
+loop-holds c = blocks-none _
 
-returns : tie.Need-returns
+sub-loop : tie.Need-sub-loop Inv-loop μ-loop
+sub-loop c = c .loop .inv .within
+
+sum-both-requires : tie.Need-sum-both-requires Inv-loop μ-loop
+sum-both-requires c κs = simp (length-take, length-drop) (omega (arith, c .before .before .loop-test .taken, c .before .before .before .loop .inv .within))
+
+loop-again : tie.Need-loop-again Inv-loop μ-loop
+loop-again c =
+    let l = c .before .before .before .before .before .loop in
+    let half : l .at + 1024 - l .at ≡ 1024 = omega arith in
+    let end : l .at + 1024 + 1024 - (l .at + 1024) ≡ 1024 = omega arith in
+    blocks-on 1024 256 (omega arith) (l .inv) (omega (arith, c .before .before .before .before .loop-test .taken, l .inv .within)) (rw (half, end) at (c .before .sum-both .ensures)) (c .wrapping-add-u32 .ensures)
+
+returns : tie.Need-returns Inv-loop μ-loop
 returns c =
-    let s = c .before .before .before .before .before .before .before .args .s .now in
-    let k = length s / 32 in
-    c .wrapping-add-u32 .ensures ∙ cut-twice (16 * k) (4 * k) s (omega arith) (c .before .before .before .sum-both .ensures) (c .before .sum-words .ensures)
+    let s = now (c .before .before .before .before .before .before .args .s) in
+    let l = c .before .before .before .before .loop in
+    blocks-all (l .inv) (c .before .sum-words .ensures ∙ ap checkOf (take-all (length s - l .at) (drop (l .at) s) (simp length-drop (omega arith)))) (c .wrapping-add-u322 .ensures)
 
 pub check-word-spec : {M : Type 1} → statement M
 check-word-spec =
     tie.close
-    (tie.spec (λ c. search needs) (λ c. search needs) slice-aggregate-sum-both (λ c. search needs) (λ c. search needs) (λ c. search needs) sum-both-requires (λ c. search needs) (λ c. search needs) (λ c. search needs) (λ c κs. search needs) (λ c κs. search needs) returns)
+    (tie.spec Inv-loop μ-loop loop-holds sub-loop (λ c. search needs) (λ c. search needs) (λ c. search needs) (λ c. search needs) (λ c. search needs) (λ c. search needs) (λ c. search needs) (λ c. search needs) sum-both-requires (λ c κs. search needs) (λ c. search needs) loop-again (λ c. search needs) (λ c. search needs) (λ c. search needs) (λ c κs. search needs) (λ c κs. search needs) returns)
