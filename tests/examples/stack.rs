@@ -73,7 +73,7 @@ const SET: u32 = 0b0101_0101;
 /// Whether it does not stop.
 type Call = fn(&Files, &mut [u8]) -> bool;
 
-const CALLS: [(&str, Call); 8] = [
+const CALLS: [(&str, Call); 9] = [
     ("build", |files, out| Library.build(&files.table, out).is_ok()),
     ("check", |files, _| Library.check(&files.archive).is_ok()),
     ("look up", |files, _| Library.look_up(&files.archive, &files.question).is_ok()),
@@ -82,6 +82,7 @@ const CALLS: [(&str, Call); 8] = [
     ("keys", |files, out| Library.smallest_keys(&files.archive, out).is_ok()),
     ("fixes", |files, _| Library.fixes(&files.archive, SET, 8).is_ok()),
     ("share a fee", |files, out| Library.share_fee(&files.archive, 999_999_937, SET, out).is_ok()),
+    ("join", |files, out| Library.join(&files.archive, &files.archive, out).is_ok()),
 ];
 
 fn main() {

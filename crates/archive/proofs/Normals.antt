@@ -19,7 +19,7 @@ use Rattle.rows.proofs.Rows.{rows-codes}
 use Rattle.entries.specs.Layout.{CUBE, Held, section, baseBytes, cellBytes, required}
 use Rattle.entries.proofs.Lengths.{cell-length}
 use Rattle.entries.proofs.Limits.{normals-wide}
-use Rattle.singles.proofs.Ready.{ready-base}
+use Rattle.ready.proofs.Ready.{ready-base}
 use Rattle.condense.specs.Shared.{normalRows}
 use Rattle.questions.specs.Questions.{NormalsAt}
 use Rattle.bases.specs.Listed.{ourBases}

@@ -15,7 +15,7 @@ use Rattle.entries.specs.Reading.{walkArchive, readArchive, rowsIn, archiveAnsw
 use Rattle.entries.specs.declared.ArchiveRead.the-variants as Read
 use Rattle.entries.proofs.Accepted.{read-forth, archive-forth}
 use Rattle.fields.specs.Words.{wordsAt}
-use Rattle.singles.specs.Ready.{Ready}
+use Rattle.ready.specs.Ready.{Ready}
 use Rattle.required.proofs.Judged.{sizes-at, read-ready}
 use Rattle.required.proofs.Reading.{read-of}
 use Rattle.archive.specs.Accepts.{Accepts}

@@ -7,7 +7,7 @@ use entries::ArchiveRead;
 use questions::Look;
 ghost use mathlib.Core.Path.{_≡_};
 ghost use Rattle.rows.specs.Rows.{rowsOf};
-ghost use Rattle.singles.specs.Ready.{Ready};
+ghost use Rattle.ready.specs.Ready.{Ready};
 ghost use Rattle.cuboids.specs.Cuboids.{cuboidBytes, expansionBytes};
 ghost use Rattle.calls.specs.Answers.{bytes, Answered};
 ghost use Rattle.calls.specs.Calls.{checks, listsCuboid, expands, looksUp};
@@ -43,11 +43,11 @@ fn fit_cuboid(
     requires { ⌜ Ready dims rows (now codes) (now sums) (now counts) ⌝ }
     ensures { λ r. ⌜ Answered (bytes (cuboidBytes dims (rowsOf dims rows (now (codes .entry)) (now (sums .entry)) (now (counts .entry))) set)) (now (out .entry)) (now (out .exit)) r ⌝ }
 {
-    let len = cuboids::cuboid_len(codes, sums, counts, rows, dims, set);
-    if out.len() < len {
+    let needed = cuboids::write_cuboid(out, codes, sums, counts, rows, dims, set);
+    if out.len() < needed {
         return Written::Stop(15);
     }
-    Written::Length(cuboids::put_cuboid(out, codes, sums, counts, rows, dims, set))
+    Written::Length(needed)
 }
 
 // Lists the cuboid of a set of an archive that was accepted.
@@ -115,11 +115,11 @@ fn fit_expansion(
     requires { ⌜ Ready dims rows (now codes) (now sums) (now counts) ⌝ }
     ensures { λ r. ⌜ Answered (bytes (expansionBytes dims (rowsOf dims rows (now (codes .entry)) (now (sums .entry)) (now (counts .entry))))) (now (out .entry)) (now (out .exit)) r ⌝ }
 {
-    let len = cuboids::expansion_len(codes, sums, counts, rows, dims);
-    if out.len() < len {
+    let needed = cuboids::write_expansion(out, codes, sums, counts, rows, dims);
+    if out.len() < needed {
         return Written::Stop(15);
     }
-    Written::Length(cuboids::put_expansion(out, codes, sums, counts, rows, dims))
+    Written::Length(needed)
 }
 
 // Expands an archive that was accepted.

@@ -11,7 +11,7 @@ use lib.ListN.{length, getD}
 use Rattle.cube.specs.declared.Total.{Total}
 use Rattle.cube.specs.Measure.{Row, nothing}
 use Rattle.rows.specs.Rows.{cut}
-use Rattle.singles.specs.Ready.{Ready}
+use Rattle.ready.specs.Ready.{Ready}
 use Rattle.condense.specs.Lists.{listsOf, Short, ourLists}
 use Rattle.entries.specs.Layout.{Based, based}
 

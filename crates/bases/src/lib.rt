@@ -86,7 +86,7 @@ pub fn put_bases(
     at
 }
 
-// Whether the bytes s have the base entry of a row from a place on: it is written into the bytes that are lent, and compared.
+// Whether the bytes s have the base entry of a row from a place on.
 fn match_base(
     s: &[u8],
     at: usize,
@@ -98,16 +98,18 @@ fn match_base(
     sets: &[u32],
     lens: &[u32],
     row: usize,
-    scratch: &mut [u8],
 ) -> Walk
-    requires { ⌜ Listed dims rows (now codes) (now sums) (now counts) (now sets) (now lens) × (row < rows) × (at ≤ length (now s)) × (328 ≤ length (now scratch)) ⌝ }
+    requires { ⌜ Listed dims rows (now codes) (now sums) (now counts) (now sets) (now lens) × (row < rows) × (at ≤ length (now s)) ⌝ }
     ensures { λ r. ⌜ Matched (now (s .entry)) at (baseBytes (ourBase dims (rowsOf dims rows (now (codes .entry)) (now (sums .entry)) (now (counts .entry))) row)) r ⌝ }
 {
-    let len = put_base(scratch, codes, sums, counts, rows, dims, sets, lens, row);
-    writing::match_bytes(s, at, &scratch[..len])
+    let mine = rows::row_of(codes, rows, dims, row);
+    let sum = sums[row];
+    let count = counts[row];
+    let list = condense::list_of(sets, lens, rows, row);
+    writing::match_entry(s, at, mine, sum, count, list)
 }
 
-// Whether the bytes s have the base entries from a place on. 328 bytes are the most that a base entry has.
+// Whether the bytes s have the base entries from a place on.
 pub fn match_bases(
     s: &[u8],
     start: usize,
@@ -122,22 +124,9 @@ pub fn match_bases(
     requires { ⌜ Listed dims rows (now codes) (now sums) (now counts) (now sets) (now lens) × (start ≤ length (now s)) ⌝ }
     ensures { λ r. ⌜ Matched (now (s .entry)) start (flatMap baseBytes (ourBases dims (rowsOf dims rows (now (codes .entry)) (now (sums .entry)) (now (counts .entry))))) r ⌝ }
 {
-    let mut scratch = [0u8; 328];
     let mut at = start;
     for row in 0..rows {
-        match match_base(
-            s,
-            at,
-            codes,
-            sums,
-            counts,
-            rows,
-            dims,
-            sets,
-            lens,
-            row,
-            &mut scratch,
-        ) {
+        match match_base(s, at, codes, sums, counts, rows, dims, sets, lens, row) {
             Walk::Stop(n) => return Walk::Stop(n),
             Walk::At(next) => at = next,
         }

@@ -2,7 +2,7 @@
 use mathlib.Core.Path.{_≡_, refl, sym, ap, ap₂, subst, _∙_}
 use mathlib.Core.Bool.{true, false, false≢true}
 use mathlib.Core.List.{List}
-use Prim.Native.Nat.{ℕ, _+_, _*_, _≤_, _<_}
+use Prim.Native.Nat.{ℕ, _+_, _*_, _≤_}
 use native.Mathlib.Nat.{mul-le-mul}
 use native.Mathlib.Omega.{arith}
 use lib.IntN.{ℤ}
@@ -20,28 +20,15 @@ use Rattle.table.specs.declared.TableRead.the-variants as Read
 use Rattle.table.proofs.Accepted.{table-forth}
 use Rattle.table.proofs.Rows.{placed}
 use Rattle.entries.specs.Layout.{archiveBytes, Limits}
-use Rattle.singles.specs.Ready.{Ready}
-use Rattle.singles.proofs.Ready.{rows-front}
+use Rattle.ready.specs.Ready.{Ready}
+use Rattle.ready.proofs.Ready.{rows-front}
 use Rattle.required.proofs.Judged.{limits-ready}
-use Rattle.building.specs.Fitted.{Fitted}
-use Rattle.calls.specs.declared.Written.the-variants.{Length, Stop}
-use Rattle.calls.specs.Answers.{Outcome, stop as stopped, bytes, Answered}
+use Rattle.calls.specs.declared.Written.the-variants.{Stop}
+use Rattle.calls.specs.Answers.{stop as stopped, bytes}
 use Rattle.calls.specs.Calls.{builds}
-use Rattle.calls.proofs.Answers.{no-room, done}
 use Rattle.build.proofs.Folded.{folded-within}
 
 -- ---- what is written just if there is room for it
-
-module _ {o : Outcome} {xs l m : List ℕ} {n : ℕ} (e : o ≡ bytes xs) (f : Fitted xs l m n) (s : length m ≡ length l) where
-  pub fitted-short : length m < n → Answered o l m (Stop 15)
-  fitted-short h =
-      let k : length l < length xs = omega (arith, h, s, f .count) in
-      subst (λ (x : List ℕ). Answered o l x (Stop 15)) (sym (f .short k)) (no-room l e k)
-
-  pub fitted-done : n ≤ length m → Answered o l m (Length n)
-  fitted-done h =
-      let k : length xs ≤ length l = omega (arith, h, s, f .count) in
-      done e k (record { count = f .count; same = s; list = f .fits k })
 
 -- ---- a table that was read
 

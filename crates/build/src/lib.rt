@@ -8,7 +8,7 @@ ghost use Rattle.rows.specs.Rows.{rowsOf};
 ghost use Rattle.fields.specs.Words.{wordsAt};
 ghost use Rattle.table.specs.Reading.{readTable, tableAnswer, Stored};
 ghost use Rattle.entries.specs.Layout.{archiveBytes, Limits};
-ghost use Rattle.singles.specs.Ready.{Ready};
+ghost use Rattle.ready.specs.Ready.{Ready};
 ghost use Rattle.calls.specs.Answers.{bytes, Answered};
 ghost use Rattle.calls.specs.Calls.{builds};
 

@@ -7,9 +7,10 @@ ghost use Rattle.cube.specs.Codes.{plain};
 ghost use Rattle.cube.specs.Condensed.{normals};
 ghost use Rattle.rows.specs.Rows.{cut, rowsOf};
 ghost use Rattle.entries.specs.Layout.{archiveBytes, Limits};
-ghost use Rattle.singles.specs.Ready.{Ready};
+ghost use Rattle.ready.specs.Ready.{Ready};
 ghost use Rattle.bases.specs.Listed.{Listed};
-ghost use Rattle.building.specs.Fitted.{Fitted};
+ghost use Rattle.normals.specs.Grouped.{Grouped};
+ghost use Rattle.writing.specs.Fitted.{Fitted};
 
 // The length of the archive, by how many normal entries it has.
 fn archive_len(
@@ -41,9 +42,11 @@ fn put_archive(
     rows: usize,
     sets: &[u32],
     lens: &[u32],
+    store: &[u16],
+    used: &[usize],
     cells: usize,
 ) -> usize
-    requires { ⌜ Listed (length (now sizes)) rows (now codes) (now sums) (now counts) (now sets) (now lens) × (cells ≡ length (normals (plain (length (now sizes))) (cut (length (now sizes)) rows (now codes)))) ⌝ }
+    requires { ⌜ Listed (length (now sizes)) rows (now codes) (now sums) (now counts) (now sets) (now lens) × Grouped (length (now sizes)) rows (now codes) (now sums) (now counts) (now store) (now used) × (cells ≡ length (normals (plain (length (now sizes))) (cut (length (now sizes)) rows (now codes)))) ⌝ }
     requires { ⌜ length (archiveBytes (now sizes) (rowsOf (length (now sizes)) rows (now codes) (now sums) (now counts))) ≤ length (now out) ⌝ }
     ensures { λ r. ⌜ Wrote (archiveBytes (now (sizes .entry)) (rowsOf (length (now (sizes .entry))) rows (now (codes .entry)) (now (sums .entry)) (now (counts .entry)))) (now (out .entry)) (now (out .exit)) r ⌝ }
 {
@@ -52,7 +55,7 @@ fn put_archive(
     at += fields::put_word(&mut out[at..], rows as u32);
     at += bases::put_bases(&mut out[at..], codes, sums, counts, rows, dims, sets, lens);
     at += fields::put_word(&mut out[at..], cells as u32);
-    at += normals::put_normals(&mut out[at..], codes, sums, counts, rows, dims, sets, lens);
+    at += normals::put_normals(&mut out[at..], codes, sums, counts, rows, dims, store, used);
     fields::put_check(out, at)
 }
 
@@ -69,14 +72,16 @@ pub fn write_archive(
     ensures { λ r. ⌜ Fitted (archiveBytes (now (sizes .entry)) (rowsOf (length (now (sizes .entry))) rows (now (codes .entry)) (now (sums .entry)) (now (counts .entry)))) (now (out .entry)) (now (out .exit)) r ⌝ }
 {
     let dims = sizes.len();
+    let mut store = [0u16; 262144];
+    let mut used = [0usize; 256];
     let mut sets = [0u32; 71680];
     let mut lens = [0u32; 1024];
-    let cells = condense::list_rows(
+    let cells = condense::condense_rows(
         codes,
-        sums,
-        counts,
         rows,
         dims,
+        &mut store,
+        &mut used,
         &mut sets,
         &mut lens[..rows],
     );
@@ -100,6 +105,8 @@ pub fn write_archive(
             rows,
             &sets,
             &lens[..rows],
+            &store,
+            &used,
             cells,
         )
     } else {

@@ -4,25 +4,25 @@ use mathlib.Core.List.{List, [], _∷_, _++_, flatMap, append-nil}
 use Prim.Native.Nat.{ℕ, _+_, _*_, _≤_, _<_}
 use native.Mathlib.Nat.{le-trans, mul-le-mul}
 use native.Mathlib.Omega.{arith}
-use lib.IntN.{ℤ}
 use lib.Pow.{pow-mono}
 use lib.ListN.{length, getD, length-append}
 use lib.Seq.{append-snoc}
-use Rattle.lists.specs.Lists.{_∈_}
 use Rattle.lists.proofs.Members.{flat-append}
 use Rattle.lattice.specs.Sets.{full, sets, setsFrom}
-use Rattle.lattice.proofs.Sets.{sets-of, sets-length, full-lt}
+use Rattle.lattice.proofs.Sets.{sets-length}
 use Rattle.lattice.proofs.Turns.{from-full, from-on, from-off, from-done}
 use Rattle.cube.specs.Codes.{plain}
-use Rattle.cube.specs.Condensed.{proper, shared, common}
+use Rattle.cube.specs.Condensed.{proper, shared, common, Base}
 use Rattle.cube.proofs.Normals.{common-length}
 use Rattle.rows.specs.Rows.{cut}
 use Rattle.rows.proofs.Rows.{cut-length}
-use Rattle.singles.specs.Marks.{picked}
-use Rattle.singles.specs.Ready.{Ready}
-use Rattle.singles.proofs.Ready.{ready-base}
-use Rattle.condense.specs.Lists.{listsOf, Short, Fit, opens, grown, ourLists}
-use Rattle.condense.proofs.Partly.{partly, partly-none, partly-all, partly-fit, partly-shared, partly-grown}
+use Rattle.engine.specs.Index.{key}
+use Rattle.slots.specs.Slots.{crowds, packed}
+use Rattle.crowds.specs.Crowds.{leftOut, ends}
+use Rattle.crowds.proofs.Left.{ends-shared}
+use Rattle.condense.specs.Lists.{listsOf, Short, Fit, grown, ourLists}
+use Rattle.condense.proofs.Partly.{partly, partly-none, partly-all, partly-fit}
+use Rattle.condense.proofs.Lone.{partly-grown}
 
 pub record Listing (d n : ℕ) (codes store lens : List ℕ) (cells k : ℕ) : Type 0 where
   pub below : k ≤ 256
@@ -33,7 +33,14 @@ pub record Listing (d n : ℕ) (codes store lens : List ℕ) (cells k : ℕ) : T
   pub lists : listsOf n store lens ≡ partly d (cut d n codes) done
   pub count : cells ≡ length (flatMap (shared (plain d) (cut d n codes)) done)
 
-module _ {d n : ℕ} {codes : List ℕ} {sums : List ℤ} {counts : List ℕ} (ready : Ready d n codes sums counts) where
+-- base rows: within the limits, no two with the same codes
+pub record Given (d n : ℕ) (codes : List ℕ) : Type 0 where
+  pub dims : d ≤ 8
+  pub few : n ≤ 1024
+  pub size : n * d ≡ length codes
+  pub base : Base (plain d) (cut d n codes)
+
+module _ {d n : ℕ} {codes : List ℕ} (given : Given d n codes) where
   abbrev xs : List (List ℕ)
   xs = cut d n codes
 
@@ -44,7 +51,7 @@ module _ {d n : ℕ} {codes : List ℕ} {sums : List ℤ} {counts : List ℕ} (r
     size = e;
     short = λ i h. omega (arith, f i h);
     done = [];
-    left = from-full d (ready .dims);
+    left = from-full d (given .dims);
     lists = partly-none d xs store lens (cut-length d n codes) f;
     count = refl;
   }
@@ -57,8 +64,8 @@ module _ {d n : ℕ} {codes : List ℕ} {sums : List ℤ} {counts : List ℕ} (r
         let f = shared (plain d) xs in
         let all : length (common (plain d) xs) ≡ length (flatMap f (m .done)) + length (flatMap f (setsFrom (full d) k)) =
         ap (λ (l : List ℕ). length (flatMap f l)) (sym (m .left)) ∙ ap length (flat-append f (m .done) (setsFrom (full d) k)) ∙ length-append (flatMap f (m .done)) (flatMap f (setsFrom (full d) k)) in
-        let rows : length xs ≤ 1024 = rw cut-length (ready .few) in
-        let few : length (sets d) * length xs ≤ 256 * 1024 = mul-le-mul (le-trans (sets-length d) (pow-mono (ready .dims))) rows in
+        let rows : length xs ≤ 1024 = rw cut-length (given .few) in
+        let few : length (sets d) * length xs ≤ 256 * 1024 = mul-le-mul (le-trans (sets-length d) (pow-mono (given .dims))) rows in
         omega (arith, m .count, all, common-length (plain d) xs)
 
     pub listing-done : 256 ≤ k → (listsOf n store lens ≡ ourLists d xs) × (cells ≡ length (common (plain d) xs))
@@ -81,27 +88,26 @@ module _ {d n : ℕ} {codes : List ℕ} {sums : List ℤ} {counts : List ℕ} (r
       }
 
       module _ (f : s < full d) where
-        node : s ∈ sets d
-        node = sets-of d (omega (arith, f, full-lt d))
+        turn : m .done ++ s ∷ setsFrom (full d) (k + 1) ≡ proper (plain d)
+        turn = rw e (ap (λ (l : List ℕ). m .done ++ l) (sym (from-on (full d) k h (rw e at f))) ∙ m .left)
 
         joined : (m .done ++ s ∷ []) ++ setsFrom (full d) (k + 1) ≡ proper (plain d)
-        joined = rw e (append-snoc (m .done) (getD (sets 8) k 0) (setsFrom (full d) (k + 1)) ∙ ap (λ (l : List ℕ). m .done ++ l) (sym (from-on (full d) k h (rw e at f))) ∙ m .left)
+        joined = append-snoc (m .done) s (setsFrom (full d) (k + 1)) ∙ turn
 
-        lists-next : grown d xs s (listsOf n store lens) ≡ partly d xs (m .done ++ s ∷ [])
-        lists-next = ap (grown d xs s) (m .lists) ∙ partly-grown d xs (ready .dims) (m .done) (setsFrom (full d) k) (m .left) (ready-base ready) node
-
-        shared-next : shared (plain d) (picked (opens 32 s (listsOf n store lens)) xs) s ≡ shared (plain d) xs s
-        shared-next = rw (m .lists) (partly-shared d xs (ready .dims) (m .done) (setsFrom (full d) k) (m .left) (ready-base ready) node)
+        lists-next : grown s (leftOut 2 xs n s) (listsOf n store lens) ≡ partly d xs (m .done ++ s ∷ [])
+        lists-next =
+            ap (grown s (leftOut 2 xs n s)) (m .lists)
+            ∙ partly-grown d n codes (given .dims) (given .few) (given .size) (given .base) (m .done) (setsFrom (full d) (k + 1)) s turn f
 
         count-next : cells + length (shared (plain d) xs s) ≡ length (flatMap (shared (plain d) xs) (m .done ++ s ∷ []))
         unfolding flatMap
         count-next = rw (flat-append (shared (plain d) xs) (m .done) (s ∷ []), append-nil, m .count) (sym (length-append (flatMap (shared (plain d) xs) (m .done)) (shared (plain d) xs s)))
 
-        pub listing-fit : Fit (grown d xs s (listsOf n store lens))
-        listing-fit = subst Fit (sym lists-next) (partly-fit d xs (ready .dims) (m .done ++ s ∷ []) (setsFrom (full d) (k + 1)) joined)
+        pub listing-fit : Fit (grown s (leftOut 2 xs n s) (listsOf n store lens))
+        listing-fit = subst Fit (sym lists-next) (partly-fit d xs (given .dims) (m .done ++ s ∷ []) (setsFrom (full d) (k + 1)) joined)
 
-        pub listing-more : {sets' lens' : List ℕ} {r : ℕ} → (listsOf n sets' lens' ≡ grown d xs s (listsOf n store lens)) × Short n lens' → length lens' ≡ n
-            → r ≡ length (shared (plain d) (picked (opens 32 s (listsOf n store lens)) xs) s) → Listing d n codes sets' lens' (cells + r) (k + 1)
+        pub listing-more : {sets' lens' : List ℕ} {r : ℕ} → (listsOf n sets' lens' ≡ grown s (leftOut 2 xs n s) (listsOf n store lens)) × Short n lens' → length lens' ≡ n
+            → r ≡ ends (packed (crowds 2 (key s xs) n)) → Listing d n codes sets' lens' (cells + r) (k + 1)
         listing-more g l c = record {
           below = omega arith;
           size = l;
@@ -109,5 +115,5 @@ module _ {d n : ℕ} {codes : List ℕ} {sums : List ℤ} {counts : List ℕ} (r
           done = m .done ++ s ∷ [];
           left = joined;
           lists = g .0 ∙ lists-next;
-          count = ap (λ (t : ℕ). cells + t) (c ∙ ap length shared-next) ∙ count-next;
+          count = ap (λ (t : ℕ). cells + t) (c ∙ ends-shared d n s codes (given .size) (given .few) (given .base)) ∙ count-next;
         }

@@ -4,20 +4,17 @@
 --   Short n lens          no list has more than 70 sets, by their lengths
 --   Fit ls                no list has more than 70 sets
 --   isOpen d s l          set s holds none of the sets of list l: the row whose list it is is open on s
---   opens d s ls          for each list a mark, whether its row is open on set s
---   noted s os ms ls      lists with set s behind each whose row is open (os) and single (ms has a mark for each open row)
---   grown d xs s ls       lists of base rows with codes xs, with set s behind each whose row is open on it and single on it among the open rows
+--   withSet s l           list l with set s behind it where its row is open on s
+--   grown s l ls          lists with set s behind each of the rows l that are open on it
 --   ourLists d xs         our lists of base rows with codes xs
-use mathlib.Core.Bool.{Bool, not, cond}
+use mathlib.Core.Bool.{Bool, not}
 use mathlib.Core.List.{List, [], _∷_, _++_, map}
 use Prim.Native.Nat.{ℕ, zero, suc, _≤_, _<_}
-use lib.Dec.{eqb}
-use lib.ListN.{length, getD, take, drop}
+use lib.ListN.{length, getD, set, take, drop}
 use Rattle.lists.specs.Lists.{_∈_, some, only}
 use Rattle.lattice.specs.Sets.{holds}
 use Rattle.cube.specs.Codes.{plain}
 use Rattle.cube.specs.Condensed.{listed}
-use Rattle.singles.specs.Marks.{mark, picked, singles}
 
 unfoldable pub listsOf : ℕ → List ℕ → List ℕ → List (List ℕ)
 listsOf zero sets lens = []
@@ -32,16 +29,12 @@ Fit ls = (l : List ℕ) → l ∈ ls → length l ≤ 70
 abbrev pub isOpen : ℕ → ℕ → List ℕ → Bool
 isOpen d s l = not (some (holds d s) l)
 
-unfoldable pub opens : ℕ → ℕ → List (List ℕ) → List ℕ
-opens d s ls = map (λ l. mark (isOpen d s l)) ls
+abbrev pub withSet : ℕ → List ℕ → List ℕ
+withSet s l = l ++ only (isOpen 32 s l) s []
 
-unfoldable pub noted : ℕ → List ℕ → List ℕ → List (List ℕ) → List (List ℕ)
-noted s [] ms ls = ls
-noted s (o ∷ os) ms [] = []
-noted s (o ∷ os) ms (l ∷ ls) = cond (eqb o 1) ((l ++ only (eqb (getD ms 0 0) 1) s []) ∷ noted s os (drop 1 ms) ls) (l ∷ noted s os ms ls)
-
-unfoldable pub grown : ℕ → List (List ℕ) → ℕ → List (List ℕ) → List (List ℕ)
-grown d xs s ls = noted s (opens 32 s ls) (singles d (picked (opens 32 s ls) xs) s) ls
+unfoldable pub grown : ℕ → List ℕ → List (List ℕ) → List (List ℕ)
+grown s [] ls = ls
+grown s (x ∷ l) ls = grown s l (set ls x (withSet s (getD ls x [])))
 
 unfoldable pub ourLists : ℕ → List (List ℕ) → List (List ℕ)
 ourLists d xs = map (listed (plain d) xs) xs

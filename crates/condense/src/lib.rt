@@ -1,4 +1,4 @@
-// Base rows condensed: our list of each row, and the cells of a set that rows share.
+// Base rows condensed: the groups that they form under each set, and our list of each row.
 ghost use mathlib.Core.Path.{_≡_};
 ghost use mathlib.Core.List.{[], _∷_, _++_};
 ghost use Prim.Native.Nat.{ℕ, _*_, _^_, _≤_, _<_};
@@ -6,12 +6,13 @@ ghost use lib.ListN.{length, getD, set as put};
 ghost use Rattle.lists.specs.Lists.{some};
 ghost use Rattle.lattice.specs.Sets.{full, holds};
 ghost use Rattle.cube.specs.Codes.{plain};
-ghost use Rattle.cube.specs.Condensed.{shared, normals};
-ghost use Rattle.rows.specs.Rows.{cut, rowsOf};
-ghost use Rattle.singles.specs.Ready.{Ready};
-ghost use Rattle.singles.specs.Marks.{picked};
-ghost use Rattle.condense.specs.Lists.{listsOf, Short, Fit, opens, noted, grown, ourLists};
-ghost use Rattle.condense.specs.Shared.{sharedRows};
+ghost use Rattle.cube.specs.Condensed.{normals, Base};
+ghost use Rattle.rows.specs.Rows.{cut};
+ghost use Rattle.deals.specs.Deals.{Names};
+ghost use Rattle.engine.specs.Index.{key, Valid};
+ghost use Rattle.slots.specs.Slots.{crowds, packed};
+ghost use Rattle.crowds.specs.Crowds.{Columns, shorter, leftOut, Holds, AllHold, Filled, ends};
+ghost use Rattle.condense.specs.Lists.{listsOf, Short, Fit, grown, ourLists};
 
 // Whether a set holds one that is listed.
 pub fn holds_listed(set: u32, list: &[u32]) -> bool
@@ -35,21 +36,6 @@ pub fn list_of<'a>(sets: &'a [u32], lens: &[u32], rows: usize, row: usize) -> &'
     &sets[from..to]
 }
 
-// Marks the rows that are open on a set: those of whose list it holds no set.
-fn mark_open(sets: &[u32], lens: &[u32], rows: usize, set: u32, marks: &mut [u32])
-    requires { ⌜ (rows * 70 ≤ length (now sets)) × (length (now lens) ≡ rows) × (length (now marks) ≡ rows) × Short rows (now lens) ⌝ }
-    ensures { λ _. ⌜ now (marks .exit) ≡ opens 32 set (listsOf rows (now (sets .entry)) (now (lens .entry))) ⌝ }
-{
-    for i in 0..rows {
-        let list = list_of(sets, lens, rows, i);
-        if holds_listed(set, list) {
-            marks[i] = 0;
-        } else {
-            marks[i] = 1;
-        }
-    }
-}
-
 // Puts a set behind the list of a row.
 fn note_at(sets: &mut [u32], lens: &mut [u32], rows: usize, row: usize, set: u32)
     requires { ⌜ (rows * 70 ≤ length (now sets)) × (length (now lens) ≡ rows) × (row < rows) × Short rows (now lens) × (getD (now lens) row 0 < 70) ⌝ }
@@ -61,32 +47,20 @@ fn note_at(sets: &mut [u32], lens: &mut [u32], rows: usize, row: usize, set: u32
     lens[row] = lens[row] + 1;
 }
 
-// Puts a set behind the lists of the rows that are open and single: `singles` has a mark for each open row.
-fn note_set(
-    opens: &[u32],
-    singles: &[u32],
-    set: u32,
-    sets: &mut [u32],
-    lens: &mut [u32],
-    rows: usize,
-)
-    requires { ⌜ (rows * 70 ≤ length (now sets)) × (length (now lens) ≡ rows) × (length (now opens) ≡ rows) × Short rows (now lens) ⌝ }
-    requires { ⌜ length (picked (now opens) (now opens)) ≤ length (now singles) ⌝ }
-    requires { ⌜ Fit (noted set (now opens) (now singles) (listsOf rows (now sets) (now lens))) ⌝ }
-    ensures { λ _. ⌜ listsOf rows (now (sets .exit)) (now (lens .exit)) ≡ noted set (now (opens .entry)) (now (singles .entry)) (listsOf rows (now (sets .entry)) (now (lens .entry))) ⌝ }
+// Puts a set behind the lists of the rows in `lone` that are open on it.
+fn note_lone(lone: &[u32], set: u32, sets: &mut [u32], lens: &mut [u32], rows: usize)
+    requires { ⌜ (rows * 70 ≤ length (now sets)) × (length (now lens) ≡ rows) × Short rows (now lens) × Names (now lone) rows ⌝ }
+    requires { ⌜ Fit (grown set (now lone) (listsOf rows (now sets) (now lens))) ⌝ }
+    ensures { λ _. ⌜ listsOf rows (now (sets .exit)) (now (lens .exit)) ≡ grown set (now (lone .entry)) (listsOf rows (now (sets .entry)) (now (lens .entry))) ⌝ }
     ensures { λ _. ⌜ Short rows (now (lens .exit)) ⌝ }
 {
-    let mut j = 0usize;
-    for i in 0..rows {
-        if opens[i] != 1 {
+    for i in 0..lone.len() {
+        let row = lone[i] as usize;
+        let mine = list_of(sets, lens, rows, row);
+        if holds_listed(set, mine) {
             continue;
         }
-        let at = j;
-        j += 1;
-        if singles[at] != 1 {
-            continue;
-        }
-        note_at(sets, lens, rows, i, set);
+        note_at(sets, lens, rows, row, set);
     }
 }
 
@@ -99,105 +73,71 @@ fn clear(lens: &mut [u32])
     }
 }
 
-// Marks the rows that are open on a set, and copies them, in their order, into the arrays that are lent. Returns how many there are.
-fn pick_open(
-    codes: &[u32],
-    sums: &[i64],
-    counts: &[u32],
-    rows: usize,
-    dims: usize,
-    set: u32,
-    sets: &[u32],
-    lens: &[u32],
-    marks: &mut [u32],
-    cells: &mut [u32],
-    amounts: &mut [i64],
-    tallies: &mut [u32],
-) -> usize
-    requires { ⌜ Ready dims rows (now codes) (now sums) (now counts) × (rows * 70 ≤ length (now sets)) × (length (now lens) ≡ rows) × Short rows (now lens) ⌝ }
-    requires { ⌜ (length (now marks) ≡ rows) × (rows * dims ≤ length (now cells)) × (rows ≤ length (now amounts)) × (rows ≤ length (now tallies)) ⌝ }
-    ensures { λ r. ⌜ now (marks .exit) ≡ opens 32 set (listsOf rows (now (sets .entry)) (now (lens .entry))) ⌝ }
-    ensures { λ r. ⌜ rowsOf dims r (now (cells .exit)) (now (amounts .exit)) (now (tallies .exit)) ≡ picked (opens 32 set (listsOf rows (now (sets .entry)) (now (lens .entry)))) (rowsOf dims rows (now (codes .entry)) (now (sums .entry)) (now (counts .entry))) ⌝ }
-    ensures { λ r. ⌜ r ≤ rows ⌝ }
-{
-    mark_open(sets, lens, rows, set, marks);
-    singles::pick_rows(
-        codes,
-        sums,
-        counts,
-        rows,
-        dims,
-        marks,
-        cells,
-        amounts,
-        tallies,
-    )
-}
-
-// One set more in the lists of all rows: behind those of the open rows that are single on it. Returns in how many of its cells two or more open rows fall.
+// One set more: its slot is filled, and it is put behind the lists of the open rows that are left out there. Returns how many cells of it rows share.
 fn list_set(
     codes: &[u32],
-    sums: &[i64],
-    counts: &[u32],
     rows: usize,
     dims: usize,
+    columns: &[u32],
     set: u32,
+    store: &mut [u16],
+    sizes: &mut [usize],
+    order: &mut [u32],
+    spare: &mut [u32],
+    old: &mut [u16],
+    lone: &mut [u32],
     sets: &mut [u32],
     lens: &mut [u32],
 ) -> usize
-    requires { ⌜ Ready dims rows (now codes) (now sums) (now counts) × (rows * 70 ≤ length (now sets)) × (length (now lens) ≡ rows) × Short rows (now lens) ⌝ }
-    requires { ⌜ (set < 2 ^ dims) × Fit (grown dims (cut dims rows (now codes)) set (listsOf rows (now sets) (now lens))) ⌝ }
-    ensures { λ r. ⌜ (listsOf rows (now (sets .exit)) (now (lens .exit)) ≡ grown dims (cut dims rows (now (codes .entry))) set (listsOf rows (now (sets .entry)) (now (lens .entry)))) × Short rows (now (lens .exit)) ⌝ }
-    ensures { λ r. ⌜ r ≡ length (shared (plain dims) (picked (opens 32 set (listsOf rows (now (sets .entry)) (now (lens .entry)))) (cut dims rows (now (codes .entry)))) set) ⌝ }
+    requires { ⌜ (rows ≤ 1024) × Valid dims (cut dims rows (now codes)) × (dims ≤ 8) × Columns dims rows (now codes) (now columns) × (set < 2 ^ dims) × (1 ≤ set → Holds 2 dims rows (now codes) (now store) (now sizes) (shorter set)) ⌝ }
+    requires { ⌜ (262144 ≤ length (now store)) × (256 ≤ length (now sizes)) × (length (now order) ≡ 1024) × (length (now spare) ≡ 1024) × (length (now old) ≡ 1024) × (length (now lone) ≡ 1024) ⌝ }
+    requires { ⌜ (rows * 70 ≤ length (now sets)) × (length (now lens) ≡ rows) × Short rows (now lens) × Fit (grown set (leftOut 2 (cut dims rows (now codes)) rows set) (listsOf rows (now sets) (now lens))) ⌝ }
+    ensures { λ r. ⌜ Filled 2 dims rows (now (codes .entry)) (now (store .entry)) (now (sizes .entry)) (now (store .exit)) (now (sizes .exit)) set ⌝ }
+    ensures { λ r. ⌜ (listsOf rows (now (sets .exit)) (now (lens .exit)) ≡ grown set (leftOut 2 (cut dims rows (now (codes .entry))) rows set) (listsOf rows (now (sets .entry)) (now (lens .entry)))) × Short rows (now (lens .exit)) ⌝ }
+    ensures { λ r. ⌜ r ≡ ends (packed (crowds 2 (key set (cut dims rows (now (codes .entry)))) rows)) ⌝ }
 {
-    let mut opens = [0u32; 1024];
-    let mut cells = [0u32; 8192];
-    let mut amounts = [0i64; 1024];
-    let mut tallies = [0u32; 1024];
-    let mut index = [0u32; 1024];
-    let mut marks = [0u32; 1024];
-    let n = pick_open(
+    let n = crowds::fill_set(
         codes,
-        sums,
-        counts,
         rows,
         dims,
+        columns,
+        2,
         set,
-        sets,
-        lens,
-        &mut opens[..rows],
-        &mut cells,
-        &mut amounts,
-        &mut tallies,
+        store,
+        sizes,
+        order,
+        spare,
+        old,
+        lone,
     );
-    let size = n * dims;
-    let crowds = singles::mark_singles(
-        &cells[..size],
-        n,
-        dims,
-        set,
-        &mut index[..n],
-        &mut marks[..n],
-    );
-    note_set(&opens[..rows], &marks[..n], set, sets, lens, rows);
-    crowds
+    note_lone(&lone[..n], set, sets, lens, rows);
+    let slot = crowds::slot_of(store, sizes, set as usize);
+    crowds::count_groups(slot)
 }
 
-// Our lists of all rows. Returns how many normal entries there are.
-pub fn list_rows(
+// Condenses base rows: the groups that they form under all sets but the full one, into slots, and our list of each row. Returns how many normal entries there are.
+pub fn condense_rows(
     codes: &[u32],
-    sums: &[i64],
-    counts: &[u32],
     rows: usize,
     dims: usize,
+    store: &mut [u16],
+    sizes: &mut [usize],
     sets: &mut [u32],
     lens: &mut [u32],
 ) -> usize
-    requires { ⌜ Ready dims rows (now codes) (now sums) (now counts) × (rows * 70 ≤ length (now sets)) × (length (now lens) ≡ rows) ⌝ }
+    requires { ⌜ (rows ≤ 1024) × (dims ≤ 8) × (rows * dims ≡ length (now codes)) × Base (plain dims) (cut dims rows (now codes)) ⌝ }
+    requires { ⌜ (262144 ≤ length (now store)) × (256 ≤ length (now sizes)) × (rows * 70 ≤ length (now sets)) × (length (now lens) ≡ rows) ⌝ }
+    ensures { λ r. ⌜ AllHold 2 dims rows (now (codes .entry)) (now (store .exit)) (now (sizes .exit)) (full dims) ⌝ }
     ensures { λ r. ⌜ (listsOf rows (now (sets .exit)) (now (lens .exit)) ≡ ourLists dims (cut dims rows (now (codes .entry)))) × Short rows (now (lens .exit)) ⌝ }
     ensures { λ r. ⌜ r ≡ length (normals (plain dims) (cut dims rows (now (codes .entry)))) ⌝ }
 {
+    let mut columns = [0u32; 8192];
+    let mut order = [0u32; 1024];
+    let mut spare = [0u32; 1024];
+    let mut old = [0u16; 1024];
+    let mut lone = [0u32; 1024];
     clear(lens);
+    crowds::read_columns(codes, rows, dims, &mut columns);
     let all = lattice::sets_of(dims as u32) - 1;
     let mut cells = 0;
     for k in 0..256 {
@@ -205,61 +145,21 @@ pub fn list_rows(
         if all <= set {
             continue;
         }
-        cells += list_set(codes, sums, counts, rows, dims, set, sets, lens);
+        cells += list_set(
+            codes,
+            rows,
+            dims,
+            &columns,
+            set,
+            store,
+            sizes,
+            &mut order,
+            &mut spare,
+            &mut old,
+            &mut lone,
+            sets,
+            lens,
+        );
     }
-    singles::blanks(rows) + cells
-}
-
-// The cells of a set that rows share, each with its total, into the arrays that are lent; the lists are ours. Returns how many there are.
-pub fn shared_cells(
-    codes: &[u32],
-    sums: &[i64],
-    counts: &[u32],
-    rows: usize,
-    dims: usize,
-    set: u32,
-    sets: &[u32],
-    lens: &[u32],
-    cells: &mut [u32],
-    amounts: &mut [i64],
-    tallies: &mut [u32],
-) -> usize
-    requires { ⌜ Ready dims rows (now codes) (now sums) (now counts) × (rows * 70 ≤ length (now sets)) × (length (now lens) ≡ rows) × Short rows (now lens) ⌝ }
-    requires { ⌜ (set < full dims) × (listsOf rows (now sets) (now lens) ≡ ourLists dims (cut dims rows (now codes))) ⌝ }
-    requires { ⌜ (rows * dims ≤ length (now cells)) × (rows ≤ length (now amounts)) × (rows ≤ length (now tallies)) ⌝ }
-    ensures { λ r. ⌜ rowsOf dims r (now (cells .exit)) (now (amounts .exit)) (now (tallies .exit)) ≡ sharedRows dims (rowsOf dims rows (now (codes .entry)) (now (sums .entry)) (now (counts .entry))) set ⌝ }
-    ensures { λ r. ⌜ r ≤ rows ⌝ }
-{
-    let mut opens = [0u32; 1024];
-    let mut own = [0u32; 8192];
-    let mut sub = [0i64; 1024];
-    let mut some = [0u32; 1024];
-    let mut index = [0u32; 1024];
-    let n = pick_open(
-        codes,
-        sums,
-        counts,
-        rows,
-        dims,
-        set,
-        sets,
-        lens,
-        &mut opens[..rows],
-        &mut own,
-        &mut sub,
-        &mut some,
-    );
-    let size = n * dims;
-    engine::group_rows(
-        &own[..size],
-        &sub[..n],
-        &some[..n],
-        n,
-        dims,
-        set,
-        &mut index[..n],
-        cells,
-        amounts,
-        tallies,
-    )
+    ready::blanks(rows) + cells
 }

@@ -4,10 +4,9 @@ use mathlib.Core.Logic.{_↔_}
 use mathlib.Core.Bool.{true}
 use mathlib.Core.List.{List, Memᴰ·cast, Memᴰ·map, Memᴰ·of-map}
 use Prim.Native.Nat.{ℕ}
-use lib.ListN.{length, length-replicate}
+use lib.ListN.{length}
 use Rattle.lists.specs.Lists.{_∈_}
 use Rattle.lists.specs.Order.{Rising, earlier}
-use Rattle.lists.proofs.Tests.{cases}
 use Rattle.lists.proofs.Members.{flat-in, flat-of}
 use Rattle.lists.proofs.Pairwise.{pairwise-map}
 use Rattle.lattice.specs.Sets.{sets}
@@ -19,7 +18,7 @@ use Rattle.cube.specs.Cube.{Exists, cuboid, existing, total, filled, cel
 use Rattle.cube.specs.Table.{Table, listed-before}
 use Rattle.cube.proofs.Codes.{plain-laws, coded-length, length-cell}
 use Rattle.cube.proofs.Cells.{cuboid-in}
-use Rattle.cube.proofs.Existing.{blank-whole, existing-in, existing-of, existing-rising, exists-node}
+use Rattle.cube.proofs.Existing.{existing-in, existing-of, existing-rising, exists-node}
 use Rattle.cube.proofs.Folding.{coded}
 use Rattle.cube.proofs.CellOrder.{keys-rising}
 
@@ -28,11 +27,6 @@ pub cuboid-wide : {A : Type 0} (d : ℕ) (rows : List (Row A)) → Table d rows 
 cuboid-wide d rows t s m =
     let p = cuboid-in (plain d) (codesOf rows) s m in
     ap length (p .2) ∙ length-cell s (p .0) ∙ coded-length d (p .0) (coded d rows t (p .0) (p .1))
-
-pub exists-wide : {A : Type 0} (d : ℕ) (rows : List (Row A)) → Table d rows → {c : List ℕ} → Exists (plain d) (codesOf rows) c → length c ≡ d
-exists-wide d rows t {c} x = cases x
-    (λ r. let k = coded d rows t (r .0) (r .1) in ap length (plain-laws d .cell-of c (r .0) k (r .2) .1) ∙ length-cell (set-of c) (r .0) ∙ coded-length d (r .0) k)
-    (λ b. ap length (blank-whole (plain d) (codesOf rows) b) ∙ length-replicate d ALL)
 
 module _ (L : Lattice) {A : Type 0} (M : Measure A) (rows : List (Row A)) where
   pub cells-in : {r : Row A} (s : ℕ) → r ∈ cells L M rows s → (r .codes ∈ existing L (codesOf rows) s) × (r .total ≡ total L M rows (r .codes))

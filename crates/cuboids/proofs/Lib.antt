@@ -1,2 +1,3 @@
 -- Lengths of cuboids, and the expansion set by set.
 pub mod Lengths
+pub mod Slots

@@ -1,2 +1,3 @@
 -- Cuboids as bytes.
 pub mod Cuboids
+pub mod Slotted

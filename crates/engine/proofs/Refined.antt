@@ -12,7 +12,8 @@ use Rattle.lists.proofs.Order.{by-codes, strict-turned, same-eq, same-refl}
 use Rattle.engine.specs.Index.{arranged}
 use Rattle.engine.specs.Runs.{Run, members, runs, again}
 use Rattle.engine.proofs.Numbers.{numbers, numbers-in}
-use Rattle.engine.proofs.Arranged.{Ordered, alike, arranged-ordered, arranged-in, arranged-keep}
+use Rattle.engine.specs.Few.{Ordered}
+use Rattle.engine.proofs.Arranged.{alike, arranged-ordered, arranged-in, arranged-keep}
 use Rattle.engine.proofs.Runs.{cellOf, runs-rising, runs-whole, runs-members, runs-flat, runs-same}
 use Rattle.engine.proofs.Sorted.{sorted-unique, arranged-sorted, stable-ordered, stable-keep, stable-in}
 
@@ -21,7 +22,7 @@ pub record Refined (n : ℕ) (short more long : ℕ → List ℕ) : Type 0 where
   pub parted : (i j : ℕ) → i < n → j < n → earlier (short i) (short j) ≡ true → earlier (long i) (long j) ≡ true
   pub equal : (i j : ℕ) → i < n → j < n → short i ≡ short j → earlier (long i) (long j) ≡ earlier (more i) (more j)
 
-keep-flat : {A : Type 0} (p : ℕ → Bool) (f : A → List ℕ) (l : List A) → keep p (flatMap f l) ≡ flatMap (λ a. keep p (f a)) l
+pub keep-flat : {A : Type 0} (p : ℕ → Bool) (f : A → List ℕ) (l : List A) → keep p (flatMap f l) ≡ flatMap (λ a. keep p (f a)) l
 unfolding flatMap
 keep-flat p f [] = refl
 keep-flat p f (x ∷ l) = keep-append p (f x) (flatMap f l) ∙ ap (λ (m : List ℕ). keep p (f x) ++ m) (keep-flat p f l)

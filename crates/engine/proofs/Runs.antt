@@ -17,7 +17,8 @@ use Rattle.lists.proofs.Places.{pairwise-at}
 use Rattle.lists.proofs.Order.{by-codes, same-eq, same-refl, not-same}
 use Rattle.lists.proofs.Sorted.{sort-rising}
 use Rattle.engine.specs.Runs.{Run, members, runs, attach, Ends}
-use Rattle.engine.proofs.Arranged.{Ordered, alike, before-all}
+use Rattle.engine.specs.Few.{Ordered}
+use Rattle.engine.proofs.Arranged.{alike, before-all}
 
 module _ (key : ℕ → List ℕ) where
   -- ---- the first run starts with the first row
@@ -28,20 +29,20 @@ module _ (key : ℕ → List ℕ) where
       (λ e. ([], r ∷ rs, rw e))
       (λ e. (r .first ∷ r .more, rs, rw e))
 
-  runs-first : (y : ℕ) (l : List ℕ) → (m : List ℕ) × (qs : List Run) × (runs key (y ∷ l) ≡ record { first = y; more = m } ∷ qs)
+  pub runs-first : (y : ℕ) (l : List ℕ) → (m : List ℕ) × (qs : List Run) × (runs key (y ∷ l) ≡ record { first = y; more = m } ∷ qs)
   unfolding runs
   runs-first y l = attach-first y (runs key l)
 
-  runs-one : (x : ℕ) → runs key (x ∷ []) ≡ record { first = x; more = [] } ∷ runs key []
+  pub runs-one : (x : ℕ) → runs key (x ∷ []) ≡ record { first = x; more = [] } ∷ runs key []
   unfolding runs
   runs-one x = refl
 
   -- the next row starts a run of its own, or is of the same run
-  runs-part : (x y : ℕ) (l : List ℕ) → earlier (key x) (key y) ≡ true → runs key (x ∷ y ∷ l) ≡ record { first = x; more = [] } ∷ runs key (y ∷ l)
+  pub runs-part : (x y : ℕ) (l : List ℕ) → earlier (key x) (key y) ≡ true → runs key (x ∷ y ∷ l) ≡ record { first = x; more = [] } ∷ runs key (y ∷ l)
   unfolding runs
   runs-part x y l e = rw (attach-first y (runs key l) .2, e)
 
-  runs-join : (x y : ℕ) (l m : List ℕ) (qs : List Run) → earlier (key x) (key y) ≡ false → runs key (y ∷ l) ≡ record { first = y; more = m } ∷ qs
+  pub runs-join : (x y : ℕ) (l m : List ℕ) (qs : List Run) → earlier (key x) (key y) ≡ false → runs key (y ∷ l) ≡ record { first = y; more = m } ∷ qs
       → runs key (x ∷ y ∷ l) ≡ record { first = x; more = y ∷ m } ∷ qs
   unfolding runs
   runs-join x y l m qs e q = rw (q, e)

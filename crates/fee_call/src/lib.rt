@@ -8,7 +8,7 @@ ghost use lib.ListN.{length, take};
 ghost use Rattle.lists.specs.Lists.{sum};
 ghost use Rattle.cube.specs.Bounds.{countOf};
 ghost use Rattle.rows.specs.Rows.{rowsOf};
-ghost use Rattle.singles.specs.Ready.{Ready};
+ghost use Rattle.ready.specs.Ready.{Ready};
 ghost use Rattle.calls.specs.Answers.{bytes, Answered};
 ghost use Rattle.archive.specs.Accepts.{Accepts};
 ghost use Rattle.fee_list.specs.Listed.{feeBytes};

@@ -1,3 +1,4 @@
 -- Laws that serve several functions.
 pub mod Machine
 pub mod Summed
+pub mod Stands

@@ -6,7 +6,7 @@ use native.Mathlib.Nat.{add-zero, add-assoc, mul-zero}
 use native.Mathlib.Numerals.{add-one}
 use native.Mathlib.Omega.{arith}
 use lib.ListN.{length, take, drop, getD, set, length-take, length-drop}
-use lib.Seq.{drop-drop, drop-at, getD-drop, take-at, take-suc, take-suc-set, append-snoc, take-all}
+use lib.Seq.{drop-cons, drop-drop, drop-at, getD-drop, take-at, take-suc, take-suc-set, append-snoc, take-all}
 use Rattle.fields.specs.Words.{word, wordAt, wordsAt, wordBytes, words, wordsBytes}
 
 -- ---- words of bytes
@@ -74,6 +74,11 @@ wordsBytes-append (u ∷ us) vs = simp (wordsBytes-append us vs, append-assoc)
 pub wordsBytes-snoc : (ws : List ℕ) (i : ℕ) → i < length ws → wordsBytes (take (i + 1) ws) ≡ wordsBytes (take i ws) ++ wordBytes (getD ws i 0)
 unfolding wordsBytes
 wordsBytes-snoc ws i h = simp (add-one, take-suc ws i 0 h, wordsBytes-append)
+
+-- the words from word i on: it, and those behind it
+pub wordsBytes-on : (ws : List ℕ) (i : ℕ) → i < length ws → wordsBytes (drop i ws) ≡ wordBytes (getD ws i 0) ++ wordsBytes (drop (i + 1) ws)
+unfolding wordsBytes
+wordsBytes-on ws i h = rw (add-one, drop-cons ws i 0 h)
 
 -- there is room for word i where there is room for all
 pub wordsBytes-room : (ws : List ℕ) (i : ℕ) → i < length ws → length (wordsBytes (take i ws)) + 4 ≤ length (wordsBytes ws)

@@ -2,7 +2,7 @@
 // A writer writes over the front of what it is lent and returns how much it wrote.
 ghost use mathlib.Core.Path.{_≡_};
 ghost use Prim.Native.Nat.{_+_, _*_, _%_, _^_, _≤_, _<_};
-ghost use lib.ListN.{length, take};
+ghost use lib.ListN.{length, take, drop};
 ghost use Rattle.fields.specs.Words.{wordAt, wordsAt, wordBytes, wordsBytes};
 ghost use Rattle.fields.specs.Twos.{signedOf, bitsOf, sumAt, sumBytes, readingAt};
 ghost use Rattle.fields.specs.Opening.{startsWith};
@@ -22,6 +22,18 @@ pub fn word_at(s: &[u8], at: usize) -> u32
     ensures { λ r. ⌜ r ≡ wordAt (now (s .entry)) at ⌝ }
 {
     wide(s[at]) + 256 * wide(s[at + 1]) + 65536 * wide(s[at + 2]) + 16777216 * wide(s[at + 3])
+}
+
+// Whether a word stands at a byte offset.
+pub fn word_is(s: &[u8], at: usize, w: u32) -> bool
+    requires { ⌜ at + 4 ≤ length (now s) ⌝ }
+    ensures { λ r. ⌜ r ≡ startsWith (drop at (now (s .entry))) (wordBytes w) ⌝ }
+{
+    let a = wide(s[at]);
+    let b = wide(s[at + 1]);
+    let c = wide(s[at + 2]);
+    let d = wide(s[at + 3]);
+    a + 256 * b + 65536 * c + 16777216 * d == w
 }
 
 // The words from a byte offset on, as many as out has room for.
@@ -102,6 +114,18 @@ pub fn put_sum(out: &mut [u8], sum: i64) -> usize
     let n = unsigned(sum);
     let at = put_word(out, (n % 0x1_0000_0000) as u32);
     at + put_word(&mut out[at..], (n / 0x1_0000_0000) as u32)
+}
+
+// Whether a sum stands at a byte offset.
+pub fn sum_is(s: &[u8], at: usize, sum: i64) -> bool
+    requires { ⌜ at + 8 ≤ length (now s) ⌝ }
+    ensures { λ r. ⌜ r ≡ startsWith (drop at (now (s .entry))) (sumBytes sum) ⌝ }
+{
+    let n = unsigned(sum);
+    if word_is(s, at, (n % 0x1_0000_0000) as u32) {
+        return word_is(s, at + 4, (n / 0x1_0000_0000) as u32);
+    }
+    false
 }
 
 // The reading at a byte offset.

@@ -22,7 +22,7 @@ use Rattle.entries.specs.Reading.{readArchive, archiveAnswer, rowsIn}
 use Rattle.entries.specs.declared.ArchiveRead.the-variants as Read
 use Rattle.entries.proofs.Fields.{parts}
 use Rattle.entries.proofs.Accepted.{read-forth, archive-forth}
-use Rattle.singles.specs.Ready.{Ready}
+use Rattle.ready.specs.Ready.{Ready}
 use Rattle.merge.specs.United.{united}
 use Rattle.calls.specs.Answers.{stop}
 use Rattle.calls.specs.Calls.{outcome}

@@ -13,8 +13,8 @@ use Rattle.cube.specs.Measure.{Row, sums as totals}
 use Rattle.cube.specs.Bounds.{countOf}
 use Rattle.rows.specs.Rows.{rowsOf}
 use Rattle.rows.proofs.Flat.{rows-length}
-use Rattle.singles.specs.Ready.{Ready}
-use Rattle.singles.proofs.Ready.{rows-front}
+use Rattle.ready.specs.Ready.{Ready}
+use Rattle.ready.proofs.Ready.{rows-front}
 use Rattle.merge.specs.United.{united, merged}
 use Rattle.merge.specs.Pass.{Pair, Collected}
 use Rattle.entries.specs.Layout.{Limits, archiveBytes}

@@ -8,7 +8,7 @@ use lib.IntN.{ℤ}
 use lib.ListN.{length}
 use Rattle.rows.specs.Rows.{rowsOf}
 use Rattle.entries.specs.Layout.{Limits}
-use Rattle.singles.specs.Ready.{Ready}
+use Rattle.ready.specs.Ready.{Ready}
 use Rattle.archive.specs.Accepts.{Accepts}
 
 pub record Store (zs codes : List ℕ) (sums : List ℤ) (counts : List ℕ) : Type 0 where

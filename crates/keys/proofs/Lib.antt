@@ -2,5 +2,6 @@
 pub mod Follows
 pub mod Neighbours
 pub mod Listing
+pub mod Bare
 pub mod Outcomes
 pub mod Promises

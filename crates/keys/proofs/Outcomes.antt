@@ -1,22 +1,26 @@
 -- What the calls answer for an archive that is refused, and for one that is accepted.
-use mathlib.Core.Path.{_≡_, sym, ap, _∙_}
+use mathlib.Core.Path.{_≡_, sym, ap, subst, _∙_}
 use mathlib.Core.Bool.{Bool, and-false}
 use mathlib.Core.List.{List}
-use Prim.Native.Nat.{ℕ, _^_, _≤_, _<_}
+use Prim.Native.Nat.{ℕ, _*_, _^_, _≤_, _<_}
 use native.Mathlib.Omega.{arith}
 use lib.IntN.{ℤ}
 use lib.Dec.{leb}
+use lib.ListN.{take}
 use borrow.Author.Tests.{lt-ltb, le-ltb, le-leb, lt-leb}
 use Rattle.cube.specs.Measure.{codesOf}
 use Rattle.cube.specs.Codes.{plain}
 use Rattle.cube.specs.Keys.{leastKeys, fixes, dimension}
 use Rattle.rows.specs.Rows.{cut}
 use Rattle.rows.proofs.Rows.{rows-codes}
+use Rattle.walk.specs.Parsed.{Parsed}
+use Rattle.entries.specs.Layout.{Held}
 use Rattle.entries.specs.Reading.{readArchive, archiveAnswer, rowsIn}
 use Rattle.entries.specs.declared.ArchiveRead.the-variants as Read
-use Rattle.singles.proofs.Ready.{ready-base}
+use Rattle.ready.proofs.Ready.{ready-base}
 use Rattle.writing.specs.ListBytes.{listBytes}
 use Rattle.calls.specs.Answers.{stop as stopped, bytes}
+use Rattle.required.specs.Sharing.{Sharing, Shares}
 use Rattle.archive.proofs.Opened.{Opened}
 use Rattle.archive.proofs.Outcomes.{refused}
 use Rattle.keys.specs.Laid.{Laid}
@@ -46,6 +50,12 @@ module _ {s : List ℕ} {d n m : ℕ} {codes : List ℕ} {sums : List ℤ} {coun
   pub keys-bytes : listsKeys s ≡ bytes (listBytes (leastKeys (plain d) (cut d n codes)))
   unfolding listsKeys
   keys-bytes = rw (o .read, o .dims) (ap (λ (l : List (List ℕ)). bytes (listBytes (leastKeys (plain d) l))) (sym codes-in))
+
+  -- how many of its rows share a cell
+  pub shared-in : (array used : List ℕ) → codes ≡ take (n * d) array → Shares (readArchive s) array used → Sharing d n codes used
+  shared-in array used e h =
+      let f = subst (λ (p : Parsed Held). Shares p array used) (o .read) h in
+      rw (e, ← o .dims, ← o .bases) f
 
   module _ {set : ℕ} where
     pub fixes-no-set : (i : ℕ) → 2 ^ d ≤ set → Fix.Stop 14 ≡ tellsFixed s set i

@@ -3,15 +3,19 @@
 use calls::Written;
 use entries::ArchiveRead;
 ghost use mathlib.Core.Path.{_≡_};
-ghost use Prim.Native.Nat.{_*_, _≤_, _<_};
+ghost use Prim.Native.Nat.{_*_, _^_, _≤_, _<_};
 ghost use lib.ListN.{length, take};
 ghost use Rattle.cube.specs.Codes.{agree, plain};
-ghost use Rattle.cube.specs.Keys.{key, leastKeys, fixes as fixing};
+ghost use Rattle.cube.specs.Keys.{fixes as fixing};
+ghost use Rattle.engine.specs.Index.{Valid};
+ghost use Rattle.entries.specs.Reading.{readArchive};
+ghost use Rattle.required.specs.Sharing.{Shares};
 ghost use Rattle.rows.specs.Rows.{cut, rowAt};
 ghost use Rattle.writing.specs.ListBytes.{listBytes};
 ghost use Rattle.calls.specs.Answers.{bytes, Answered};
 ghost use Rattle.archive.specs.Accepts.{Accepts};
 ghost use Rattle.keys.specs.Laid.{Laid, follows};
+ghost use Rattle.keys.specs.Bare.{bare, leastBare};
 ghost use Rattle.keys.specs.Calls.{listsKeys, tellsFixed};
 
 // What the question whether a set fixes a dimension answers: yes, no, or a stop's number.
@@ -64,7 +68,7 @@ fn neighbours_fix(
     fixed: u32,
     index: &mut [u32],
 ) -> bool
-    requires { ⌜ (rows * dims ≡ length (now codes)) × (length (now index) ≡ rows) × (rows ≤ 1024) ⌝ }
+    requires { ⌜ (rows * dims ≡ length (now codes)) × (length (now index) ≡ rows) × (rows ≤ 1024) × Valid dims (cut dims rows (now codes)) ⌝ }
     ensures { λ r. ⌜ r ≡ fixing (plain dims) (cut dims rows (now (codes .entry))) set fixed ⌝ }
 {
     engine::order_rows(codes, rows, dims, set, index);
@@ -87,18 +91,21 @@ fn rows_fix(codes: &[u32], rows: usize, dims: usize, set: u32, fixed: u32) -> bo
     neighbours_fix(codes, rows, dims, set, fixed, &mut index[..rows])
 }
 
-// Whether a set is a key: it fixes the full set.
-fn is_key(codes: &[u32], rows: usize, dims: usize, set: u32) -> bool
-    requires { ⌜ Laid dims rows (now codes) ⌝ }
-    ensures { λ r. ⌜ r ≡ key (plain dims) (cut dims rows (now (codes .entry))) set ⌝ }
+// Whether no cell of a set is shared.
+fn is_bare(dims: usize, used: &[usize], set: u32) -> bool
+    requires { ⌜ (dims ≤ 8) × (256 ≤ length (now used)) × (set < 2 ^ dims) ⌝ }
+    ensures { λ r. ⌜ r ≡ bare dims (now (used .entry)) set ⌝ }
 {
-    rows_fix(codes, rows, dims, set, lattice::sets_of(dims as u32) - 1)
+    if set == lattice::sets_of(dims as u32) - 1 {
+        return true;
+    }
+    used[set as usize] == 0
 }
 
-// The smallest keys, over the front of a lent list. Returns how many there are.
-fn list_keys(codes: &[u32], rows: usize, dims: usize, list: &mut [u32]) -> usize
-    requires { ⌜ Laid dims rows (now codes) × (70 ≤ length (now list)) ⌝ }
-    ensures { λ r. ⌜ (take r (now (list .exit)) ≡ leastKeys (plain dims) (cut dims rows (now (codes .entry)))) × (r ≤ 70) ⌝ }
+// The smallest sets of which no cell is shared, over the front of a lent list. Returns how many there are.
+fn list_bare(dims: usize, used: &[usize], list: &mut [u32]) -> usize
+    requires { ⌜ (dims ≤ 8) × (256 ≤ length (now used)) × (length (leastBare dims (now used)) ≤ 70) × (70 ≤ length (now list)) ⌝ }
+    ensures { λ r. ⌜ (take r (now (list .exit)) ≡ leastBare dims (now (used .entry))) × (r ≤ 70) ⌝ }
 {
     let all = lattice::sets_of(dims as u32);
     let mut n = 0;
@@ -110,7 +117,7 @@ fn list_keys(codes: &[u32], rows: usize, dims: usize, list: &mut [u32]) -> usize
         if condense::holds_listed(set, &list[..n]) {
             continue;
         }
-        if !is_key(codes, rows, dims, set) {
+        if !is_bare(dims, used, set) {
             continue;
         }
         list[n] = set;
@@ -130,17 +137,17 @@ fn fit_list(out: &mut [u8], list: &[u32]) -> Written
     Written::Length(writing::put_list(out, list))
 }
 
-// Lists the smallest keys of base rows.
-fn keys_rows(out: &mut [u8], codes: &[u32], rows: usize, dims: usize) -> Written
-    requires { ⌜ Laid dims rows (now codes) ⌝ }
-    ensures { λ r. ⌜ Answered (bytes (listBytes (leastKeys (plain dims) (cut dims rows (now (codes .entry)))))) (now (out .entry)) (now (out .exit)) r ⌝ }
+// Lists the smallest sets of which no cell is shared.
+fn fit_bare(out: &mut [u8], dims: usize, used: &[usize]) -> Written
+    requires { ⌜ (dims ≤ 8) × (256 ≤ length (now used)) × (length (leastBare dims (now used)) ≤ 70) ⌝ }
+    ensures { λ r. ⌜ Answered (bytes (listBytes (leastBare dims (now (used .entry))))) (now (out .entry)) (now (out .exit)) r ⌝ }
 {
     let mut list = [0u32; 70];
-    let n = list_keys(codes, rows, dims, &mut list);
+    let n = list_bare(dims, used, &mut list);
     fit_list(out, &list[..n])
 }
 
-// Lists the smallest keys of an archive that was accepted.
+// Lists the smallest keys of an archive that was accepted: the smallest sets of which its base rows share no cell.
 fn keys_read(
     s: &[u8],
     codes: &[u32],
@@ -149,15 +156,13 @@ fn keys_read(
     dims: u32,
     bases: u32,
     cells: u32,
+    used: &[usize],
     out: &mut [u8],
 ) -> Written
-    requires { ⌜ Accepts (now s) (now codes) (now sums) (now counts) dims bases cells ⌝ }
+    requires { ⌜ Accepts (now s) (now codes) (now sums) (now counts) dims bases cells × Shares (readArchive (now s)) (now codes) (now used) ⌝ }
     ensures { λ r. ⌜ Answered (listsKeys (now (s .entry))) (now (out .entry)) (now (out .exit)) r ⌝ }
 {
-    let d = dims as usize;
-    let n = bases as usize;
-    let size = n * d;
-    keys_rows(out, &codes[..size], n, d)
+    fit_bare(out, dims as usize, used)
 }
 
 // Reads an archive into the arrays that are lent, and lists its smallest keys.
@@ -166,14 +171,15 @@ fn keys_in(
     codes: &mut [u32; 8192],
     sums: &mut [i64; 1024],
     counts: &mut [u32; 1024],
+    used: &mut [usize; 256],
     out: &mut [u8],
 ) -> Written
     ensures { λ r. ⌜ Answered (listsKeys (now (s .entry))) (now (out .entry)) (now (out .exit)) r ⌝ }
 {
-    match required::read_required(s, codes, sums, counts) {
+    match required::read_sharing(s, codes, sums, counts, used) {
         ArchiveRead::Stop(n) => Written::Stop(n),
         ArchiveRead::Entries { dims, bases, cells } => {
-            keys_read(s, codes, sums, counts, dims, bases, cells, out)
+            keys_read(s, codes, sums, counts, dims, bases, cells, used, out)
         }
     }
 }
@@ -185,7 +191,8 @@ pub fn smallest_keys(archive: &[u8], out: &mut [u8]) -> Written
     let mut codes = [0u32; 8192];
     let mut sums = [0i64; 1024];
     let mut counts = [0u32; 1024];
-    keys_in(archive, &mut codes, &mut sums, &mut counts, out)
+    let mut used = [0usize; 256];
+    keys_in(archive, &mut codes, &mut sums, &mut counts, &mut used, out)
 }
 
 // Tells whether a set fixes a dimension in an archive that was accepted.

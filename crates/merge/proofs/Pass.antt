@@ -14,7 +14,7 @@ use Rattle.cube.specs.Codes.{cell}
 use Rattle.rows.specs.Rows.{cut, rowAt, rowsOf}
 use Rattle.rows.proofs.Rows.{rows-codes}
 use Rattle.rows.proofs.Flat.{blank, rows-length, rows-at}
-use Rattle.singles.proofs.Ready.{ready-row}
+use Rattle.ready.proofs.Ready.{ready-row}
 use Rattle.entries.proofs.Limits.{count-le}
 use Rattle.merge.specs.declared.Turn.{Turn}
 use Rattle.merge.specs.declared.Turn.the-variants.{First, Second, Both}

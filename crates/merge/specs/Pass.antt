@@ -12,7 +12,7 @@ use Rattle.cube.specs.declared.Total.{Total}
 use Rattle.cube.specs.Measure.{Row, sums}
 use Rattle.cube.specs.Bounds.{most, countOf}
 use Rattle.rows.specs.Rows.{rowsOf}
-use Rattle.singles.specs.Ready.{Ready}
+use Rattle.ready.specs.Ready.{Ready}
 use Rattle.merge.specs.United.{Merging}
 
 module _ (d : ℕ) (codes : List ℕ) (amounts : List ℤ) (counts codes′ : List ℕ) (amounts′ : List ℤ) (counts′ : List ℕ) where

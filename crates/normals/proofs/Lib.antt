@@ -1,2 +1,3 @@
 -- The normal entries set by set.
 pub mod Sections
+pub mod Slotted

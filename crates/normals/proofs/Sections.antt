@@ -1,35 +1,25 @@
 -- The normal entries are those of the sets one after the other, and how long they are.
 use mathlib.Core.Path.{_≡_, refl, sym, ap, _∙_}
-use mathlib.Core.Bool.{Bool}
-use mathlib.Core.List.{List, [], _∷_, _++_, map, flatMap, map-append, append-nil, Memᴰ·of-map}
+use mathlib.Core.List.{List, [], _∷_, _++_, map, flatMap, map-append, append-nil}
 use Prim.Native.Nat.{ℕ, zero, suc, _+_, _*_, _≤_}
-use native.Mathlib.Nat.{mul-le-mul}
 use native.Mathlib.Omega.{arith}
-use lib.IntN.{ℤ, pos}
-use lib.Dec.{leb}
-use lib.ListN.{length, take, length-map, replicate, length-replicate}
-use lib.Seq.{length-take-le, take-all}
-use Rattle.lists.specs.Lists.{_∈_, keep}
-use Rattle.lists.proofs.Members.{keep-in, flat-append}
+use lib.IntN.{pos}
+use lib.ListN.{length, take, replicate, length-replicate}
+use lib.Seq.{take-all}
+use Rattle.lists.proofs.Members.{flat-append}
 use Rattle.lattice.specs.Sets.{full}
 use Rattle.lattice.proofs.Turns.{from-full}
 use Rattle.cube.specs.declared.Total.{Total}
 use Rattle.cube.specs.Measure.{nothing, Row, sums as measure, codesOf}
 use Rattle.cube.specs.Codes.{ALL, plain}
-use Rattle.cube.specs.Cube.{within, blank, cuboid, filled}
+use Rattle.cube.specs.Cube.{blank, filled}
 use Rattle.cube.specs.Condensed.{proper, shared, common, normals}
-use Rattle.cube.specs.Table.{Table}
-use Rattle.cube.proofs.Complete.{cuboid-wide}
-use Rattle.cube.proofs.Normals.{shared-few}
 use Rattle.rows.specs.Rows.{rowsOf}
-use Rattle.walk.proofs.Lengths.{length-flat}
 use Rattle.entries.specs.Layout.{cellBytes}
 use Rattle.entries.proofs.Lengths.{cell-length}
-use Rattle.singles.specs.Blank.{blanks, blankRows}
-use Rattle.singles.proofs.Ready.{rows-front}
-use Rattle.singles.proofs.Blank.{blank-rows}
+use Rattle.ready.specs.Blank.{blanks, blankRows}
+use Rattle.ready.proofs.Blank.{blank-rows}
 use Rattle.condense.specs.Shared.{sharedRows, normalRows}
-use Rattle.writing.proofs.Cells.{cells-length}
 use Rattle.writing.proofs.Turns.{turns}
 use Rattle.normals.specs.Normals.{sharedBytes, commonBytes, blankBytes, normalBytes}
 
@@ -89,35 +79,13 @@ unfolding blankBytes flatMap
 blank-long d zero = simp append-nil (omega (arith, cell-length d (record { codes = replicate d ALL; total = nothing }) (length-replicate d ALL)))
 blank-long d (suc n) = omega arith
 
--- ---- lengths
+-- where there are rows it has none
+pub blank-none : (d n : ℕ) → (n ≡ 0 → ⊥) → blankBytes d n ≡ []
+unfolding blankBytes flatMap
+blank-none d zero h = absurd (h refl)
+blank-none d (suc n) h = refl
 
-pub shared-length : (d n s : ℕ) (rows : List (Row Total)) (cells : List ℕ) (amounts : List ℤ) (tallies : List ℕ)
-    → rowsOf d n cells amounts tallies ≡ sharedRows d rows s → n * d ≤ length cells → length (sharedBytes d rows s) ≡ n * (4 * d + 12)
-unfolding sharedBytes
-shared-length d n s rows cells amounts tallies e h =
-    ap (λ (l : List (Row Total)). length (flatMap cellBytes l)) (sym (rows-front d n cells amounts tallies ∙ e))
-    ∙ cells-length d n (take (n * d) cells) (take n amounts) (take n tallies) (sym (length-take-le (n * d) cells h))
-
--- no more than 1,024 cells of 44 bytes
-module _ (d s : ℕ) (rows : List (Row Total)) (t : Table d rows) where
-  shared-long : (r : Row Total) → r ∈ sharedRows d rows s → length (cellBytes r) ≡ 4 * d + 12
-  unfolding sharedRows shared
-  shared-long r m =
-      let many : List ℕ → Bool = λ c. leb 2 (length (within (plain d) (codesOf rows) c)) in
-      let q = Memᴰ·of-map (filled (plain d) measure rows) (keep many (cuboid (plain d) (codesOf rows) s)) m in
-      let wide = cuboid-wide d rows t s (keep-in many (cuboid (plain d) (codesOf rows) s) (q .1) .0) in
-      cell-length d r (sym (ap (λ (z : Row Total). length (z .codes)) (q .2)) ∙ wide)
-
-  rows-few : length (sharedRows d rows s) ≤ length rows
-  unfolding sharedRows
-  rows-few =
-      let cells = shared (plain d) (codesOf rows) s in
-      omega (arith, length-map cells (filled (plain d) measure rows), shared-few (plain d) (codesOf rows) s, length-map rows (λ r. r .codes))
-
-  pub shared-room : d ≤ 8 → length rows ≤ 1024 → length (sharedBytes d rows s) ≤ 45056
-  unfolding sharedBytes
-  shared-room h k =
-      let few : length (sharedRows d rows s) ≤ 1024 = omega (arith, rows-few, k) in
-      let wide : 4 * d + 12 ≤ 44 = omega (arith, h) in
-      let m = mul-le-mul few wide in
-      omega (arith, m, length-flat cellBytes (4 * d + 12) (sharedRows d rows s) shared-long)
+pub blank-one : (d n : ℕ) → d ≤ 8 → n ≡ 0 → cellBytes (record { codes = take d alls; total = nothing }) ≡ blankBytes d n
+unfolding blankBytes flatMap
+blank-one d zero h e = ap (λ (x : List ℕ). cellBytes (record { codes = x; total = nothing })) (take-alls d h) ∙ sym (append-nil (cellBytes (record { codes = replicate d ALL; total = nothing })))
+blank-one d (suc n) h e = absurd (omega (arith, e))

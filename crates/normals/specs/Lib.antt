@@ -1,2 +1,3 @@
 -- The normal entries as bytes.
 pub mod Normals
+pub mod Grouped

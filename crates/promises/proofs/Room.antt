@@ -21,8 +21,8 @@ use Rattle.cube.specs.Cube.{blank, existing, filled, cells}
 use Rattle.cube.specs.Condensed.{listed, common}
 use Rattle.cube.specs.Table.{Table as Rows}
 use Rattle.cube.proofs.Existing.{existing-few}
-use Rattle.singles.specs.Blank.{blanks}
-use Rattle.singles.proofs.Blank.{normals-count}
+use Rattle.ready.specs.Blank.{blanks}
+use Rattle.ready.proofs.Blank.{normals-count}
 use Rattle.cube.proofs.Folding.{folded-few}
 use Rattle.cube.proofs.Counting.{plain-counts}
 use Rattle.table.specs.Layout.{Records, TableLimits}

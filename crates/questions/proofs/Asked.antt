@@ -18,8 +18,8 @@ use Rattle.rows.specs.Rows.{cut, rowAt, rowsOf}
 use Rattle.rows.proofs.Rows.{cut-length, rows-codes}
 use Rattle.rows.proofs.Flat.{rows-length, rows-at}
 use Rattle.entries.proofs.Limits.{normals-few}
-use Rattle.singles.specs.Ready.{Ready}
-use Rattle.singles.proofs.Ready.{ready-base}
+use Rattle.ready.specs.Ready.{Ready}
+use Rattle.ready.proofs.Ready.{ready-base}
 use Rattle.questions.specs.declared.Look.{Look}
 use Rattle.questions.specs.declared.Look.the-variants.{Cell}
 use Rattle.questions.specs.Questions.{looked, rowless, First, entryBefore, NormalsAt}

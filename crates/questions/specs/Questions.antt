@@ -20,7 +20,7 @@ use Rattle.cube.specs.declared.Total.{Total}
 use Rattle.cube.specs.Measure.{Row}
 use Rattle.cube.specs.Codes.{ALL, falls, keys, plain}
 use Rattle.cube.specs.Condensed.{normal, Answer, no-record, found, lookup}
-use Rattle.singles.specs.Blank.{blankRows}
+use Rattle.ready.specs.Blank.{blankRows}
 use Rattle.rows.specs.Rows.{rowAt}
 use Rattle.entries.specs.Layout.{cellBytes}
 use Rattle.condense.specs.Shared.{normalRows}

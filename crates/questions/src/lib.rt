@@ -9,7 +9,7 @@ ghost use Rattle.cube.specs.Measure.{sums as measure};
 ghost use Rattle.cube.specs.Codes.{falls, set-of, keys, plain};
 ghost use Rattle.cube.specs.Condensed.{ours, lookup};
 ghost use Rattle.rows.specs.Rows.{cut, rowsOf};
-ghost use Rattle.singles.specs.Ready.{Ready};
+ghost use Rattle.ready.specs.Ready.{Ready};
 ghost use Rattle.questions.specs.Questions.{asks, looked, rowless, First, entryBefore, NormalsAt};
 
 // What a question is answered by: no entry, or the sum and the count that an entry carries, and its number.

@@ -36,7 +36,7 @@ use Rattle.entries.proofs.Fields.{parts}
 use Rattle.entries.proofs.Walkable.{walk-forth}
 use Rattle.entries.proofs.Entered.{walkable-limits}
 use Rattle.entries.proofs.Limits.{limits-summable, limits-base}
-use Rattle.singles.specs.Ready.{Ready}
+use Rattle.ready.specs.Ready.{Ready}
 use Rattle.condense.specs.Shared.{normalRows}
 use Rattle.bases.specs.Listed.{ourBases}
 use Rattle.writing.specs.Matched.{Matched}

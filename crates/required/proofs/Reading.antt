@@ -2,11 +2,12 @@
 use mathlib.Core.Path.{_≡_, sym, ap, ap₂, subst, _∙_}
 use mathlib.Core.Bool.{true, false, false≢true}
 use mathlib.Core.List.{List, []}
-use Prim.Native.Nat.{ℕ, _*_, _≤_}
-use native.Mathlib.Nat.{mul-le-mul}
+use Prim.Native.Nat.{ℕ, _+_, _*_, _≤_}
+use native.Mathlib.Nat.{mul-le-mul, mul-le-mul-right}
 use native.Mathlib.Omega.{arith}
 use lib.IntN.{ℤ}
-use lib.ListN.{length, take}
+use lib.ListN.{length, take, drop, getD, length-drop}
+use lib.Pow.{pow-mono}
 use lib.Seq.{length-take-le}
 use Rattle.lists.specs.Order.{same}
 use Rattle.lists.proofs.Tests.{cases, truth}
@@ -15,14 +16,20 @@ use Rattle.walk.specs.Parsed.{Parsed, stop, got, andThen}
 use Rattle.walk.specs.Limits.{Bytes}
 use Rattle.cube.specs.declared.Total.{Total}
 use Rattle.cube.specs.Measure.{Row}
-use Rattle.rows.specs.Rows.{rowsOf}
 use Rattle.entries.specs.Layout.{Held, archiveBytes}
 use Rattle.entries.specs.Reading.{walkArchive, judged, readArchive, rowsIn, archiveAnswer, Stored}
 use Rattle.entries.specs.declared.ArchiveRead.the-variants as Answer
 use Rattle.entries.proofs.Fields.{Accepted, accepted}
 use Rattle.entries.proofs.Walkable.{walk-forth}
-use Rattle.singles.proofs.Ready.{rows-front}
+use Rattle.ready.proofs.Ready.{rows-front}
+use Rattle.lattice.specs.Sets.{full}
+use Rattle.lattice.proofs.Sets.{full-lt}
+use Rattle.rows.specs.Rows.{cut, rowsOf}
+use Rattle.engine.specs.Index.{key}
+use Rattle.slots.proofs.Entries.{slot-length}
+use Rattle.crowds.specs.Crowds.{AllHold}
 use Rattle.required.specs.Read.{Read}
+use Rattle.required.specs.Sharing.{Sharing, Shares}
 use Rattle.required.proofs.Judged.{sizes-at}
 
 stored-walked : (p : Parsed Held) {a : Held} {rest : List ℕ} (c : List ℕ) (t : List ℤ) (k : List ℕ) → p ≡ got a rest → Stored p c t k → rowsOf (length (a .sizes)) (length (a .bases)) c t k ≡ rowsIn a
@@ -93,3 +100,44 @@ stored-required s c t k h = go (walkArchive s) h
     go : (p : Parsed Held) → Stored p c t k → Stored (andThen p (judged s)) c t k
     go (stop n) f = tt
     go (got a rest) f = cases (truth (same s (archiveBytes (a .sizes) (rowsIn a)))) (λ e. rw e f) (λ e. rw e tt)
+
+-- ---- the rows that share a cell
+
+-- as slots tell it
+pub sharing-held : {d n : ℕ} {codes store used : List ℕ} → d ≤ 8 → n ≤ 1024 → 262144 ≤ length store → 256 ≤ length used → AllHold 2 d n codes store used (full d) → Sharing d n codes used
+sharing-held {d} {n} {codes} {store} {used} h k room sets a = record {
+  sets = sets;
+  rows = λ s f.
+      let g = a .all s f in
+      let below : s + 1 ≤ 256 = omega (arith, f, full-lt d, pow-mono {i = d} {j = 8} h) in
+      let m : (s + 1) * 1024 ≤ 256 * 1024 = mul-le-mul-right 1024 below in
+      let small : s * 1024 + 1024 ≤ 262144 = omega (arith, m) in
+      sym (length-take-le (getD used s 0) (drop (s * 1024) store) (omega (arith, g .few, k, small, room, length-drop (s * 1024) store)))
+      ∙ ap length (g .slot) ∙ slot-length (key s (cut d n codes)) n 2 k;
+}
+
+-- as an answer tells the archive's numbers
+pub shares-told : (p : Parsed Held) {d n m : ℕ} (codes used : List ℕ) → archiveAnswer p ≡ Answer.Entries d n m → Sharing d n (take (n * d) codes) used → Shares p codes used
+shares-told (stop k) codes used e h = tt
+shares-told (got a rest) {d} {n} codes used e h =
+    let f : length (a .sizes) ≡ d = cc e in
+    let g : length (a .bases) ≡ n = cc e in
+    rw (f, g) h
+
+-- they stay when the archive is judged
+pub shares-required : (s codes used : List ℕ) → Shares (walkArchive s) codes used → Shares (readArchive s) codes used
+unfolding readArchive
+shares-required s codes used h = go (walkArchive s) h
+  where
+    go : (p : Parsed Held) → Shares p codes used → Shares (andThen p (judged s)) codes used
+    go (stop n) f = tt
+    go (got a rest) f = cases (truth (same s (archiveBytes (a .sizes) (rowsIn a)))) (λ e. rw e f) (λ e. rw e tt)
+
+-- nothing is asked where the walk stopped
+pub shares-stop : (s : List ℕ) {n : ℕ} (codes used : List ℕ) → archiveAnswer (walkArchive s) ≡ Answer.Stop n → Shares (readArchive s) codes used
+unfolding readArchive
+shares-stop s {n} codes used e = go (walkArchive s) e
+  where
+    go : (p : Parsed Held) → archiveAnswer p ≡ Answer.Stop n → Shares (andThen p (judged s)) codes used
+    go (stop k) f = tt
+    go (got a rest) f = let z : false ≡ true = cc in absurd (false≢true z)

@@ -1,2 +1,3 @@
 -- Base rows of an archive whose fields are right.
 pub mod Read
+pub mod Sharing

@@ -5,25 +5,19 @@ ghost use mathlib.Core.Path.{_≡_};
 ghost use Prim.Native.Nat.{_*_, _≤_};
 ghost use lib.ListN.{length};
 ghost use Rattle.lists.specs.Order.{same};
-ghost use Rattle.fields.specs.Words.{wordBytes, wordsAt};
+ghost use Rattle.lattice.specs.Sets.{full};
+ghost use Rattle.fields.specs.Words.{wordsAt};
 ghost use Rattle.cube.specs.Codes.{plain};
 ghost use Rattle.cube.specs.Condensed.{normals};
 ghost use Rattle.rows.specs.Rows.{cut, rowsOf};
+ghost use Rattle.crowds.specs.Crowds.{AllHold};
 ghost use Rattle.entries.specs.Layout.{archiveBytes};
 ghost use Rattle.entries.specs.Reading.{walkArchive, readArchive, archiveAnswer, Stored};
 ghost use Rattle.writing.specs.Matched.{Matched};
 ghost use Rattle.bases.specs.Listed.{Listed};
+ghost use Rattle.normals.specs.Grouped.{Grouped};
 ghost use Rattle.required.specs.Read.{Read, sections};
-
-// Whether the bytes s have a word at a place.
-fn match_word(s: &[u8], at: usize, w: u32) -> Walk
-    requires { ⌜ at ≤ length (now s) ⌝ }
-    ensures { λ r. ⌜ Matched (now (s .entry)) at (wordBytes w) r ⌝ }
-{
-    let mut word = [0u8; 4];
-    let n = fields::put_word(&mut word, w);
-    writing::match_bytes(s, at, &word[..n])
-}
+ghost use Rattle.required.specs.Sharing.{Sharing, Shares};
 
 // Whether the bytes s have the sections that base rows require from a place on.
 fn match_sections(
@@ -36,13 +30,15 @@ fn match_sections(
     dims: usize,
     sets: &[u32],
     lens: &[u32],
+    store: &[u16],
+    used: &[usize],
     cells: usize,
 ) -> Walk
-    requires { ⌜ Listed dims rows (now codes) (now sums) (now counts) (now sets) (now lens) × (start ≤ length (now s)) ⌝ }
+    requires { ⌜ Listed dims rows (now codes) (now sums) (now counts) (now sets) (now lens) × Grouped dims rows (now codes) (now sums) (now counts) (now store) (now used) × (start ≤ length (now s)) ⌝ }
     requires { ⌜ cells ≡ length (normals (plain dims) (cut dims rows (now codes))) ⌝ }
     ensures { λ r. ⌜ Matched (now (s .entry)) start (sections dims (rowsOf dims rows (now (codes .entry)) (now (sums .entry)) (now (counts .entry)))) r ⌝ }
 {
-    let at = match match_word(s, start, rows as u32) {
+    let at = match writing::match_word(s, start, rows as u32) {
         Walk::Stop(n) => return Walk::Stop(n),
         Walk::At(at) => at,
     };
@@ -50,14 +46,14 @@ fn match_sections(
         Walk::Stop(n) => return Walk::Stop(n),
         Walk::At(end) => end,
     };
-    let next = match match_word(s, end, cells as u32) {
+    let next = match writing::match_word(s, end, cells as u32) {
         Walk::Stop(n) => return Walk::Stop(n),
         Walk::At(next) => next,
     };
-    normals::match_normals(s, next, codes, sums, counts, rows, dims, sets, lens)
+    normals::match_normals(s, next, codes, sums, counts, rows, dims, store, used)
 }
 
-// Whether an archive whose fields are right is the one that its base rows require; their lists go into the buffers that are lent.
+// Whether an archive whose fields are right is the one that its base rows require; their lists and slots go into the buffers that are lent.
 fn judge(
     s: &[u8],
     codes: &[u32],
@@ -67,19 +63,35 @@ fn judge(
     dims: usize,
     sets: &mut [u32],
     lens: &mut [u32],
+    store: &mut [u16],
+    used: &mut [usize],
 ) -> bool
-    requires { ⌜ Read (now s) dims rows (now codes) (now sums) (now counts) × (rows * 70 ≤ length (now sets)) × (length (now lens) ≡ rows) ⌝ }
+    requires { ⌜ Read (now s) dims rows (now codes) (now sums) (now counts) × (rows * 70 ≤ length (now sets)) × (length (now lens) ≡ rows) × (262144 ≤ length (now store)) × (256 ≤ length (now used)) ⌝ }
     ensures { λ r. ⌜ r ≡ same (now (s .entry)) (archiveBytes (wordsAt (now (s .entry)) dims 8) (rowsOf dims rows (now (codes .entry)) (now (sums .entry)) (now (counts .entry)))) ⌝ }
+    ensures { λ r. ⌜ AllHold 2 dims rows (now (codes .entry)) (now (store .exit)) (now (used .exit)) (full dims) ⌝ }
 {
-    let cells = condense::list_rows(codes, sums, counts, rows, dims, sets, lens);
+    let cells = condense::condense_rows(codes, rows, dims, store, used, sets, lens);
     let start = 8 + 4 * dims;
-    match match_sections(s, start, codes, sums, counts, rows, dims, sets, lens, cells) {
+    match match_sections(
+        s,
+        start,
+        codes,
+        sums,
+        counts,
+        rows,
+        dims,
+        sets,
+        lens,
+        store,
+        used,
+        cells,
+    ) {
         Walk::Stop(_) => false,
         Walk::At(end) => s.len() - end == 4,
     }
 }
 
-// Whether an archive whose fields are right is the one that its base rows require.
+// Whether an archive whose fields are right is the one that its base rows require; how many rows share the cells of each set goes into the buffer that is lent.
 fn is_required(
     s: &[u8],
     codes: &[u32],
@@ -87,12 +99,15 @@ fn is_required(
     counts: &[u32],
     rows: usize,
     dims: usize,
+    used: &mut [usize],
 ) -> bool
-    requires { ⌜ Read (now s) dims rows (now codes) (now sums) (now counts) ⌝ }
+    requires { ⌜ Read (now s) dims rows (now codes) (now sums) (now counts) × (256 ≤ length (now used)) ⌝ }
     ensures { λ r. ⌜ r ≡ same (now (s .entry)) (archiveBytes (wordsAt (now (s .entry)) dims 8) (rowsOf dims rows (now (codes .entry)) (now (sums .entry)) (now (counts .entry)))) ⌝ }
+    ensures { λ r. ⌜ Sharing dims rows (now (codes .entry)) (now (used .exit)) ⌝ }
 {
     let mut sets = [0u32; 71680];
     let mut lens = [0u32; 1024];
+    let mut store = [0u16; 262144];
     judge(
         s,
         codes,
@@ -102,6 +117,8 @@ fn is_required(
         dims,
         &mut sets,
         &mut lens[..rows],
+        &mut store,
+        used,
     )
 }
 
@@ -114,18 +131,41 @@ fn judge_read(
     dims: u32,
     bases: u32,
     cells: u32,
+    used: &mut [usize],
 ) -> ArchiveRead
     requires { ⌜ archiveAnswer (walkArchive (now s)) ≡ ArchiveRead.Entries dims bases cells ⌝ }
     requires { ⌜ (8192 ≤ length (now codes)) × (1024 ≤ length (now sums)) × (1024 ≤ length (now counts)) × Stored (walkArchive (now s)) (now codes) (now sums) (now counts) ⌝ }
+    requires { ⌜ 256 ≤ length (now used) ⌝ }
     ensures { λ r. ⌜ r ≡ archiveAnswer (readArchive (now (s .entry))) ⌝ }
+    ensures { λ r. ⌜ Shares (walkArchive (now (s .entry))) (now (codes .entry)) (now (used .exit)) ⌝ }
 {
     let d = dims as usize;
     let n = bases as usize;
     let size = n * d;
-    if is_required(s, &codes[..size], &sums[..n], &counts[..n], n, d) {
+    if is_required(s, &codes[..size], &sums[..n], &counts[..n], n, d, used) {
         ArchiveRead::Entries { dims, bases, cells }
     } else {
         ArchiveRead::Stop(12)
+    }
+}
+
+// Reads an archive with all its stops, 1 to 12; its base rows into the arrays that are lent, and how many of them share the cells of each set but the full one.
+pub fn read_sharing(
+    s: &[u8],
+    codes: &mut [u32; 8192],
+    sums: &mut [i64; 1024],
+    counts: &mut [u32; 1024],
+    used: &mut [usize; 256],
+) -> ArchiveRead
+    ensures { λ r. ⌜ r ≡ archiveAnswer (readArchive (now (s .entry))) ⌝ }
+    ensures { λ r. ⌜ Stored (readArchive (now (s .entry))) (now (codes .exit)) (now (sums .exit)) (now (counts .exit)) ⌝ }
+    ensures { λ r. ⌜ Shares (readArchive (now (s .entry))) (now (codes .exit)) (now (used .exit)) ⌝ }
+{
+    match reader::read_archive(s, codes, sums, counts) {
+        ArchiveRead::Stop(n) => ArchiveRead::Stop(n),
+        ArchiveRead::Entries { dims, bases, cells } => {
+            judge_read(s, codes, sums, counts, dims, bases, cells, used)
+        }
     }
 }
 
@@ -139,10 +179,6 @@ pub fn read_required(
     ensures { λ r. ⌜ r ≡ archiveAnswer (readArchive (now (s .entry))) ⌝ }
     ensures { λ r. ⌜ Stored (readArchive (now (s .entry))) (now (codes .exit)) (now (sums .exit)) (now (counts .exit)) ⌝ }
 {
-    match reader::read_archive(s, codes, sums, counts) {
-        ArchiveRead::Stop(n) => ArchiveRead::Stop(n),
-        ArchiveRead::Entries { dims, bases, cells } => {
-            judge_read(s, codes, sums, counts, dims, bases, cells)
-        }
-    }
+    let mut used = [0usize; 256];
+    read_sharing(s, codes, sums, counts, &mut used)
 }

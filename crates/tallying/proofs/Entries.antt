@@ -1,14 +1,13 @@
 -- The entries of table t, from its codes in a flat list.
 use mathlib.Core.Path.{_≡_, refl, sym, _∙_, ap, ap₂, subst}
-use mathlib.Core.List.{List, [], _∷_, map, flatMap, Memᴰ·of-map}
-use Prim.Native.Nat.{ℕ, zero, suc, _+_, _*_, _/_, _^_, _≤_, _<_}
+use mathlib.Core.List.{List, [], _∷_, map, flatMap}
+use Prim.Native.Nat.{ℕ, _+_, _*_, _/_, _^_, _≤_}
 use native.Mathlib.Nat.{suc-mul, mul-le-mul, mul-div-cancel, mul-le-mul-right, le-trans}
 use native.Mathlib.Omega.{arith}
-use lib.IntN.{ℤ, pos}
-use lib.ListN.{length, getD, take, drop, length-append, length-map}
-use lib.Seq.{take-at, drop-at, getD-drop}
+use lib.ListN.{length, take, length-append, length-map}
+use lib.Seq.{take-at, drop-at}
 use lib.Pow.{pow-mono}
-use Rattle.lists.specs.Lists.{_∈_, keep, Distinct}
+use Rattle.lists.specs.Lists.{keep, Distinct}
 use Rattle.fields.specs.Written.{Wrote}
 use Rattle.fields.specs.WrittenLaws.{wrote-front}
 use Rattle.lists.proofs.Order.{by-codes}
@@ -17,72 +16,23 @@ use Rattle.lists.specs.Order.{earlier}
 use Rattle.lattice.specs.Sets.{sets}
 use Rattle.lattice.proofs.Sets.{sets-length}
 use Rattle.cube.specs.declared.Total.{Total}
-use Rattle.cube.specs.Measure.{Row, sums as measure, codesOf}
-use Rattle.cube.specs.Bounds.{Bounded, Summable, countOf}
+use Rattle.cube.specs.Measure.{Row, sums as measure}
 use Rattle.cube.specs.Codes.{Coded, plain}
 use Rattle.cube.specs.Condensed.{normals, ours}
 use Rattle.cube.specs.Table.{Table, folded}
 use Rattle.cube.proofs.Sums.{sums-add}
 use Rattle.cube.proofs.Codes.{plain-laws}
 use Rattle.cube.proofs.Normals.{normals-most}
-use Rattle.rows.specs.Rows.{cut, rowsOf}
+use Rattle.rows.specs.Rows.{cut}
 use Rattle.rows.proofs.Rows.{cut-length}
-use Rattle.singles.specs.Ready.{Ready}
-use Rattle.smalls.specs.Small.{upTo, bitOf, binary, one, row, codesAt, table}
+use Rattle.smalls.specs.Small.{upTo, bitOf, binary, row, codesAt, table}
 use Rattle.smalls.specs.Tally.{entries}
 use Rattle.smalls.proofs.Binary.{binary-length, binary-digits, digits-coded}
 use Rattle.smalls.proofs.Tables.{codes-in, codes-rising, codes-few, codes-rows, table-small}
 use Rattle.smalls.proofs.Tally.{folded-same, ours-length}
 use Rattle.tallying.specs.Flat.{flatCodes, Coding}
 
--- ---- rows with one reading each, 1
-
--- sums and counts that are 1 at each of n places
-abbrev pub Ones : ℕ → List ℤ → List ℕ → Type 0
-Ones n sums counts = (i : ℕ) → i < n → (getD sums i (pos 0) ≡ pos 1) × (getD counts i 0 ≡ 1)
-
-rows-ones : (d n : ℕ) (codes : List ℕ) (sums : List ℤ) (counts : List ℕ) → Ones n sums counts → rowsOf d n codes sums counts ≡ map row (cut d n codes)
-unfolding rowsOf cut
-rows-ones d zero codes sums counts h = refl
-rows-ones d (suc n) codes sums counts h =
-    let first = h 0 (omega arith) in
-    let next : Ones n (drop 1 sums) (drop 1 counts) = λ i k.
-    let s : 1 + i ≡ suc i = omega arith in
-    let r = h (suc i) (omega (arith, k)) in
-    (getD-drop 1 sums i (pos 0) ∙ ap (λ (j : ℕ). getD sums j (pos 0)) s ∙ r .0, getD-drop 1 counts i 0 ∙ ap (λ (j : ℕ). getD counts j 0) s ∙ r .1) in
-    ap₂ (λ (t : Total) (l : List (Row Total)). record { codes = take d codes; total = t } ∷ l)
-    (ap₂ (λ (z : ℤ) (c : ℕ). record { sum = z; count = c }) (first .0) (first .1))
-    (rows-ones d n (drop d codes) (drop 1 sums) (drop 1 counts) next)
-
-count-ones : (xs : List (List ℕ)) → countOf (map row xs) ≡ length xs
-count-ones [] = refl
-count-ones (x ∷ xs) = omega (arith, count-ones xs)
-
-bounded-one : Bounded one
-bounded-one = record { sum = omega arith; count = omega arith }
-
-row-in : {r : Row Total} (xs : List (List ℕ)) → r ∈ map row xs → (r .codes ∈ xs) × (r .total ≡ one)
-row-in {r} xs m = let q = Memᴰ·of-map row xs m in (subst (λ (s : Row Total). s .codes ∈ xs) (q .2) (q .1), ap (λ (s : Row Total). s .total) (sym (q .2)))
-
-pub ready-ones : (d n : ℕ) (codes : List ℕ) (sums : List ℤ) (counts : List ℕ) → d ≤ 8 → n ≤ 8 → n * d ≡ length codes → length sums ≡ n → length counts ≡ n
-    → Ones n sums counts → Distinct (cut d n codes) → Coding d (cut d n codes) → Ready d n codes sums counts
-ready-ones d n codes sums counts dims few size amounts tallies h distinct coding =
-    let e = rows-ones d n codes sums counts h in
-    record {
-      dims = dims;
-      few = omega (arith, few);
-      size = size;
-      amounts = amounts;
-      tallies = tallies;
-      table = subst (Table d) (sym e) (λ r m. coding (r .codes) (row-in (cut d n codes) m .0));
-      summable = subst Summable (sym e) (record {
-        each = λ r m. subst Bounded (sym (row-in (cut d n codes) m .1)) bounded-one;
-        few = omega (arith, count-ones (cut d n codes), cut-length d n codes, few);
-      });
-      distinct = distinct;
-    }
-
--- they have few normal entries
+-- base rows have few normal entries
 pub normals-fit : (d n : ℕ) (codes : List ℕ) → d ≤ 8 → n ≤ 8 → length (normals (plain d) (cut d n codes)) ≤ 2048
 normals-fit d n codes h k =
     let m : length (sets d) * 8 ≤ 256 * 8 = mul-le-mul-right 8 (le-trans (sets-length d) (pow-mono h)) in

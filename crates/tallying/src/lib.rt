@@ -44,21 +44,21 @@ fn put_table(out: &mut [u32], dims: usize, t: u32) -> usize
     at
 }
 
-// How many entries base rows with one reading each have.
+// How many entries base rows have.
 fn rows_entries(codes: &[u32], rows: usize, dims: usize) -> usize
     requires { ⌜ (dims ≤ 8) × (rows ≤ 8) × (rows * dims ≡ length (now codes)) × Distinct (cut dims rows (now codes)) × Coding dims (cut dims rows (now codes)) ⌝ }
     ensures { λ r. ⌜ r ≡ rows + length (normals (plain dims) (cut dims rows (now (codes .entry)))) ⌝ }
 {
-    let sums = [1i64; 8];
-    let counts = [1u32; 8];
+    let mut store = [0u16; 262144];
+    let mut used = [0usize; 256];
     let mut sets = [0u32; 560];
     let mut lens = [0u32; 8];
-    let normals = condense::list_rows(
+    let normals = condense::condense_rows(
         codes,
-        &sums[..rows],
-        &counts[..rows],
         rows,
         dims,
+        &mut store,
+        &mut used,
         &mut sets,
         &mut lens[..rows],
     );

@@ -4,3 +4,4 @@ pub mod Writing
 pub mod WritingLaws
 pub mod Matched
 pub mod MatchedLaws
+pub mod Fitted

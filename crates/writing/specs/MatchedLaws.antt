@@ -1,14 +1,15 @@
 -- Laws of bytes compared part by part, for loops and for sections that follow one another.
 use mathlib.Core.Path.{_≡_, refl, sym, ap, subst, _∙_}
-use mathlib.Core.Bool.{Bool, false, _&&_}
+use mathlib.Core.Bool.{Bool, true, false, _&&_}
 use mathlib.Core.List.{List, [], _++_, append-assoc, append-nil}
-use Prim.Native.Nat.{ℕ, _+_, _≤_}
+use Prim.Native.Nat.{ℕ, _+_, _-_, _≤_, _<_}
 use native.Mathlib.Nat.{add-zero}
 use native.Mathlib.Omega.{arith}
-use lib.ListN.{length, drop, length-append, take}
+use lib.ListN.{length, drop, length-append, length-drop, take}
 use lib.Seq.{drop-drop}
+use Rattle.lists.proofs.Tests.{refuted}
 use Rattle.fields.specs.Opening.{startsWith}
-use Rattle.fields.specs.OpeningLaws.{startsWith-append}
+use Rattle.fields.specs.OpeningLaws.{startsWith-append, starts-length}
 use Rattle.fields.specs.Written.{Wrote}
 use Rattle.fields.specs.WrittenLaws.{wrote-front}
 use Rattle.walk.specs.declared.Walk.{Walk}
@@ -47,6 +48,19 @@ pub matching-done : {all s : List ℕ} {at₀ at : ℕ} → Matching all [] s at
 matching-done {all} {s} {at₀} w =
     let e : w .done ≡ all = sym (append-nil (w .done)) ∙ w .whole in
     record { meets = (ap (startsWith (drop at₀ s)) (sym e) ∙ w .begun, w .place ∙ ap (λ (l : List ℕ). at₀ + length l) e, w .within) }
+
+-- ---- one part
+
+module _ {s xs : List ℕ} {at : ℕ} (h : at ≤ length s) where
+  pub matched-on : startsWith (drop at s) xs ≡ true → Matched s at xs (At (at + length xs))
+  matched-on e = record { meets = (e, refl, omega (arith, h, starts-length (drop at s) xs e, length-drop at s)) }
+
+  pub matched-none : startsWith (drop at s) xs ≡ false → Matched s at xs (Stop 12)
+  matched-none e = record { meets = (refl, e) }
+
+  -- there are fewer bytes than the part has
+  pub matched-short : length s - at < length xs → Matched s at xs (Stop 12)
+  matched-short k = matched-none (refuted (λ t. omega (arith, k, starts-length (drop at s) xs t, length-drop at s)))
 
 -- the same bytes by another name
 pub matched-as : {s xs ys : List ℕ} {at : ℕ} {w : Walk} → xs ≡ ys → Matched s at xs w → Matched s at ys w

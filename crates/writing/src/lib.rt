@@ -4,6 +4,8 @@ ghost use mathlib.Core.Path.{_≡_};
 ghost use mathlib.Core.List.{flatMap};
 ghost use Prim.Native.Nat.{_+_, _*_, _^_, _≤_, _<_};
 ghost use lib.ListN.{length};
+ghost use Rattle.fields.specs.Words.{wordBytes, wordsBytes};
+ghost use Rattle.fields.specs.Twos.{sumBytes};
 ghost use Rattle.fields.specs.Written.{Wrote};
 ghost use Rattle.rows.specs.Rows.{rowsOf};
 ghost use Rattle.walk.specs.Fields.{headerBytes};
@@ -71,14 +73,92 @@ pub fn put_entry(out: &mut [u8], codes: &[u32], sum: i64, count: u32, list: &[u3
     at + put_list(&mut out[at..], list)
 }
 
-// Whether the bytes s have the bytes xs from a place on: the place behind them, or stop 12.
-pub fn match_bytes(s: &[u8], at: usize, xs: &[u8]) -> Walk
+// Whether the bytes s have a word from a place on: the place behind it, or stop 12.
+pub fn match_word(s: &[u8], at: usize, w: u32) -> Walk
     requires { ⌜ at ≤ length (now s) ⌝ }
-    ensures { λ r. ⌜ Matched (now (s .entry)) at (now (xs .entry)) r ⌝ }
+    ensures { λ r. ⌜ Matched (now (s .entry)) at (wordBytes w) r ⌝ }
 {
-    if fields::begins(&s[at..], xs) {
-        Walk::At(at + xs.len())
-    } else {
-        Walk::Stop(12)
+    if s.len() - at < 4 {
+        return Walk::Stop(12);
     }
+    if fields::word_is(s, at, w) {
+        return Walk::At(at + 4);
+    }
+    Walk::Stop(12)
+}
+
+// Whether the bytes s have words from a place on.
+fn match_words(s: &[u8], start: usize, ws: &[u32]) -> Walk
+    requires { ⌜ start ≤ length (now s) ⌝ }
+    ensures { λ r. ⌜ Matched (now (s .entry)) start (wordsBytes (now (ws .entry))) r ⌝ }
+{
+    let mut at = start;
+    for i in 0..ws.len() {
+        match match_word(s, at, ws[i]) {
+            Walk::Stop(n) => return Walk::Stop(n),
+            Walk::At(next) => at = next,
+        }
+    }
+    Walk::At(at)
+}
+
+// Whether the bytes s have a sum from a place on.
+fn match_sum(s: &[u8], at: usize, sum: i64) -> Walk
+    requires { ⌜ at ≤ length (now s) ⌝ }
+    ensures { λ r. ⌜ Matched (now (s .entry)) at (sumBytes sum) r ⌝ }
+{
+    if s.len() - at < 8 {
+        return Walk::Stop(12);
+    }
+    if fields::sum_is(s, at, sum) {
+        return Walk::At(at + 8);
+    }
+    Walk::Stop(12)
+}
+
+// Whether the bytes s have a cell from a place on.
+pub fn match_cell(s: &[u8], start: usize, codes: &[u32], sum: i64, count: u32) -> Walk
+    requires { ⌜ start ≤ length (now s) ⌝ }
+    ensures { λ r. ⌜ Matched (now (s .entry)) start (cellBytes (record { codes = now (codes .entry); total = record { sum = sum; count = count } })) r ⌝ }
+{
+    let at = match match_words(s, start, codes) {
+        Walk::Stop(n) => return Walk::Stop(n),
+        Walk::At(at) => at,
+    };
+    let next = match match_sum(s, at, sum) {
+        Walk::Stop(n) => return Walk::Stop(n),
+        Walk::At(next) => next,
+    };
+    match_word(s, next, count)
+}
+
+// Whether the bytes s have a list from a place on.
+fn match_list(s: &[u8], start: usize, list: &[u32]) -> Walk
+    requires { ⌜ (start ≤ length (now s)) × (length (now list) < 2 ^ 32) ⌝ }
+    ensures { λ r. ⌜ Matched (now (s .entry)) start (listBytes (now (list .entry))) r ⌝ }
+{
+    let at = match match_word(s, start, list.len() as u32) {
+        Walk::Stop(n) => return Walk::Stop(n),
+        Walk::At(at) => at,
+    };
+    match_words(s, at, list)
+}
+
+// Whether the bytes s have a base entry from a place on.
+pub fn match_entry(
+    s: &[u8],
+    start: usize,
+    codes: &[u32],
+    sum: i64,
+    count: u32,
+    list: &[u32],
+) -> Walk
+    requires { ⌜ (start ≤ length (now s)) × (length (now list) ≤ 70) ⌝ }
+    ensures { λ r. ⌜ Matched (now (s .entry)) start (baseBytes (record { row = record { codes = now (codes .entry); total = record { sum = sum; count = count } }; list = now (list .entry) })) r ⌝ }
+{
+    let at = match match_cell(s, start, codes, sum, count) {
+        Walk::Stop(n) => return Walk::Stop(n),
+        Walk::At(at) => at,
+    };
+    match_list(s, at, list)
 }

@@ -1,31 +1,32 @@
--- `bases::match_base` meets its contract: what is compared is the front that was written.
-use mathlib.Core.Path.{sym}
+-- `bases::match_base` meets its contract: codes, sum, count and list of the row make its base entry.
+use mathlib.Core.Path.{ap, _∙_}
 use native.Mathlib.Omega.{arith}
-use lib.Seq.{length-take-le}
-use Rattle.bases.proofs.Bases.{base-most}
-use Rattle.writing.specs.MatchedLaws.{front-matched}
+use denote.Ref.{now}
+use lib.ListN.{length}
+use mir.Syntax.{w64}
+use mir.Facts.{toZ-ofZ}
+use Rattle.condense.proofs.Lists.{list-length}
+use Rattle.entries.specs.Layout.{baseBytes}
+use Rattle.writing.specs.MatchedLaws.{matched-as}
+use Rattle.bases.proofs.Bases.{base-at}
 use borrow.Author.Needs.{needs}
 use Rattle.bases.proofs.match_base.Statement.{statement}
 use Rattle.bases.proofs.match_base.Tie as tie
 
-put-base-requires : tie.Need-put-base-requires
-put-base-requires c κs =
-    let p = c .before .before .before .before .before .before .before .pre in
-    ((p .0, p .1), omega (arith, base-most (p .0) (c .before .before .before .before .before .before .before .args .row) (p .1), p .3))
-
-slice-reshare-prefix-match-bytes : tie.Need-slice-reshare-prefix-match-bytes
-slice-reshare-prefix-match-bytes c =
-    let p = c .before .before .before .before .before .before .before .before .before .before .pre in
-    let w = c .before .before .put-base .ensures in
-    omega (arith, base-most (p .0) (c .before .before .before .before .before .before .before .before .before .before .args .row) (p .1), p .3, w .count, w .same)
-
-slice-aggregate-match-bytes : tie.Need-slice-aggregate-match-bytes
-slice-aggregate-match-bytes c = sym (length-take-le (c .before .before .before .put-base .result) _ (slice-reshare-prefix-match-bytes (c .before)))
+match-entry-requires : tie.Need-match-entry-requires
+match-entry-requires c κs =
+    let a = c .before .before .before .before .before .before .before .before .before .args in
+    let p = c .before .before .before .before .before .before .before .before .before .pre in
+    let sets = ap length (c .list-of .ensures) ∙ list-length (a .rows) (a .row) (now (a .sets)) (now (a .lens)) (p .1) (p .0 .room) (p .0 .short) in
+    (p .2, omega (arith, sets, p .0 .short (a .row) (p .1)))
 
 returns : tie.Need-returns
-returns c = front-matched (c .before .before .before .before .put-base .ensures) (c .match-bytes .ensures)
+returns c =
+    let p = c .before .before .before .before .before .before .before .before .before .before .pre in
+    let entry = base-at (p .0) (c .before .before .before .before .before .before .before .before .before .before .args .row) (p .1) (c .before .before .before .before .row-of .ensures .0) (c .before .list-of .ensures) in
+    matched-as (ap baseBytes entry) (rw (toZ-ofZ {w = w64} (record { sfits = c .before .before .before .sum .given })) at (c .match-entry .ensures))
 
 pub match-base-spec : {M : Type 1} → statement M
 match-base-spec =
     tie.close
-    (tie.spec put-base-requires slice-reshare-prefix-match-bytes slice-aggregate-match-bytes (λ c κs. search needs) (λ c. search needs) returns)
+    (tie.spec (λ c κs. search needs) (λ c. search needs) (λ c. search needs) (λ c. search needs) (λ c. search needs) (λ c κs. search needs) match-entry-requires returns)

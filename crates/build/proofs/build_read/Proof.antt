@@ -9,7 +9,7 @@ use Rattle.walk.specs.Limits.{Bytes}
 use Rattle.rows.specs.Rows.{rowsOf}
 use Rattle.entries.specs.Layout.{archiveBytes, Limits}
 use Rattle.walk.proofs.Limits.{bytes-of}
-use Rattle.singles.specs.Ready.{Ready}
+use Rattle.ready.specs.Ready.{Ready}
 use Rattle.calls.specs.Answers.{bytes, Answered}
 use Rattle.calls.proofs.Answers.{answered-as}
 use Rattle.build.proofs.Building.{Tabled, tabled}

@@ -1,6 +1,6 @@
 -- `build::fit_archive` meets its contract: the archive was written just if its length is no more than the output's.
 use mathlib.Core.Path.{refl}
-use Rattle.build.proofs.Building.{fitted-short, fitted-done}
+use Rattle.calls.proofs.Fitted.{fitted-short, fitted-done}
 use borrow.Author.Needs.{needs}
 use Rattle.build.proofs.fit_archive.Statement.{statement}
 use Rattle.build.proofs.fit_archive.Tie as tie

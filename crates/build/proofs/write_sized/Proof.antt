@@ -8,7 +8,7 @@ use Rattle.fields.specs.Words.{wordsAt}
 use Rattle.fields.specs.WordsLaws.{length-wordsAt}
 use Rattle.rows.specs.Rows.{rowsOf}
 use Rattle.entries.specs.Layout.{archiveBytes, Limits}
-use Rattle.singles.specs.Ready.{Ready}
+use Rattle.ready.specs.Ready.{Ready}
 use Rattle.calls.specs.Answers.{bytes}
 use Rattle.calls.proofs.Answers.{answered-as}
 use borrow.Author.Needs.{needs}

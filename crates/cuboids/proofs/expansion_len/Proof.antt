@@ -14,27 +14,27 @@ use Rattle.cuboids.proofs.expansion_len.Statement.{statement}
 use Rattle.cuboids.proofs.expansion_len.Tie as tie
 
 abbrev Inv-loop : tie.InvT-loop
-Inv-loop codes sums counts rows dims all len₀ k₀ len k =
+Inv-loop codes sums counts rows dims store used all len₀ k₀ len k =
     (k ≤ 256) × (len ≤ 45060 * k)
     × (len + length (turns (cuboidBytes dims (rowsOf dims rows codes sums counts)) (2 ^ dims) k) ≡ length (expansionBytes dims (rowsOf dims rows codes sums counts)))
 
 abbrev μ-loop : tie.MeasureT-loop
-μ-loop codes sums counts rows dims all len₀ k₀ len k = 256 - k
+μ-loop codes sums counts rows dims store used all len₀ k₀ len k = 256 - k
 
 cast-sets-of : tie.Need-cast-sets-of Inv-loop μ-loop
-cast-sets-of c = omega (arith, c .before .before .pre .dims)
+cast-sets-of c = omega (arith, c .before .before .before .before .pre .ready .dims)
 
 sets-of-requires : tie.Need-sets-of-requires Inv-loop μ-loop
-sets-of-requires c κs = c .before .before .pre .dims
+sets-of-requires c κs = c .before .before .before .before .pre .ready .dims
 
 loop-holds : tie.Need-loop-holds Inv-loop μ-loop
 loop-holds c =
-    let a = c .before .before .before .args in
-    (omega arith, omega arith, omega (arith, ap length (turns-start (a .dims) (rowsOf (a .dims) (a .rows) (now (a .codes)) (now (a .sums)) (now (a .counts))) (c .before .before .before .pre .dims))))
+    let a = c .before .before .before .before .before .args in
+    (omega arith, omega arith, omega (arith, ap length (turns-start (a .dims) (rowsOf (a .dims) (a .rows) (now (a .codes)) (now (a .sums)) (now (a .counts))) (c .before .before .before .before .before .pre .ready .dims))))
 
 loop-again : tie.Need-loop-again Inv-loop μ-loop
 loop-again c =
-    let a = c .before .before .before .before .before .before .before .args in
+    let a = c .before .before .before .before .before .before .before .before .before .args in
     let l = c .before .before .before .loop in
     let f = cuboidBytes (a .dims) (rowsOf (a .dims) (a .rows) (now (a .codes)) (now (a .sums)) (now (a .counts))) in
     let at = c .before .set-at .ensures in
@@ -54,7 +54,7 @@ loop-again c =
 
 returns : tie.Need-returns Inv-loop μ-loop
 returns c =
-    let a = c .before .before .before .before .before .args in
+    let a = c .before .before .before .before .before .before .before .args in
     omega (arith, c .before .loop .inv .2, turns-over (cuboidBytes (a .dims) (rowsOf (a .dims) (a .rows) (now (a .codes)) (now (a .sums)) (now (a .counts)))) (2 ^ a .dims) (c .loop-test .left))
 
 pub expansion-len-spec : {M : Type 1} → statement M

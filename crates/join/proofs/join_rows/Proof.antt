@@ -5,7 +5,7 @@ use native.Mathlib.Omega.{arith}
 use denote.Ref.{now}
 use lib.ListN.{length, take}
 use Rattle.lists.specs.Lists.{sum}
-use Rattle.singles.specs.Ready.{Ready}
+use Rattle.ready.specs.Ready.{Ready}
 use Rattle.calls.proofs.Answers.{stopped, answered-as}
 use Rattle.join.proofs.Uniting.{stores-small, stores-many, stores-pair, stored-over, stored-small, stored-limits, stored-ready, stored-filed}
 use borrow.Author.Needs.{needs}

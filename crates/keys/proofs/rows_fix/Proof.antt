@@ -9,7 +9,7 @@ slice-aggregate-neighbours-fix : tie.Need-slice-aggregate-neighbours-fix
 slice-aggregate-neighbours-fix c = sym (length-take-le (c .before .before .args .rows) _ (c .before .before .pre .few))
 
 neighbours-fix-requires : tie.Need-neighbours-fix-requires
-neighbours-fix-requires c κs = let p = c .before .before .pre in (p .size, sym (slice-aggregate-neighbours-fix c), p .few)
+neighbours-fix-requires c κs = let p = c .before .before .pre in (p .size, sym (slice-aggregate-neighbours-fix c), p .few, p .base .valid)
 
 pub rows-fix-spec : {M : Type 1} → statement M
 rows-fix-spec =

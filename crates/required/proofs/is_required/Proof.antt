@@ -1,28 +1,36 @@
--- `required::is_required` meets its contract: buffers of its own are lent.
+-- `required::is_required` meets its contract: buffers of its own are lent, and the slots tell how many rows share a cell.
 use mathlib.Core.Path.{sym}
 use Prim.Native.Nat.{_≤_}
 use native.Mathlib.Omega.{arith}
 use denote.Ref.{now}
 use lib.Seq.{length-take-le}
+use Rattle.ready.specs.Ready.{Ready}
 use Rattle.walk.proofs.Limits.{bytes-of}
 use Rattle.required.proofs.Judged.{read-ready}
+use Rattle.required.proofs.Reading.{sharing-held}
 use borrow.Author.Needs.{needs}
 use Rattle.required.proofs.is_required.Statement.{statement}
 use Rattle.required.proofs.is_required.Tie as tie
 
-few : (c : tie.After-shared-slice-known) → c .before .args .rows ≤ 1024
-few c = read-ready (bytes-of (now (c .before .args .s)) (λ i. omega (arith, c .shared-slice-known .given i))) (c .before .pre) .few
+ready : (c : tie.After-shared-slice-known) → (let a = c .before .args in Ready (a .dims) (a .rows) (now (a .codes)) (now (a .sums)) (now (a .counts)))
+ready c = read-ready (bytes-of (now (c .before .args .s)) (λ i. omega (arith, c .shared-slice-known .given i))) (c .before .pre .0)
 
 array-borrow-prefix-lens : tie.Need-array-borrow-prefix-lens
-array-borrow-prefix-lens c = few (c .before .before .before)
+array-borrow-prefix-lens c = ready (c .before .before .before .before) .few
 
 slice-aggregate-judge-2 : tie.Need-slice-aggregate-judge-2
-slice-aggregate-judge-2 c = sym (length-take-le (c .before .before .before .before .before .args .rows) _ (few (c .before .before .before .before)))
+slice-aggregate-judge-2 c = sym (length-take-le (c .before .before .before .before .before .before .args .rows) _ (ready (c .before .before .before .before .before) .few))
 
 judge-requires : tie.Need-judge-requires
-judge-requires c κs = (c .before .before .before .before .before .pre, omega (arith, few (c .before .before .before .before)), sym (slice-aggregate-judge-2 c))
+judge-requires c κs = let p = c .before .before .before .before .before .before .before .before .pre in (p .0, omega (arith, ready (c .before .before .before .before .before .before .before) .few), sym (slice-aggregate-judge-2 (c .before .before)), omega arith, p .1)
+
+returns : tie.Need-returns
+returns c =
+    let e = c .before .before .before .before .before .judge .ensures in
+    let r = ready (c .before .before .before .before .before .before .before .before .before .before .before .before .before) in
+    (e .0, sharing-held (r .dims) (r .few) (omega (arith, c .before .before .before .before .before .judge .kept .1 .1 .1 .1 .1 .1 .1 .1 .0)) (omega (arith, c .before .used .given, c .before .before .before .before .before .before .before .before .before .before .before .before .before .before .pre .1)) (e .1))
 
 pub is-required-spec : {M : Type 1} → statement M
 is-required-spec =
     tie.close
-    (tie.spec (λ c. search needs) array-borrow-prefix-lens slice-aggregate-judge-2 judge-requires (λ c. search needs))
+    (tie.spec (λ c. search needs) array-borrow-prefix-lens slice-aggregate-judge-2 (λ c. search needs) judge-requires (λ c. search needs) returns)

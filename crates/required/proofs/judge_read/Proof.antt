@@ -5,9 +5,11 @@ use native.Mathlib.Omega.{arith}
 use denote.Ref.{now}
 use lib.ListN.{length, take}
 use Rattle.walk.specs.Limits.{Bytes}
+use Rattle.entries.specs.Reading.{walkArchive}
 use Rattle.required.specs.Read.{Read}
 use Rattle.walk.proofs.Limits.{bytes-of}
-use Rattle.required.proofs.Reading.{read-small, read-of, passed-required, stopped-required}
+use Rattle.required.proofs.Reading.{read-small, read-of, passed-required, stopped-required, shares-told}
+use borrow.Author.Needs.{needs}
 use Rattle.required.proofs.judge_read.Statement.{statement}
 use Rattle.required.proofs.judge_read.Tie as tie
 
@@ -15,33 +17,37 @@ are-bytes : (c : tie.After-shared-slice-known) → Bytes (now (c .before .args .
 are-bytes c = bytes-of (now (c .before .args .s)) (λ i. omega (arith, c .shared-slice-known .given i))
 
 room : (c : tie.Start) → (8192 ≤ length (now (c .args .codes))) × (1024 ≤ length (now (c .args .sums))) × (1024 ≤ length (now (c .args .counts)))
-room c = (c .pre .1 .0, c .pre .1 .1, c .pre .1 .2)
+room c = (c .pre .1 .0 .0, c .pre .1 .0 .1, c .pre .1 .0 .2)
 
 read : (c : tie.After-shared-slice-known) → (let a = c .before .args in Read (now (a .s)) (a .dims) (a .bases) (take (a .bases * a .dims) (now (a .codes))) (take (a .bases) (now (a .sums))) (take (a .bases) (now (a .counts))))
-read c = let a = c .before .args in read-of (are-bytes c) (c .before .pre .0) (now (a .codes)) (now (a .sums)) (now (a .counts)) (room (c .before)) (c .before .pre .1 .3)
+read c = let a = c .before .args in read-of (are-bytes c) (c .before .pre .0) (now (a .codes)) (now (a .sums)) (now (a .counts)) (room (c .before)) (c .before .pre .1 .0 .3)
 
 mul-size : tie.Need-mul-size
-mul-size c = omega (arith, read-small (are-bytes (c .before .before)) (c .before .before .before .pre .0))
+mul-size c = omega (arith, read-small (are-bytes (c .before .before .before)) (c .before .before .before .before .pre .0))
 
 slice-aggregate-is-required : tie.Need-slice-aggregate-is-required
-slice-aggregate-is-required c = read (c .before .before .before) .size
+slice-aggregate-is-required c = read (c .before .before .before .before) .size
 
 slice-aggregate-is-required-2 : tie.Need-slice-aggregate-is-required-2
-slice-aggregate-is-required-2 c = sym (read (c .before .before .before .before) .amounts)
+slice-aggregate-is-required-2 c = sym (read (c .before .before .before .before .before) .amounts)
 
 slice-aggregate-is-required-3 : tie.Need-slice-aggregate-is-required-3
-slice-aggregate-is-required-3 c = sym (read (c .before .before .before .before .before) .tallies)
+slice-aggregate-is-required-3 c = sym (read (c .before .before .before .before .before .before) .tallies)
 
 is-required-requires : tie.Need-is-required-requires
-is-required-requires c κs = read (c .before .before .before .before .before)
+is-required-requires c κs = (read (c .before .before .before .before .before .before .before), c .before .before .before .before .before .before .before .before .pre .1 .1)
 
 returns : tie.Need-returns
-returns c = passed-required (c .before .before .before .before .before .before .before .before .pre .0) (read (c .before .before .before .before .before .before .before)) (sym (c .if1 .taken) ∙ c .before .is-required .ensures)
+returns c =
+    let e = c .before .before .before .is-required .ensures in
+    (passed-required (c .before .before .before .before .before .before .before .before .before .before .before .before .pre .0) (read (c .before .before .before .before .before .before .before .before .before .before .before)) (sym (c .if1 .taken) ∙ e .0), shares-told (walkArchive (now (c .before .before .before .before .before .before .before .before .before .before .before .before .args .s))) (now (c .before .before .before .before .before .before .before .before .before .before .before .before .args .codes)) _ (c .before .before .before .before .before .before .before .before .before .before .before .before .pre .0) (e .1))
 
 returns-2 : tie.Need-returns-2
-returns-2 c = stopped-required (c .before .before .before .before .before .before .before .before .pre .0) (read (c .before .before .before .before .before .before .before)) (sym (c .if1 .left) ∙ c .before .is-required .ensures)
+returns-2 c =
+    let e = c .before .before .before .is-required .ensures in
+    (stopped-required (c .before .before .before .before .before .before .before .before .before .before .before .before .pre .0) (read (c .before .before .before .before .before .before .before .before .before .before .before)) (sym (c .if1 .left) ∙ e .0), shares-told (walkArchive (now (c .before .before .before .before .before .before .before .before .before .before .before .before .args .s))) (now (c .before .before .before .before .before .before .before .before .before .before .before .before .args .codes)) _ (c .before .before .before .before .before .before .before .before .before .before .before .before .pre .0) (e .1))
 
 pub judge-read-spec : {M : Type 1} → statement M
 judge-read-spec =
     tie.close
-    (tie.spec mul-size slice-aggregate-is-required slice-aggregate-is-required-2 slice-aggregate-is-required-3 is-required-requires returns returns-2)
+    (tie.spec mul-size slice-aggregate-is-required slice-aggregate-is-required-2 slice-aggregate-is-required-3 is-required-requires (λ c. search needs) returns (λ c. search needs) returns-2)

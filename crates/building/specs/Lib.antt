@@ -1,2 +1,0 @@
--- An archive written where there is room for it.
-pub mod Fitted

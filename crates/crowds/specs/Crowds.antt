@@ -1,0 +1,52 @@
+-- The groups of rows under all sets, in one flat array: the slot of set s starts at 1024 * s. The codes of the rows in one dimension stand in another in the same way.
+--
+--   part i n l          the first n elements of part i of a flat list
+--   Columns d n ..      the columns of n rows of d codes
+--   Holds ..            the slot of set s has the groups that the rows form by their cells under s
+--   AllHold .. m        so have the slots of all sets below m
+--   Filled ..           the slot of set s is filled, and the others are as they were
+--   place s             the place of the last dimension of set s, counted from 0
+--   shorter s           set s without its last dimension
+--   leftOut ..          the rows that are left out at set s: they share their cell under the set without its last dimension, but not that under s
+--   ends l              how many groups a slot has
+use mathlib.Core.Path.{_≡_}
+use mathlib.Core.Logic.{_≢_}
+use mathlib.Core.List.{List, [], _∷_}
+use Prim.Native.Nat.{ℕ, zero, suc, _+_, _-_, _*_, _^_, _≤_, _<_}
+use lib.Count.{leadingZeros}
+use lib.ListN.{length, getD, take, drop}
+use Rattle.rows.specs.Rows.{cut}
+use Rattle.engine.specs.Index.{key, columnOf}
+use Rattle.slots.specs.Slots.{crowds, loners, loneRows, packed, endIn}
+
+abbrev pub part : ℕ → ℕ → List ℕ → List ℕ
+part i n l = take n (drop (i * 1024) l)
+
+pub record Columns (d n : ℕ) (codes columns : List ℕ) : Type 0 where
+  pub room : 8192 ≤ length columns
+  pub column : (i : ℕ) → i < d → part i n columns ≡ columnOf i (cut d n codes)
+
+abbrev pub place : ℕ → ℕ
+place s = 31 - leadingZeros 32 s
+
+abbrev pub shorter : ℕ → ℕ
+shorter s = s - 2 ^ place s
+
+unfoldable pub leftOut : ℕ → List (List ℕ) → ℕ → ℕ → List ℕ
+leftOut least xs n zero = loners least (key 0 xs) n
+leftOut least xs n (suc s) = loneRows least (key (shorter (suc s)) xs) (key (suc s) xs) n
+
+abbrev pub ends : List ℕ → ℕ
+ends [] = 0
+ends (e ∷ l) = endIn e + ends l
+
+pub record Holds (least d n : ℕ) (codes slots sizes : List ℕ) (s : ℕ) : Type 0 where
+  pub few : getD sizes s 0 ≤ n
+  pub slot : part s (getD sizes s 0) slots ≡ packed (crowds least (key s (cut d n codes)) n)
+
+pub record AllHold (least d n : ℕ) (codes slots sizes : List ℕ) (m : ℕ) : Type 0 where
+  pub all : (s : ℕ) → s < m → Holds least d n codes slots sizes s
+
+pub record Filled (least d n : ℕ) (codes slots sizes slots₂ sizes₂ : List ℕ) (s : ℕ) : Type 0 where
+  pub here : Holds least d n codes slots₂ sizes₂ s
+  pub others : (t : ℕ) → t ≢ s → Holds least d n codes slots sizes t → Holds least d n codes slots₂ sizes₂ t

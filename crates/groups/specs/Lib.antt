@@ -1,0 +1,2 @@
+-- The groups of a slot as cells in bytes.
+pub mod Groups

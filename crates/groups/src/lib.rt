@@ -1,0 +1,101 @@
+// The groups of a slot as cells with their totals: written over the front of lent bytes, and compared with given ones.
+use walk::Walk;
+ghost use mathlib.Core.Path.{_≡_};
+ghost use Prim.Native.Nat.{_+_, _*_, _≤_};
+ghost use lib.ListN.{length};
+ghost use Rattle.fields.specs.Written.{Wrote};
+ghost use Rattle.cube.specs.Codes.{cell as cellOf};
+ghost use Rattle.rows.specs.Rows.{cut};
+ghost use Rattle.engine.specs.Index.{key};
+ghost use Rattle.entries.specs.Layout.{cellBytes};
+ghost use Rattle.writing.specs.Matched.{Matched};
+ghost use Rattle.groups.specs.Groups.{Groupable, groupBytes};
+
+// Writes the cell of a row under a set, with a total.
+pub fn put_group(out: &mut [u8], mine: &[u32], set: u32, total: cube::Total) -> usize
+    requires { ⌜ (length (now mine) ≤ 8) × (4 * length (now mine) + 12 ≤ length (now out)) ⌝ }
+    ensures { λ r. ⌜ Wrote (cellBytes (record { codes = cellOf set (now (mine .entry)); total = total })) (now (out .entry)) (now (out .exit)) r ⌝ }
+{
+    let dims = mine.len();
+    let mut cell = [0u32; 8];
+    engine::put_cell(&mut cell[..dims], mine, set);
+    let sum = total.sum;
+    writing::put_cell(out, &cell[..dims], sum, total.count)
+}
+
+// Writes the cells of the groups of a slot.
+pub fn put_groups(
+    out: &mut [u8],
+    codes: &[u32],
+    sums: &[i64],
+    counts: &[u32],
+    rows: usize,
+    dims: usize,
+    set: u32,
+    slot: &[u16],
+) -> usize
+    requires { ⌜ Groupable dims rows (now codes) (now sums) (now counts) (now slot) ⌝ }
+    requires { ⌜ length (groupBytes (now sums) (now counts) (key set (cut dims rows (now codes))) (now slot)) ≤ length (now out) ⌝ }
+    ensures { λ r. ⌜ Wrote (groupBytes (now (sums .entry)) (now (counts .entry)) (key set (cut dims rows (now (codes .entry)))) (now (slot .entry))) (now (out .entry)) (now (out .exit)) r ⌝ }
+{
+    let mut at = 0;
+    let mut total = cube::Total { sum: 0, count: 0 };
+    for i in 0..slot.len() {
+        let e = slot[i];
+        let row = slots::row_in(e) as usize;
+        total = slots::add_row(sums, counts, row, total);
+        if slots::end_in(e) == 0 {
+            continue;
+        }
+        let mine = rows::row_of(codes, rows, dims, row);
+        at += put_group(&mut out[at..], mine, set, total);
+        total = cube::Total { sum: 0, count: 0 };
+    }
+    at
+}
+
+// Whether the bytes s have the cell of a row under a set, with a total, from a place on.
+fn match_group(s: &[u8], at: usize, mine: &[u32], set: u32, total: cube::Total) -> Walk
+    requires { ⌜ (length (now mine) ≤ 8) × (at ≤ length (now s)) ⌝ }
+    ensures { λ r. ⌜ Matched (now (s .entry)) at (cellBytes (record { codes = cellOf set (now (mine .entry)); total = total })) r ⌝ }
+{
+    let dims = mine.len();
+    let mut cell = [0u32; 8];
+    engine::put_cell(&mut cell[..dims], mine, set);
+    let sum = total.sum;
+    writing::match_cell(s, at, &cell[..dims], sum, total.count)
+}
+
+// Whether the bytes s have the cells of the groups of a slot from a place on.
+pub fn match_groups(
+    s: &[u8],
+    start: usize,
+    codes: &[u32],
+    sums: &[i64],
+    counts: &[u32],
+    rows: usize,
+    dims: usize,
+    set: u32,
+    slot: &[u16],
+) -> Walk
+    requires { ⌜ Groupable dims rows (now codes) (now sums) (now counts) (now slot) × (start ≤ length (now s)) ⌝ }
+    ensures { λ r. ⌜ Matched (now (s .entry)) start (groupBytes (now (sums .entry)) (now (counts .entry)) (key set (cut dims rows (now (codes .entry)))) (now (slot .entry))) r ⌝ }
+{
+    let mut at = start;
+    let mut total = cube::Total { sum: 0, count: 0 };
+    for i in 0..slot.len() {
+        let e = slot[i];
+        let row = slots::row_in(e) as usize;
+        total = slots::add_row(sums, counts, row, total);
+        if slots::end_in(e) == 0 {
+            continue;
+        }
+        let mine = rows::row_of(codes, rows, dims, row);
+        match match_group(s, at, mine, set, total) {
+            Walk::Stop(n) => return Walk::Stop(n),
+            Walk::At(next) => at = next,
+        }
+        total = cube::Total { sum: 0, count: 0 };
+    }
+    Walk::At(at)
+}
