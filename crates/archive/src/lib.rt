@@ -17,10 +17,7 @@ ghost use Rattle.archive.specs.Accepts.{Accepts};
 pub fn check(archive: &[u8]) -> Checked
     ensures { λ r. ⌜ r ≡ checks (now (archive .entry)) ⌝ }
 {
-    let mut codes = [0u32; 8192];
-    let mut sums = [0i64; 1024];
-    let mut counts = [0u32; 1024];
-    match required::read_required(archive, &mut codes, &mut sums, &mut counts) {
+    match required::check_required(archive) {
         ArchiveRead::Stop(n) => Checked::Stop(n),
         ArchiveRead::Entries {
             dims: _,

@@ -1,6 +1,6 @@
 -- The front page: the user's demands 2 and 3 on bytes, and what the change requests ask to be shown. Demand 1 is the contracts of the calls (src/lib.rt of crates build, archive,
--- keys and fee_call), each an equation with its definition in specs/ of crate calls, keys or fee_call. Beside this page: Room.antt (outputs that are always enough), Numbers.antt (the number that another language
--- gets tells a stop from a success), Empty.antt (an archive without base rows), Keys.antt (which codes fix which), Fees.antt (what is written for a fee), Examples.antt (the worked examples of document 01).
+-- keys, fee_call and join), each an equation with its definition in specs/ of crate calls, keys, fee_call or join. Beside this page: Room.antt (outputs that are always enough), Numbers.antt (the number that another language
+-- gets tells a stop from a success), Empty.antt (an archive without base rows), Keys.antt (which codes fix which), Fees.antt (what is written for a fee), Joins.antt (two archives into one), Examples.antt (the worked examples of document 01).
 -- Pages of other crates: cube, proofs/Promises.antt (the same demands on rows, without bytes); smalls, proofs/Promises.antt (C-23: all the small tables).
 use mathlib.Core.Path.{_≡_, refl, sym, ap, ap₂, subst, _∙_}
 use mathlib.Core.Logic.{_↔_}

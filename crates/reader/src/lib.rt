@@ -7,7 +7,7 @@ ghost use lib.ListN.{drop};
 ghost use Rattle.walk.specs.Fields.{header, close};
 ghost use Rattle.walk.specs.Walked.{Walked};
 ghost use Rattle.entries.specs.Layout.{CUBE};
-ghost use Rattle.entries.specs.Reading.{walkArchive, archiveAnswer, Stored};
+ghost use Rattle.entries.specs.Reading.{walkArchive, archiveAnswer};
 ghost use Rattle.sections.specs.Sections.{wordThere, basesFrom, cellsFrom};
 ghost use Rattle.reader.specs.Place.{readerAt};
 
@@ -65,8 +65,8 @@ fn close<'a>(r: Reader<'a>) -> Walk
     sections::close_at(r.src, r.at)
 }
 
-// All fields of an archive: the reader steps from section to section, up to the first stop.
-fn check_archive(s: &[u8]) -> ArchiveRead
+// All fields of an archive, stops 1 to 11: the reader steps from section to section, up to the first stop.
+pub fn check_archive(s: &[u8]) -> ArchiveRead
     ensures { λ r. ⌜ r ≡ archiveAnswer (walkArchive (now (s .entry))) ⌝ }
 {
     let r = start(s);
@@ -89,24 +89,5 @@ fn check_archive(s: &[u8]) -> ArchiveRead
         dims: word(moved(r, 4)),
         bases: word(base),
         cells: word(normal),
-    }
-}
-
-// The walk over an archive: stops 1 to 11, and the base rows into the arrays that are lent.
-pub fn read_archive(
-    s: &[u8],
-    codes: &mut [u32; 8192],
-    sums: &mut [i64; 1024],
-    counts: &mut [u32; 1024],
-) -> ArchiveRead
-    ensures { λ r. ⌜ r ≡ archiveAnswer (walkArchive (now (s .entry))) ⌝ }
-    ensures { λ r. ⌜ Stored (walkArchive (now (s .entry))) (now (codes .exit)) (now (sums .exit)) (now (counts .exit)) ⌝ }
-{
-    match check_archive(s) {
-        ArchiveRead::Stop(n) => ArchiveRead::Stop(n),
-        ArchiveRead::Entries { dims, bases, cells } => {
-            entries::store_rows(s, dims, bases, codes, sums, counts);
-            ArchiveRead::Entries { dims, bases, cells }
-        }
     }
 }

@@ -149,6 +149,57 @@ fn judge_read(
     }
 }
 
+// The base rows of an archive whose fields are right, into the arrays that are lent, with how many of them share the cells of each set; what was read of it, or stop 12.
+fn read_judged(
+    s: &[u8],
+    codes: &mut [u32; 8192],
+    sums: &mut [i64; 1024],
+    counts: &mut [u32; 1024],
+    used: &mut [usize; 256],
+    dims: u32,
+    bases: u32,
+    cells: u32,
+) -> ArchiveRead
+    requires { ⌜ archiveAnswer (walkArchive (now s)) ≡ ArchiveRead.Entries dims bases cells ⌝ }
+    ensures { λ r. ⌜ r ≡ archiveAnswer (readArchive (now (s .entry))) ⌝ }
+    ensures { λ r. ⌜ Stored (readArchive (now (s .entry))) (now (codes .exit)) (now (sums .exit)) (now (counts .exit)) ⌝ }
+    ensures { λ r. ⌜ Shares (readArchive (now (s .entry))) (now (codes .exit)) (now (used .exit)) ⌝ }
+{
+    entries::store_rows(s, dims, bases, codes, sums, counts);
+    judge_read(s, codes, sums, counts, dims, bases, cells, used)
+}
+
+// What was read of an archive whose fields are right, or stop 12. Its base rows are not asked for.
+fn judge_fields(s: &[u8], dims: u32, bases: u32, cells: u32) -> ArchiveRead
+    requires { ⌜ archiveAnswer (walkArchive (now s)) ≡ ArchiveRead.Entries dims bases cells ⌝ }
+    ensures { λ r. ⌜ r ≡ archiveAnswer (readArchive (now (s .entry))) ⌝ }
+{
+    let mut codes = [0u32; 8192];
+    let mut sums = [0i64; 1024];
+    let mut counts = [0u32; 1024];
+    let mut used = [0usize; 256];
+    read_judged(
+        s,
+        &mut codes,
+        &mut sums,
+        &mut counts,
+        &mut used,
+        dims,
+        bases,
+        cells,
+    )
+}
+
+// All stops of an archive, 1 to 12. No array is declared before the first 11 are passed.
+pub fn check_required(s: &[u8]) -> ArchiveRead
+    ensures { λ r. ⌜ r ≡ archiveAnswer (readArchive (now (s .entry))) ⌝ }
+{
+    match reader::check_archive(s) {
+        ArchiveRead::Stop(n) => ArchiveRead::Stop(n),
+        ArchiveRead::Entries { dims, bases, cells } => judge_fields(s, dims, bases, cells),
+    }
+}
+
 // Reads an archive with all its stops, 1 to 12; its base rows into the arrays that are lent, and how many of them share the cells of each set but the full one.
 pub fn read_sharing(
     s: &[u8],
@@ -161,10 +212,10 @@ pub fn read_sharing(
     ensures { λ r. ⌜ Stored (readArchive (now (s .entry))) (now (codes .exit)) (now (sums .exit)) (now (counts .exit)) ⌝ }
     ensures { λ r. ⌜ Shares (readArchive (now (s .entry))) (now (codes .exit)) (now (used .exit)) ⌝ }
 {
-    match reader::read_archive(s, codes, sums, counts) {
+    match reader::check_archive(s) {
         ArchiveRead::Stop(n) => ArchiveRead::Stop(n),
         ArchiveRead::Entries { dims, bases, cells } => {
-            judge_read(s, codes, sums, counts, dims, bases, cells, used)
+            read_judged(s, codes, sums, counts, used, dims, bases, cells)
         }
     }
 }

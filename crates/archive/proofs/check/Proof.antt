@@ -7,10 +7,10 @@ use Rattle.archive.proofs.check.Statement.{statement}
 use Rattle.archive.proofs.check.Tie as tie
 
 returns : tie.Need-returns
-returns c = check-refused (now (c .before .before .before .before .before .before .before .before .args .archive)) (sym (c .before .before .before .read-required .ensures .0) ∙ c .before .n .given .1)
+returns c = check-refused (now (c .before .before .before .before .before .args .archive)) (sym (c .before .before .before .check-required .ensures) ∙ c .before .n .given .1)
 
 returns-2 : tie.Need-returns-2
-returns-2 c = check-passed (now (c .before .before .before .before .before .before .before .before .args .archive)) (sym (c .before .before .before .read-required .ensures .0) ∙ c .before .bases .given .1)
+returns-2 c = check-passed (now (c .before .before .before .before .before .args .archive)) (sym (c .before .before .before .check-required .ensures) ∙ c .before .bases .given .1)
 
 pub check-spec : {M : Type 1} → statement M
 check-spec =
