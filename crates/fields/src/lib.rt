@@ -1,7 +1,7 @@
 // The fields of the two files: words, sums, readings, the opening bytes and the check word, read from and written to lent bytes.
 // A writer writes over the front of what it is lent and returns how much it wrote.
 ghost use mathlib.Core.Path.{_≡_};
-ghost use Prim.Native.Nat.{_+_, _*_, _%_, _^_, _≤_, _<_};
+ghost use Prim.Native.Nat.{_+_, _*_, _≤_, _<_};
 ghost use lib.ListN.{length, take, drop};
 ghost use Rattle.fields.specs.Words.{wordAt, wordsAt, wordBytes, wordsBytes};
 ghost use Rattle.fields.specs.Twos.{signedOf, bitsOf, sumAt, sumBytes, readingAt};
@@ -202,36 +202,51 @@ fn sum_words(s: &[u8]) -> u32
     sum
 }
 
-// The sum of the words of two parts of one length, modulo 2^32: at each step a word of each, added to a sum of its own.
-fn sum_both(s: &[u8], t: &[u8]) -> u32
-    requires { ⌜ length (now s) ≡ length (now t) ⌝ }
-    ensures { λ r. ⌜ r ≡ (checkOf (now (s .entry)) + checkOf (now (t .entry))) % 2 ^ 32 ⌝ }
-{
-    let mut first: u32 = 0;
-    let mut second: u32 = 0;
-    let mut at = 0;
-    while 4 <= s.len() - at {
-        first = std::num::wrapping_add_u32(first, word_at(s, at));
-        second = std::num::wrapping_add_u32(second, word_at(t, at));
-        at += 4;
-    }
-    std::num::wrapping_add_u32(first, second)
-}
-
-// The check word of the bytes s: the sum of their words, modulo 2^32. Blocks of 2,048 bytes are summed in two halves at once; the words behind the last block one by one.
-pub fn check_word(s: &[u8]) -> u32
+// The check word in blocks of 1,024 bytes, a length that the compiler unrolls; the words behind the last block one by one.
+fn sum_blocks(s: &[u8]) -> u32
     ensures { λ r. ⌜ r ≡ checkOf (now (s .entry)) ⌝ }
 {
     let mut sum: u32 = 0;
     let mut at = 0;
-    while 2048 <= s.len() - at {
-        let half = at + 1024;
-        let end = half + 1024;
-        let block = sum_both(&s[at..half], &s[half..end]);
-        sum = std::num::wrapping_add_u32(sum, block);
+    while 1024 <= s.len() - at {
+        let end = at + 1024;
+        sum = std::num::wrapping_add_u32(sum, sum_words(&s[at..end]));
         at = end;
     }
     std::num::wrapping_add_u32(sum, sum_words(&s[at..]))
+}
+
+// The check word from the back, so that the front, which is read next, is still in a cache: at each step four words, each added to a sum of its own.
+fn sum_back(s: &[u8]) -> u32
+    ensures { λ r. ⌜ r ≡ checkOf (now (s .entry)) ⌝ }
+{
+    let mut at = s.len() / 16 * 16;
+    let mut sum = sum_words(&s[at..]);
+    let mut first: u32 = 0;
+    let mut second: u32 = 0;
+    let mut third: u32 = 0;
+    let mut fourth: u32 = 0;
+    while 16 <= at {
+        at -= 16;
+        first = std::num::wrapping_add_u32(first, word_at(s, at));
+        second = std::num::wrapping_add_u32(second, word_at(s, at + 4));
+        third = std::num::wrapping_add_u32(third, word_at(s, at + 8));
+        fourth = std::num::wrapping_add_u32(fourth, word_at(s, at + 12));
+    }
+    sum = std::num::wrapping_add_u32(sum, first);
+    sum = std::num::wrapping_add_u32(sum, second);
+    sum = std::num::wrapping_add_u32(sum, third);
+    std::num::wrapping_add_u32(sum, fourth)
+}
+
+// The check word of the bytes s: the sum of their words, modulo 2^32. More than 2 MB, which seldom fit a second cache, are summed from the back.
+pub fn check_word(s: &[u8]) -> u32
+    ensures { λ r. ⌜ r ≡ checkOf (now (s .entry)) ⌝ }
+{
+    if 2097152 < s.len() {
+        return sum_back(s);
+    }
+    sum_blocks(s)
 }
 
 // Writes the check word of the first at bytes of out straight after them.
