@@ -17,7 +17,7 @@ pub fn sets_in(
     counts: &[u32],
     rows: usize,
     dims: usize,
-    sets: &[u32],
+    sets: &[u8],
     lens: &[u32],
 ) -> usize
     requires { ⌜ Listed dims rows (now codes) (now sums) (now counts) (now sets) (now lens) ⌝ }
@@ -39,7 +39,7 @@ fn put_base(
     counts: &[u32],
     rows: usize,
     dims: usize,
-    sets: &[u32],
+    sets: &[u8],
     lens: &[u32],
     row: usize,
 ) -> usize
@@ -62,7 +62,7 @@ pub fn put_bases(
     counts: &[u32],
     rows: usize,
     dims: usize,
-    sets: &[u32],
+    sets: &[u8],
     lens: &[u32],
 ) -> usize
     requires { ⌜ Listed dims rows (now codes) (now sums) (now counts) (now sets) (now lens) ⌝ }
@@ -95,7 +95,7 @@ fn match_base(
     counts: &[u32],
     rows: usize,
     dims: usize,
-    sets: &[u32],
+    sets: &[u8],
     lens: &[u32],
     row: usize,
 ) -> Walk
@@ -118,7 +118,7 @@ pub fn match_bases(
     counts: &[u32],
     rows: usize,
     dims: usize,
-    sets: &[u32],
+    sets: &[u8],
     lens: &[u32],
 ) -> Walk
     requires { ⌜ Listed dims rows (now codes) (now sums) (now counts) (now sets) (now lens) × (start ≤ length (now s)) ⌝ }

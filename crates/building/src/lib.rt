@@ -19,7 +19,7 @@ fn archive_len(
     sums: &[i64],
     counts: &[u32],
     rows: usize,
-    sets: &[u32],
+    sets: &[u8],
     lens: &[u32],
     cells: usize,
 ) -> usize
@@ -40,7 +40,7 @@ fn put_archive(
     sums: &[i64],
     counts: &[u32],
     rows: usize,
-    sets: &[u32],
+    sets: &[u8],
     lens: &[u32],
     store: &[u16],
     used: &[usize],
@@ -74,7 +74,7 @@ pub fn write_archive(
     let dims = sizes.len();
     let mut store = [0u16; 262144];
     let mut used = [0usize; 256];
-    let mut sets = [0u32; 71680];
+    let mut sets = [0u8; 71680];
     let mut lens = [0u32; 1024];
     let cells = condense::condense_rows(
         codes,

@@ -1,33 +1,25 @@
 // Base rows condensed: the groups that they form under each set, and our list of each row.
 ghost use mathlib.Core.Path.{_≡_};
+ghost use mathlib.Core.Bool.{_||_};
 ghost use mathlib.Core.List.{[], _∷_, _++_};
 ghost use Prim.Native.Nat.{ℕ, _*_, _^_, _≤_, _<_};
+ghost use lib.Dec.{eqb};
 ghost use lib.ListN.{length, getD, set as put};
-ghost use Rattle.lists.specs.Lists.{some};
-ghost use Rattle.lattice.specs.Sets.{full, holds};
+ghost use Rattle.lists.specs.Lists.{some, keep};
+ghost use Rattle.lattice.specs.Sets.{full};
 ghost use Rattle.cube.specs.Codes.{plain};
 ghost use Rattle.cube.specs.Condensed.{normals, Base};
 ghost use Rattle.rows.specs.Rows.{cut};
+ghost use Rattle.rowsets.specs.Rowsets.{has as hasRow};
 ghost use Rattle.deals.specs.Deals.{Names};
 ghost use Rattle.engine.specs.Index.{key, Valid};
 ghost use Rattle.slots.specs.Slots.{crowds, packed};
 ghost use Rattle.crowds.specs.Crowds.{Columns, shorter, leftOut, Holds, AllHold, Filled, ends};
-ghost use Rattle.condense.specs.Lists.{listsOf, Short, Fit, grown, ourLists};
-
-// Whether a set holds one that is listed.
-pub fn holds_listed(set: u32, list: &[u32]) -> bool
-    ensures { λ r. ⌜ r ≡ some (holds 32 set) (now (list .entry)) ⌝ }
-{
-    for i in 0..list.len() {
-        if lattice::holds_set(set, list[i]) {
-            return true;
-        }
-    }
-    false
-}
+ghost use Rattle.condense.specs.Lists.{listsOf, Short, Fit, noted, ourLists};
+ghost use Rattle.condense.specs.Alone.{wordsOf, passes, isNew, Lower, Stored, Told};
 
 // The list of a row.
-pub fn list_of<'a>(sets: &'a [u32], lens: &[u32], rows: usize, row: usize) -> &'a [u32]
+pub fn list_of<'a>(sets: &'a [u8], lens: &[u32], rows: usize, row: usize) -> &'a [u8]
     requires { ⌜ (rows * 70 ≤ length (now sets)) × (length (now lens) ≡ rows) × (row < rows) × Short rows (now lens) ⌝ }
     ensures { λ r. ⌜ now r ≡ getD (listsOf rows (now (sets .entry)) (now (lens .entry))) row [] ⌝ }
 {
@@ -37,7 +29,7 @@ pub fn list_of<'a>(sets: &'a [u32], lens: &[u32], rows: usize, row: usize) -> &'
 }
 
 // Puts a set behind the list of a row.
-fn note_at(sets: &mut [u32], lens: &mut [u32], rows: usize, row: usize, set: u32)
+fn note_at(sets: &mut [u8], lens: &mut [u32], rows: usize, row: usize, set: u8)
     requires { ⌜ (rows * 70 ≤ length (now sets)) × (length (now lens) ≡ rows) × (row < rows) × Short rows (now lens) × (getD (now lens) row 0 < 70) ⌝ }
     ensures { λ _. ⌜ listsOf rows (now (sets .exit)) (now (lens .exit)) ≡ put (listsOf rows (now (sets .entry)) (now (lens .entry))) row (getD (listsOf rows (now (sets .entry)) (now (lens .entry))) row [] ++ set ∷ []) ⌝ }
     ensures { λ _. ⌜ Short rows (now (lens .exit)) ⌝ }
@@ -47,55 +39,101 @@ fn note_at(sets: &mut [u32], lens: &mut [u32], rows: usize, row: usize, set: u32
     lens[row] = lens[row] + 1;
 }
 
-// Puts a set behind the lists of the rows in `lone` that are open on it.
-fn note_lone(lone: &[u32], set: u32, sets: &mut [u32], lens: &mut [u32], rows: usize)
+// Puts a set behind the lists of the rows in `lone`.
+fn note_lone(lone: &[u32], set: u8, sets: &mut [u8], lens: &mut [u32], rows: usize)
     requires { ⌜ (rows * 70 ≤ length (now sets)) × (length (now lens) ≡ rows) × Short rows (now lens) × Names (now lone) rows ⌝ }
-    requires { ⌜ Fit (grown set (now lone) (listsOf rows (now sets) (now lens))) ⌝ }
-    ensures { λ _. ⌜ listsOf rows (now (sets .exit)) (now (lens .exit)) ≡ grown set (now (lone .entry)) (listsOf rows (now (sets .entry)) (now (lens .entry))) ⌝ }
+    requires { ⌜ Fit (noted set (now lone) (listsOf rows (now sets) (now lens))) ⌝ }
+    ensures { λ _. ⌜ listsOf rows (now (sets .exit)) (now (lens .exit)) ≡ noted set (now (lone .entry)) (listsOf rows (now (sets .entry)) (now (lens .entry))) ⌝ }
     ensures { λ _. ⌜ Short rows (now (lens .exit)) ⌝ }
 {
     for i in 0..lone.len() {
-        let row = lone[i] as usize;
-        let mine = list_of(sets, lens, rows, row);
-        if holds_listed(set, mine) {
+        note_at(sets, lens, rows, lone[i] as usize, set);
+    }
+}
+
+// Sets all words to 0.
+fn clear(words: &mut [u32])
+    ensures { λ _. ⌜ (length (now (words .exit)) ≡ length (now (words .entry))) × ((i : ℕ) → i < length (now (words .entry)) → getD (now (words .exit)) i 0 ≡ 0) ⌝ }
+{
+    for i in 0..words.len() {
+        words[i] = 0;
+    }
+}
+
+// The words of a set.
+fn words_of<'a>(alone: &'a [u32], set: usize) -> &'a [u32]
+    requires { ⌜ (8192 ≤ length (now alone)) × (set < 256) ⌝ }
+    ensures { λ r. ⌜ now r ≡ wordsOf (now (alone .entry)) set ⌝ }
+{
+    let from = set * 32;
+    let to = from + 32;
+    &alone[from..to]
+}
+
+// The rows that are passed over at a set: those that are single on the set without one of its dimensions.
+fn pass_rows(alone: &[u32], set: u32, passed: &mut [u32])
+    requires { ⌜ (8192 ≤ length (now alone)) × (set < 256) × (length (now passed) ≡ 32) ⌝ }
+    ensures { λ _. ⌜ (length (now (passed .exit)) ≡ 32) × ((x : ℕ) → hasRow (now (passed .exit)) x ≡ passes 8 (now (alone .entry)) set x) ⌝ }
+{
+    clear(passed);
+    for d in 0..8 {
+        let one = lattice::sets_of(d);
+        if !lattice::holds_set(set, one) {
             continue;
         }
-        note_at(sets, lens, rows, row, set);
+        rowsets::join(passed, words_of(alone, (set - one) as usize));
     }
 }
 
-// No list has a set.
-fn clear(lens: &mut [u32])
-    ensures { λ _. ⌜ (length (now (lens .exit)) ≡ length (now (lens .entry))) × ((i : ℕ) → i < length (now (lens .entry)) → getD (now (lens .exit)) i 0 ≡ 0) ⌝ }
+// Adds rows to a set of rows.
+fn add_rows(rows: &[u32], words: &mut [u32])
+    requires { ⌜ Names (now rows) 1024 × (length (now words) ≡ 32) ⌝ }
+    ensures { λ _. ⌜ (length (now (words .exit)) ≡ 32) × ((x : ℕ) → hasRow (now (words .exit)) x ≡ some (eqb x) (now (rows .entry)) || hasRow (now (words .entry)) x) ⌝ }
 {
-    for i in 0..lens.len() {
-        lens[i] = 0;
+    for i in 0..rows.len() {
+        rowsets::add(words, rows[i]);
     }
 }
 
-// One set more: its slot is filled, and it is put behind the lists of the open rows that are left out there. Returns how many cells of it rows share.
+// Puts words into those of a set.
+fn put_words(words: &[u32], set: usize, alone: &mut [u32])
+    requires { ⌜ (length (now words) ≡ 32) × (set < 256) × (8192 ≤ length (now alone)) ⌝ }
+    ensures { λ _. ⌜ Stored (now (words .entry)) (now (alone .entry)) (now (alone .exit)) set ⌝ }
+{
+    let from = set * 32;
+    for i in 0..32 {
+        alone[from + i] = words[i];
+    }
+}
+
+// One set more: its slot is filled, and it is put behind the lists of the rows that come out alone there and on no smaller set. Returns how many cells of it rows share.
 fn list_set(
     codes: &[u32],
     rows: usize,
     dims: usize,
     columns: &[u32],
     set: u32,
+    alone: &mut [u32],
+    passed: &mut [u32],
     store: &mut [u16],
     sizes: &mut [usize],
     order: &mut [u32],
-    spare: &mut [u32],
-    old: &mut [u16],
+    marks: &mut [u32],
+    next: &mut [u32],
     lone: &mut [u32],
-    sets: &mut [u32],
+    sets: &mut [u8],
     lens: &mut [u32],
 ) -> usize
     requires { ⌜ (rows ≤ 1024) × Valid dims (cut dims rows (now codes)) × (dims ≤ 8) × Columns dims rows (now codes) (now columns) × (set < 2 ^ dims) × (1 ≤ set → Holds 2 dims rows (now codes) (now store) (now sizes) (shorter set)) ⌝ }
-    requires { ⌜ (262144 ≤ length (now store)) × (256 ≤ length (now sizes)) × (length (now order) ≡ 1024) × (length (now spare) ≡ 1024) × (length (now old) ≡ 1024) × (length (now lone) ≡ 1024) ⌝ }
-    requires { ⌜ (rows * 70 ≤ length (now sets)) × (length (now lens) ≡ rows) × Short rows (now lens) × Fit (grown set (leftOut 2 (cut dims rows (now codes)) rows set) (listsOf rows (now sets) (now lens))) ⌝ }
+    requires { ⌜ (262144 ≤ length (now store)) × (256 ≤ length (now sizes)) × (length (now order) ≡ 1024) × (length (now marks) ≡ 1024) × (length (now next) ≡ 1026) × (length (now lone) ≡ 1024) ⌝ }
+    requires { ⌜ (8192 ≤ length (now alone)) × (length (now passed) ≡ 32) × Lower dims rows (now codes) (now alone) set ⌝ }
+    requires { ⌜ (rows * 70 ≤ length (now sets)) × (length (now lens) ≡ rows) × Short rows (now lens) × Fit (noted set (keep (isNew (now alone) set) (leftOut 2 (cut dims rows (now codes)) rows set)) (listsOf rows (now sets) (now lens))) ⌝ }
     ensures { λ r. ⌜ Filled 2 dims rows (now (codes .entry)) (now (store .entry)) (now (sizes .entry)) (now (store .exit)) (now (sizes .exit)) set ⌝ }
-    ensures { λ r. ⌜ (listsOf rows (now (sets .exit)) (now (lens .exit)) ≡ grown set (leftOut 2 (cut dims rows (now (codes .entry))) rows set) (listsOf rows (now (sets .entry)) (now (lens .entry)))) × Short rows (now (lens .exit)) ⌝ }
+    ensures { λ r. ⌜ Told dims rows (now (codes .entry)) (now (alone .entry)) (now (alone .exit)) set ⌝ }
+    ensures { λ r. ⌜ (listsOf rows (now (sets .exit)) (now (lens .exit)) ≡ noted set (keep (isNew (now (alone .entry)) set) (leftOut 2 (cut dims rows (now (codes .entry))) rows set)) (listsOf rows (now (sets .entry)) (now (lens .entry)))) × Short rows (now (lens .exit)) ⌝ }
     ensures { λ r. ⌜ r ≡ ends (packed (crowds 2 (key set (cut dims rows (now (codes .entry)))) rows)) ⌝ }
 {
+    pass_rows(alone, set, passed);
     let n = crowds::fill_set(
         codes,
         rows,
@@ -103,14 +141,18 @@ fn list_set(
         columns,
         2,
         set,
+        passed,
         store,
         sizes,
         order,
-        spare,
-        old,
+        marks,
+        next,
         lone,
     );
-    note_lone(&lone[..n], set, sets, lens, rows);
+    let new = &lone[..n];
+    note_lone(new, set as u8, sets, lens, rows);
+    add_rows(new, passed);
+    put_words(passed, set as usize, alone);
     let slot = crowds::slot_of(store, sizes, set as usize);
     crowds::count_groups(slot)
 }
@@ -122,7 +164,7 @@ pub fn condense_rows(
     dims: usize,
     store: &mut [u16],
     sizes: &mut [usize],
-    sets: &mut [u32],
+    sets: &mut [u8],
     lens: &mut [u32],
 ) -> usize
     requires { ⌜ (rows ≤ 1024) × (dims ≤ 8) × (rows * dims ≡ length (now codes)) × Base (plain dims) (cut dims rows (now codes)) ⌝ }
@@ -131,10 +173,12 @@ pub fn condense_rows(
     ensures { λ r. ⌜ (listsOf rows (now (sets .exit)) (now (lens .exit)) ≡ ourLists dims (cut dims rows (now (codes .entry)))) × Short rows (now (lens .exit)) ⌝ }
     ensures { λ r. ⌜ r ≡ length (normals (plain dims) (cut dims rows (now (codes .entry)))) ⌝ }
 {
-    let mut columns = [0u32; 8192];
+    let mut columns = [0u32; 16384];
+    let mut alone = [0u32; 8192];
+    let mut passed = [0u32; 32];
     let mut order = [0u32; 1024];
-    let mut spare = [0u32; 1024];
-    let mut old = [0u16; 1024];
+    let mut marks = [0u32; 1024];
+    let mut next = [0u32; 1026];
     let mut lone = [0u32; 1024];
     clear(lens);
     crowds::read_columns(codes, rows, dims, &mut columns);
@@ -151,11 +195,13 @@ pub fn condense_rows(
             dims,
             &columns,
             set,
+            &mut alone,
+            &mut passed,
             store,
             sizes,
             &mut order,
-            &mut spare,
-            &mut old,
+            &mut marks,
+            &mut next,
             &mut lone,
             sets,
             lens,

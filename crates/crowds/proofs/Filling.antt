@@ -1,26 +1,33 @@
--- A slot is filled from another one; columns are read one after the other.
-use mathlib.Core.Path.{_≡_, refl, sym, ap, subst, _∙_}
-use mathlib.Core.List.{List, [], _++_, map}
+-- A slot is filled from another one.
+use mathlib.Core.Path.{_≡_, refl, sym, ap, ap₂, subst, _∙_}
+use mathlib.Core.Bool.{Bool, true, not}
+use mathlib.Core.List.{List, [], _∷_, _++_, map}
 use Prim.Native.Nat.{ℕ, zero, suc, _+_, _*_, _^_, _≤_, _<_}
 use native.Mathlib.Omega.{arith}
 use native.Mathlib.Numerals.{add-one}
-use lib.Dec.{eqb}
+use lib.Dec.{ltb}
 use lib.Pow.{pow-mono}
-use lib.ListN.{length, getD, take, drop, set, drop-of-length-le}
-use lib.Seq.{getD-set-same, getD-set-other, drop-cons, take-all}
-use borrow.Author.Tests.{eqb-true, eqb-false}
+use lib.ListN.{length, getD, take, drop, set, drop-of-length-le, replicate, length-replicate, getD-replicate, List·getD-eq-default}
+use lib.Seq.{getD-set-same, getD-set-other, drop-cons}
+use borrow.Author.Tests.{ltb-true, ltb-false}
+use Rattle.lists.specs.Lists.{_∈_, keep}
+use Rattle.lists.specs.Order.{same}
 use Rattle.lists.proofs.Tests.{cases, truth}
+use Rattle.lists.proofs.Members.{at-in, keep-in}
 use Rattle.deals.specs.Deals.{Names}
+use Rattle.rowsets.specs.Rowsets.{stays}
+use Rattle.rowsets.proofs.Bits.{has-none}
 use Rattle.rows.specs.Rows.{cut}
 use Rattle.rows.proofs.Rows.{cut-length}
-use Rattle.engine.specs.Index.{key, columnOf, Valid}
+use Rattle.engine.specs.Index.{key, arranged, columnOf, Valid}
 use Rattle.engine.proofs.Columns.{column-small, column-length}
+use Rattle.engine.proofs.Sorted.{stable-in}
 use Rattle.engine.proofs.Refined.{Refined}
-use Rattle.slots.specs.Slots.{crowds, packed, rowIn, endIn, codeIn, loneRows, splitKept, splitLeft, eachGroup}
-use Rattle.slots.proofs.Entries.{slot-rows, slot-length, flat-few, flat-names}
-use Rattle.slots.proofs.Split.{split-kept, split-left}
+use Rattle.slots.specs.Slots.{crowds, packed, rowIn, endIn, codeIn, loneRows, slotFrom, loneFrom, out, markIn, markKey, splitOrder, Slot}
+use Rattle.slots.proofs.Split.{slot-same, lone-same, split-kept, split-left}
+use Rattle.slots.proofs.Slotted.{slot-few, slot-in}
 use Rattle.slots.proofs.Last.{last-refined}
-use Rattle.crowds.specs.Crowds.{part, Columns, place, shorter, leftOut, Holds, Filled, ends}
+use Rattle.crowds.specs.Crowds.{part, Columns, Passing, place, shorter, leftOut, Holds, Filled, ends}
 use Rattle.crowds.proofs.Shorter.{shorter-last, shorter-and, shorter-place}
 use Rattle.crowds.proofs.Parts.{part-here, part-other}
 
@@ -34,7 +41,7 @@ left-next least xs n (suc s) h = refl
 
 -- ---- the groups of the set without its last dimension are split
 
-pub record Next (least d n : ℕ) (codes columns column store sizes : List ℕ) (s : ℕ) (old : List ℕ) : Type 0 where
+pub record Next (least d n : ℕ) (codes columns column rising passed store sizes : List ℕ) (s : ℕ) (old : List ℕ) : Type 0 where
   pub low : 1 ≤ least
   pub high : least ≤ 2
   pub few : n ≤ 1024
@@ -44,10 +51,12 @@ pub record Next (least d n : ℕ) (codes columns column store sizes : List ℕ) 
   pub within : s < 2 ^ d
   pub told : Columns d n codes columns
   pub is-column : column ≡ part (place s) n columns
+  pub is-rising : rising ≡ part (8 + place s) n columns
+  pub passing : Passing least d n codes passed s
   pub held : Holds least d n codes store sizes (shorter s)
   pub is-old : old ≡ part (shorter s) (getD sizes (shorter s) 0) store
 
-module _ {least d n : ℕ} {codes columns column store sizes : List ℕ} {s : ℕ} {old : List ℕ} (x : Next least d n codes columns column store sizes s old) where
+module _ {least d n : ℕ} {codes columns column rising passed store sizes : List ℕ} {s : ℕ} {old : List ℕ} (x : Next least d n codes columns column rising passed store sizes s old) where
   abbrev xs : List (List ℕ)
   xs = cut d n codes
 
@@ -61,26 +70,53 @@ module _ {least d n : ℕ} {codes columns column store sizes : List ℕ} {s : �
   refined = subst (λ (l : List ℕ). Refined n (key (shorter s) xs) (codeIn l) (key s xs)) (sym by-last)
       (last-refined d n (place s) s (shorter s) codes (x .valid) last (shorter-last s (x .one) (x .small)) (shorter-and s (x .one) (x .small)))
 
-  codes-small : (i : ℕ) → getD column i 0 < 65536
-  codes-small = subst (λ (l : List ℕ). (i : ℕ) → getD l i 0 < 65536) (sym by-last) (column-small d (place s) xs (x .valid))
+  pub next-small : (i : ℕ) → getD column i 0 < 65536
+  next-small = subst (λ (l : List ℕ). (i : ℕ) → getD l i 0 < 65536) (sym by-last) (column-small d (place s) xs (x .valid))
 
   whole : old ≡ packed (crowds least (key (shorter s) xs) n)
   whole = x .is-old ∙ x .held .slot
 
-  pub next-few : length old ≤ n
-  next-few = subst (λ (k : ℕ). k ≤ n) (sym (ap length whole ∙ slot-length (key (shorter s) xs) n least (x .few))) (flat-few (key (shorter s) xs) n least (x .few))
-
-  pub next-names : Names (map rowIn old) n
-  next-names = subst (λ (l : List ℕ). Names l n) (sym (ap (map rowIn) whole ∙ slot-rows (key (shorter s) xs) n least (x .few))) (flat-names (key (shorter s) xs) n least (x .few))
-
-  pub next-kept : eachGroup (splitKept column least) [] old ≡ packed (crowds least (key s xs) n)
-  next-kept = ap (eachGroup (splitKept column least) []) whole ∙ split-kept column refined codes-small least (x .low) (x .high) (x .few)
-
-  pub next-left : eachGroup (splitLeft column least) [] old ≡ leftOut least xs n s
-  next-left = ap (eachGroup (splitLeft column least) []) whole ∙ split-left column refined codes-small least (x .low) (x .high) (x .few) ∙ sym (left-next least xs n s (x .one))
-
   pub next-column : length column ≡ n
   next-column = ap length by-last ∙ column-length (place s) xs ∙ cut-length d n codes
+
+  pub next-slot : Slot (length column) old
+  next-slot = subst (λ (k : ℕ). Slot k old) (sym next-column) (record { least = least; by = key (shorter s) xs; groups = whole })
+
+  pub next-rising : rising ≡ arranged (codeIn column) (length column)
+  next-rising =
+      x .is-rising ∙ x .told .order (place s) last
+      ∙ subst (λ (k : ℕ). arranged (codeIn (columnOf (place s) xs)) n ≡ arranged (codeIn (columnOf (place s) xs)) k) (sym next-column) refl
+      ∙ ap (λ (l : List ℕ). arranged (codeIn l) (length column)) (sym by-last)
+
+  pub next-few : length old ≤ n
+  next-few = slot-few (x .few) (record { least = least; by = key (shorter s) xs; groups = whole })
+
+  -- the rows that were split, in order and marked
+  module _ (order marks : List ℕ) (e : order ≡ splitOrder (stays passed) column old) (h : (y : ℕ) → y ∈ map rowIn old → getD marks y 0 ≡ markIn (stays passed) column 0 0 old y out) where
+    abbrev p : ℕ → Bool
+    p = stays passed
+
+    inside : {y : ℕ} → y ∈ splitOrder p column old → y ∈ map rowIn old
+    inside m = keep-in p (map rowIn old) (stable-in (markKey p column old) (keep p (map rowIn old)) m) .0
+
+    tell : (y z : ℕ) → y ∈ splitOrder p column old → z ∈ splitOrder p column old → same (codeIn marks y) (codeIn marks z) ≡ same (markKey p column old y) (markKey p column old z)
+    tell y z i j = ap₂ (λ (a b : ℕ). same (a ∷ []) (b ∷ [])) (h y (inside i)) (h z (inside j))
+
+    pub next-names : Names order n
+    next-names k l = slot-in (x .few) (record { least = least; by = key (shorter s) xs; groups = whole }) (getD order k 0) (inside (subst (λ (z : List ℕ). getD order k 0 ∈ z) e (at-in 0 order k l)))
+
+    pub next-kept : slotFrom (codeIn marks) least true order ≡ packed (crowds least (key s xs) n)
+    next-kept =
+        ap (slotFrom (codeIn marks) least true) e ∙ slot-same (codeIn marks) (markKey p column old) least true (splitOrder p column old) tell
+        ∙ ap (λ (l : List ℕ). slotFrom (markKey p column l) least true (splitOrder p column l)) whole
+        ∙ split-kept p column refined next-small least (x .low) (x .high) (x .few) (x .passing .sound)
+
+    pub next-left : loneFrom (codeIn marks) least true order ≡ keep p (leftOut least xs n s)
+    next-left =
+        ap (loneFrom (codeIn marks) least true) e ∙ lone-same (codeIn marks) (markKey p column old) least true (splitOrder p column old) tell
+        ∙ ap (λ (l : List ℕ). loneFrom (markKey p column l) least true (splitOrder p column l)) whole
+        ∙ split-left p column refined next-small least (x .low) (x .high) (x .few) (x .passing .sound)
+        ∙ ap (keep p) (sym (left-next least xs n s (x .one)))
 
 -- ---- a slot is filled
 
@@ -104,21 +140,6 @@ module _ (least d n : ℕ) (codes store sizes p : List ℕ) (s a k len : ℕ) (f
     };
   }
 
--- ---- columns
-
--- the columns before that of dimension i are read
-abbrev pub Reading : ℕ → ℕ → List ℕ → List ℕ → ℕ → Type 0
-Reading d n codes columns i = (j : ℕ) → j < i → part j n columns ≡ columnOf j (cut d n codes)
-
-pub reading-more : (d n : ℕ) (codes columns p : List ℕ) (i k : ℕ) → n ≤ 1024 → i < 8 → 8192 ≤ length columns → k ≡ n → length p ≡ k → p ≡ columnOf i (cut d n codes)
-    → Reading d n codes columns i → Reading d n codes (take (i * 1024) columns ++ (p ++ drop k (drop (i * 1024) columns))) (i + 1)
-reading-more d n codes columns p i k few low room ek lk e r j h =
-    let small : k ≤ 1024 = omega (arith, ek, few) in
-    let fits : i * 1024 + k ≤ length columns = omega (arith, small, low, room) in
-    cases (truth (eqb j i))
-    (λ q. rw (eqb-true j i q) (part-here columns p i (i * 1024) k refl lk small fits n (omega (arith, ek)) ∙ take-all n p (omega (arith, lk, ek)) ∙ e))
-    (λ q. let w = eqb-false j i q in part-other columns p i (i * 1024) k refl lk small fits j n few w ∙ r j (omega (arith, h, w)))
-
 -- ---- groups counted
 
 pub ends-next : (l : List ℕ) (i : ℕ) → i < length l → ends (drop i l) ≡ endIn (getD l i 0) + ends (drop (i + 1) l)
@@ -126,3 +147,22 @@ ends-next l i h = rw (add-one, drop-cons l i 0 h)
 
 pub ends-done : (l : List ℕ) (i : ℕ) → length l ≤ i → ends (drop i l) ≡ 0
 ends-done l i h = rw (drop-of-length-le l h)
+
+-- ---- no row is passed over
+
+abbrev none : List ℕ
+none = replicate 32 0
+
+none-long : length none ≡ 32
+none-long = length-replicate {A = ℕ} 32 0
+
+none-passed : (x : ℕ) → stays none x ≡ true
+none-passed x = ap not (has-none none zeros x)
+  where
+    zeros : (i : ℕ) → getD none i 0 ≡ 0
+    zeros i = cases (truth (ltb i 32))
+        (λ t. getD-replicate 32 i 0 0 (ltb-true i 32 t))
+        (λ t. List·getD-eq-default none 0 {n = i} (omega (arith, none-long, ltb-false i 32 t)))
+
+pub passing-none : (least d n : ℕ) (codes : List ℕ) (s : ℕ) → Passing least d n codes none s
+passing-none least d n codes s = record { room = none-long; sound = λ x h t. none-passed x; first = λ e x. none-passed x }

@@ -1,7 +1,8 @@
 -- The groups of rows under all sets, in one flat array: the slot of set s starts at 1024 * s. The codes of the rows in one dimension stand in another in the same way.
 --
 --   part i n l          the first n elements of part i of a flat list
---   Columns d n ..      the columns of n rows of d codes
+--   Columns d n ..      the columns of n rows of d codes; and behind them, for each, the rows in the order of their codes
+--   Passing ..          rows may be passed over at set s: none of them shares its cell, and at the empty set there are none
 --   Holds ..            the slot of set s has the groups that the rows form by their cells under s
 --   AllHold .. m        so have the slots of all sets below m
 --   Filled ..           the slot of set s is filled, and the others are as they were
@@ -11,20 +12,28 @@
 --   ends l              how many groups a slot has
 use mathlib.Core.Path.{_≡_}
 use mathlib.Core.Logic.{_≢_}
+use mathlib.Core.Bool.{true}
 use mathlib.Core.List.{List, [], _∷_}
 use Prim.Native.Nat.{ℕ, zero, suc, _+_, _-_, _*_, _^_, _≤_, _<_}
 use lib.Count.{leadingZeros}
 use lib.ListN.{length, getD, take, drop}
 use Rattle.rows.specs.Rows.{cut}
-use Rattle.engine.specs.Index.{key, columnOf}
-use Rattle.slots.specs.Slots.{crowds, loners, loneRows, packed, endIn}
+use Rattle.rowsets.specs.Rowsets.{stays}
+use Rattle.engine.specs.Index.{key, arranged, columnOf}
+use Rattle.slots.specs.Slots.{crowds, shares, loners, loneRows, packed, endIn, codeIn}
 
 abbrev pub part : ℕ → ℕ → List ℕ → List ℕ
 part i n l = take n (drop (i * 1024) l)
 
 pub record Columns (d n : ℕ) (codes columns : List ℕ) : Type 0 where
-  pub room : 8192 ≤ length columns
+  pub room : 16384 ≤ length columns
   pub column : (i : ℕ) → i < d → part i n columns ≡ columnOf i (cut d n codes)
+  pub order : (i : ℕ) → i < d → part (8 + i) n columns ≡ arranged (codeIn (columnOf i (cut d n codes))) n
+
+pub record Passing (least d n : ℕ) (codes passed : List ℕ) (s : ℕ) : Type 0 where
+  pub room : length passed ≡ 32
+  pub sound : (x : ℕ) → x < n → shares least (key s (cut d n codes)) n x ≡ true → stays passed x ≡ true
+  pub first : s ≡ 0 → (x : ℕ) → stays passed x ≡ true
 
 abbrev pub place : ℕ → ℕ
 place s = 31 - leadingZeros 32 s

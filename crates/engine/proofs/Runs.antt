@@ -146,7 +146,7 @@ module _ (key : ℕ → List ℕ) where
   attach-append : (x : ℕ) (r : Run) (rs qs : List Run) → attach key x (r ∷ rs ++ qs) ≡ attach key x (r ∷ rs) ++ qs
   attach-append x r rs qs = cases (truth (earlier (key x) (cellOf r))) (λ e. rw e) (λ e. rw e)
 
-  runs-append : (l m : List ℕ) → ((x y : ℕ) → x ∈ l → y ∈ m → earlier (key x) (key y) ≡ true) → runs key (l ++ m) ≡ runs key l ++ runs key m
+  pub runs-append : (l m : List ℕ) → ((x y : ℕ) → x ∈ l → y ∈ m → earlier (key x) (key y) ≡ true) → runs key (l ++ m) ≡ runs key l ++ runs key m
   unfolding runs
   runs-append [] m h = refl
   runs-append (x ∷ []) [] h = refl

@@ -5,6 +5,8 @@ use entries::ArchiveRead;
 ghost use mathlib.Core.Path.{_≡_};
 ghost use Prim.Native.Nat.{_*_, _^_, _≤_, _<_};
 ghost use lib.ListN.{length, take};
+ghost use Rattle.lists.specs.Lists.{some};
+ghost use Rattle.lattice.specs.Sets.{holds};
 ghost use Rattle.cube.specs.Codes.{agree, plain};
 ghost use Rattle.cube.specs.Keys.{fixes as fixing};
 ghost use Rattle.engine.specs.Index.{Valid};
@@ -102,6 +104,18 @@ fn is_bare(dims: usize, used: &[usize], set: u32) -> bool
     used[set as usize] == 0
 }
 
+// Whether a set holds one that is listed.
+fn holds_listed(set: u32, list: &[u32]) -> bool
+    ensures { λ r. ⌜ r ≡ some (holds 32 set) (now (list .entry)) ⌝ }
+{
+    for i in 0..list.len() {
+        if lattice::holds_set(set, list[i]) {
+            return true;
+        }
+    }
+    false
+}
+
 // The smallest sets of which no cell is shared, over the front of a lent list. Returns how many there are.
 fn list_bare(dims: usize, used: &[usize], list: &mut [u32]) -> usize
     requires { ⌜ (dims ≤ 8) × (256 ≤ length (now used)) × (length (leastBare dims (now used)) ≤ 70) × (70 ≤ length (now list)) ⌝ }
@@ -114,7 +128,7 @@ fn list_bare(dims: usize, used: &[usize], list: &mut [u32]) -> usize
         if all <= set {
             continue;
         }
-        if condense::holds_listed(set, &list[..n]) {
+        if holds_listed(set, &list[..n]) {
             continue;
         }
         if !is_bare(dims, used, set) {

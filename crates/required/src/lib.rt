@@ -28,7 +28,7 @@ fn match_sections(
     counts: &[u32],
     rows: usize,
     dims: usize,
-    sets: &[u32],
+    sets: &[u8],
     lens: &[u32],
     store: &[u16],
     used: &[usize],
@@ -61,7 +61,7 @@ fn judge(
     counts: &[u32],
     rows: usize,
     dims: usize,
-    sets: &mut [u32],
+    sets: &mut [u8],
     lens: &mut [u32],
     store: &mut [u16],
     used: &mut [usize],
@@ -105,7 +105,7 @@ fn is_required(
     ensures { λ r. ⌜ r ≡ same (now (s .entry)) (archiveBytes (wordsAt (now (s .entry)) dims 8) (rowsOf dims rows (now (codes .entry)) (now (sums .entry)) (now (counts .entry)))) ⌝ }
     ensures { λ r. ⌜ Sharing dims rows (now (codes .entry)) (now (used .exit)) ⌝ }
 {
-    let mut sets = [0u32; 71680];
+    let mut sets = [0u8; 71680];
     let mut lens = [0u32; 1024];
     let mut store = [0u16; 262144];
     judge(

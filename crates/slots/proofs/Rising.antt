@@ -9,11 +9,12 @@ use Rattle.lists.proofs.Tests.{cases}
 use Rattle.lists.proofs.Members.{keep-in}
 use Rattle.lists.proofs.Pairwise.{pairwise-keep, pairwise-of-map}
 use Rattle.lists.proofs.Order.{same-eq}
+use Rattle.engine.specs.Index.{arranged}
 use Rattle.engine.specs.Runs.{Run, members, runs}
 use Rattle.engine.specs.Few.{Ordered}
-use Rattle.engine.proofs.Arranged.{alike}
+use Rattle.engine.proofs.Arranged.{alike, arranged-ordered}
 use Rattle.engine.proofs.Runs.{cellOf, runs-rising, runs-whole}
-use Rattle.slots.specs.Slots.{flat}
+use Rattle.slots.specs.Slots.{flat, large, crowds}
 
 module _ (key : ℕ → List ℕ) where
   abbrev pub Split : List Run → Type 0
@@ -40,3 +41,8 @@ module _ (key : ℕ → List ℕ) where
       sym (same-eq (cellOf key r) (key x) (keep-in (alike key (cellOf key r)) l (subst (λ (z : List ℕ). x ∈ z) w i) .1)))
       (pairwise-keep (λ r s. earlier (cellOf key r) (cellOf key s) ≡ true) q (runs key l)
       (pairwise-of-map (λ x y. earlier x y ≡ true) (cellOf key) (runs key l) (runs-rising key l o)))
+
+-- the groups of rows do so
+pub crowds-rise : (key : ℕ → List ℕ) (n least : ℕ) → Split key (crowds least key n)
+unfolding crowds
+crowds-rise key n least = split-runs key (large least) (arranged key n) (arranged-ordered key n)

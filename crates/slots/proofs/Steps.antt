@@ -4,13 +4,14 @@ use mathlib.Core.Bool.{Bool, true, false, not}
 use mathlib.Core.List.{List, [], _∷_, _++_, append-assoc, append-nil}
 use Prim.Native.Nat.{ℕ, _+_, _≤_, _<_}
 use native.Mathlib.Numerals.{add-one}
+use native.Mathlib.Omega.{arith}
 use lib.Dec.{eqb}
 use lib.ListN.{length, getD, take, drop, set, drop-of-length-le}
-use lib.Seq.{take-suc-set, drop-cons}
+use lib.Seq.{take-suc-set, take-set-le, drop-cons}
 use Rattle.lists.specs.Lists.{only}
 use Rattle.lists.specs.Order.{same}
 use Rattle.lists.proofs.Tests.{cases, truth}
-use Rattle.slots.specs.Slots.{codeIn, marked, isLone, entry, closes, slotFrom, loneFrom}
+use Rattle.slots.specs.Slots.{codeIn, marked, isLone, staying, entry, closes, slotFrom, loneFrom}
 
 -- ---- the last row of a group
 
@@ -44,7 +45,7 @@ module _ (key : ℕ → List ℕ) (least : ℕ) (order : List ℕ) where
     left-step : take alone lone ++ only (isLone least first last) x (loneFrom key least last (drop (i + 1) order)) ≡ loneFrom key least true order
     left-step = rw (e, add-one) (subst (λ (l : List ℕ). take alone lone ++ loneFrom key least first l ≡ loneFrom key least true order) (drop-cons order i 0 h) (p .left))
 
-    pub packing-lone : isLone least first last ≡ true → alone < length lone → Packing slot (set lone alone x) len (alone + 1) last (i + 1)
+    packing-lone : isLone least first last ≡ true → alone < length lone → Packing slot (set lone alone x) len (alone + 1) last (i + 1)
     packing-lone t k = record {
       kept = subst (λ (b : Bool). take len slot ++ entry b last x (slotFrom key least last (drop (i + 1) order)) ≡ slotFrom key least true order) t kept-step;
       left =
@@ -53,7 +54,7 @@ module _ (key : ℕ → List ℕ) (least : ℕ) (order : List ℕ) where
           ∙ subst (λ (b : Bool). take alone lone ++ only b x (loneFrom key least last (drop (i + 1) order)) ≡ loneFrom key least true order) t left-step;
     }
 
-    pub packing-kept : isLone least first last ≡ false → len < length slot → (v : ℕ) → v ≡ marked last x → Packing (set slot len v) lone (len + 1) alone last (i + 1)
+    packing-kept : isLone least first last ≡ false → len < length slot → (v : ℕ) → v ≡ marked last x → Packing (set slot len v) lone (len + 1) alone last (i + 1)
     packing-kept t k v q = record {
       kept =
           ap (λ (l : List ℕ). l ++ slotFrom key least last (drop (i + 1) order)) (ap (λ (z : ℕ). take z (set slot len v)) (add-one len) ∙ take-suc-set slot len v k)
@@ -62,6 +63,19 @@ module _ (key : ℕ → List ℕ) (least : ℕ) (order : List ℕ) where
           (subst (λ (b : Bool). take len slot ++ entry b last x (slotFrom key least last (drop (i + 1) order)) ≡ slotFrom key least true order) t kept-step);
       left = subst (λ (b : Bool). take alone lone ++ only b x (loneFrom key least last (drop (i + 1) order)) ≡ loneFrom key least true order) t left-step;
     }
+
+    -- what is written where nothing is counted does not matter
+    pub packing-more : len < length slot → alone < length lone → {t : Bool} {v len' alone' : ℕ} → t ≡ isLone least first last → v ≡ marked last x → len' ≡ staying (not t) len → alone' ≡ staying t alone
+        → Packing (set slot len v) (set lone alone x) len' alone' last (i + 1)
+    packing-more k l {t} {v} {len'} {alone'} q w f g = rw (f, g) (both-ways t q)
+      where
+        both-ways : (t : Bool) → t ≡ isLone least first last → Packing (set slot len v) (set lone alone x) (staying (not t) len) (staying t alone) last (i + 1)
+        both-ways true q =
+            let r = packing-lone (sym q) l in
+            record { kept = ap (λ (m : List ℕ). m ++ slotFrom key least last (drop (i + 1) order)) (take-set-le len slot len v (omega arith)) ∙ r .kept; left = r .left }
+        both-ways false q =
+            let r = packing-kept (sym q) k v w in
+            record { kept = r .kept; left = ap (λ (m : List ℕ). m ++ loneFrom key least last (drop (i + 1) order)) (take-set-le alone lone alone x (omega arith)) ∙ r .left }
 
   module _ {slot lone : List ℕ} {len alone : ℕ} {first : Bool} {i : ℕ} (p : Packing slot lone len alone first i) (h : length order ≤ i) where
     pub packing-slot : take len slot ≡ slotFrom key least true order

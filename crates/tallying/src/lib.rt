@@ -51,7 +51,7 @@ fn rows_entries(codes: &[u32], rows: usize, dims: usize) -> usize
 {
     let mut store = [0u16; 262144];
     let mut used = [0usize; 256];
-    let mut sets = [0u32; 560];
+    let mut sets = [0u8; 560];
     let mut lens = [0u32; 8];
     let normals = condense::condense_rows(
         codes,

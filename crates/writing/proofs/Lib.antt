@@ -1,3 +1,4 @@
--- Laws of the cells of a table as bytes.
+-- Laws of words and of the cells of a table as bytes.
+pub mod Words
 pub mod Cells
 pub mod Turns

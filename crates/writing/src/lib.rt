@@ -63,14 +63,27 @@ pub fn put_cells(
     at
 }
 
+// Writes the sets of a list, each as a word.
+fn put_sets(out: &mut [u8], sets: &[u8]) -> usize
+    requires { ⌜ 4 * length (now sets) ≤ length (now out) ⌝ }
+    ensures { λ r. ⌜ Wrote (wordsBytes (now (sets .entry))) (now (out .entry)) (now (out .exit)) r ⌝ }
+{
+    let mut at = 0;
+    for i in 0..sets.len() {
+        at += fields::put_word(&mut out[at..], sets[i] as u32);
+    }
+    at
+}
+
 // Writes a base entry: a row and its list.
-pub fn put_entry(out: &mut [u8], codes: &[u32], sum: i64, count: u32, list: &[u32]) -> usize
+pub fn put_entry(out: &mut [u8], codes: &[u32], sum: i64, count: u32, list: &[u8]) -> usize
     requires { ⌜ 4 * length (now codes) + 16 + 4 * length (now list) ≤ length (now out) ⌝ }
     requires { ⌜ length (now list) ≤ 70 ⌝ }
     ensures { λ r. ⌜ Wrote (baseBytes (record { row = record { codes = now (codes .entry); total = record { sum = sum; count = count } }; list = now (list .entry) })) (now (out .entry)) (now (out .exit)) r ⌝ }
 {
-    let at = put_cell(out, codes, sum, count);
-    at + put_list(&mut out[at..], list)
+    let mut at = put_cell(out, codes, sum, count);
+    at += fields::put_word(&mut out[at..], list.len() as u32);
+    at + put_sets(&mut out[at..], list)
 }
 
 // Whether the bytes s have a word from a place on: the place behind it, or stop 12.
@@ -132,27 +145,23 @@ pub fn match_cell(s: &[u8], start: usize, codes: &[u32], sum: i64, count: u32) -
     match_word(s, next, count)
 }
 
-// Whether the bytes s have a list from a place on.
-fn match_list(s: &[u8], start: usize, list: &[u32]) -> Walk
-    requires { ⌜ (start ≤ length (now s)) × (length (now list) < 2 ^ 32) ⌝ }
-    ensures { λ r. ⌜ Matched (now (s .entry)) start (listBytes (now (list .entry))) r ⌝ }
+// Whether the bytes s have the sets of a list, each as a word, from a place on.
+fn match_sets(s: &[u8], start: usize, sets: &[u8]) -> Walk
+    requires { ⌜ start ≤ length (now s) ⌝ }
+    ensures { λ r. ⌜ Matched (now (s .entry)) start (wordsBytes (now (sets .entry))) r ⌝ }
 {
-    let at = match match_word(s, start, list.len() as u32) {
-        Walk::Stop(n) => return Walk::Stop(n),
-        Walk::At(at) => at,
-    };
-    match_words(s, at, list)
+    let mut at = start;
+    for i in 0..sets.len() {
+        match match_word(s, at, sets[i] as u32) {
+            Walk::Stop(n) => return Walk::Stop(n),
+            Walk::At(next) => at = next,
+        }
+    }
+    Walk::At(at)
 }
 
 // Whether the bytes s have a base entry from a place on.
-pub fn match_entry(
-    s: &[u8],
-    start: usize,
-    codes: &[u32],
-    sum: i64,
-    count: u32,
-    list: &[u32],
-) -> Walk
+pub fn match_entry(s: &[u8], start: usize, codes: &[u32], sum: i64, count: u32, list: &[u8]) -> Walk
     requires { ⌜ (start ≤ length (now s)) × (length (now list) ≤ 70) ⌝ }
     ensures { λ r. ⌜ Matched (now (s .entry)) start (baseBytes (record { row = record { codes = now (codes .entry); total = record { sum = sum; count = count } }; list = now (list .entry) })) r ⌝ }
 {
@@ -160,5 +169,9 @@ pub fn match_entry(
         Walk::Stop(n) => return Walk::Stop(n),
         Walk::At(at) => at,
     };
-    match_list(s, at, list)
+    let next = match match_word(s, at, list.len() as u32) {
+        Walk::Stop(n) => return Walk::Stop(n),
+        Walk::At(next) => next,
+    };
+    match_sets(s, next, list)
 }

@@ -1,19 +1,27 @@
 -- `crowds::fill_set` meets its contract: the empty set is the first, and each other one comes from a shorter one.
+use mathlib.Core.Path.{sym, _∙_}
 use Prim.Native.Nat.{_≤_}
 use native.Mathlib.Omega.{arith}
+use denote.Ref.{now}
+use Rattle.lists.proofs.Members.{keep-all}
+use Rattle.rowsets.specs.Rowsets.{stays}
 use borrow.Author.Needs.{needs}
 use Rattle.crowds.proofs.fill_set.Statement.{statement}
 use Rattle.crowds.proofs.fill_set.Tie as tie
 
 returns : tie.Need-returns
-returns c = let e = c .before .before .before .before .before .before .before .before .before .before .before .before .before .before .before .before .if1 .taken in rw e (c .before .before .before .before .before .before .before .before .before .before .fill-first .ensures)
+returns c =
+    let a = c .before .before .before .before .before .before .before .before .before .before .before .before .before .before .before .before .before .before .before .before .before .before .before .before .before .before .args in
+    let e = c .before .before .before .before .before .before .before .before .before .before .before .before .before .before .before .before .if1 .taken in
+    let r = c .before .before .before .before .before .before .before .before .before .before .fill-first .ensures in
+    let all = c .before .before .before .before .before .before .before .before .before .before .before .before .before .before .before .before .before .before .before .before .before .before .before .before .before .before .pre .1 .1 .3 .first e in
+    rw e (r .0, (r .1 .0 ∙ sym (keep-all (stays (now (a .passed))) _ (λ x m. all x)), r .1 .1))
 
 fill-next-requires : tie.Need-fill-next-requires
 fill-next-requires c κs =
-    let p = c .before .before .before .before .before .before .before .before .before .before .before .before .before .before .before .pre in
-    let n = c .before .before .before .before .before .before .if1 .left in
-    let one : 1 ≤ c .before .before .before .before .before .before .before .before .before .before .before .before .before .before .before .args .set = omega (arith, n) in
-    (p .0, (p .1 .0, (p .1 .1 .0, p .1 .1 .1, one, p .1 .1 .2, p .1 .1 .3 one)))
+    let p = c .before .before .before .before .before .before .before .before .before .before .before .before .before .before .before .before .pre in
+    let one : 1 ≤ c .before .before .before .before .before .before .before .before .before .before .before .before .before .before .before .before .args .set = omega (arith, c .before .before .before .before .before .before .if1 .left) in
+    (p .0, (p .1 .0, (p .1 .1 .0, p .1 .1 .1, one, p .1 .1 .2, p .1 .1 .3, p .1 .1 .4 one)))
 
 pub fill-set-spec : {M : Type 1} → statement M
 fill-set-spec =

@@ -21,7 +21,7 @@ pack-groups-requires c κs =
     let p = c .before .before .before .before .before .before .before .before .before .before .before .before .before .before .before .before .before .pre in
     let o = c .before .before .before .before .before .before .before .before .before .before .number-rows .ensures in
     let n = named (c .before .before .before .before .before .before .before .before .before .before) in (
-      (rw (c .before .before .before .before .before .before .clear .ensures .0 ∙ p .1 .1) n, λ i h. omega (arith, n i h, p .0 .0)),
+      (rw (c .before .before .before .before .before .before .clear .ensures .0 ∙ p .1 .1) n, λ i h. omega (arith, n i h, p .0 .0), omega (arith, o .0, p .1 .0, p .0 .0)),
       (omega (arith, o .0, p .1 .0, p .1 .2), omega (arith, o .0, p .1 .0, p .1 .3)),
     )
 

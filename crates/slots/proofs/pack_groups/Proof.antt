@@ -1,10 +1,13 @@
 -- `slots::pack_groups` meets its contract: the entries of the rows before place i are written.
-use mathlib.Core.Path.{_≡_, refl, sym, _∙_}
+use mathlib.Core.Path.{_≡_, refl, _∙_}
+use mathlib.Core.Bool.{not}
 use Prim.Native.Nat.{_-_, _≤_}
+use native.Mathlib.Omega.{arith}
 use denote.Ref.{now}
 use lib.ListN.{length, length-set}
 use Rattle.slots.specs.Slots.{codeIn}
-use Rattle.slots.proofs.Steps.{Packing, packing-none, packing-lone, packing-kept, packing-slot, packing-left}
+use Rattle.slots.proofs.Marking.{staying-most}
+use Rattle.slots.proofs.Steps.{Packing, packing-none, packing-more, packing-slot, packing-left}
 use borrow.Author.Needs.{needs}
 use Rattle.slots.proofs.pack_groups.Statement.{statement}
 use Rattle.slots.proofs.pack_groups.Tie as tie
@@ -22,35 +25,30 @@ loop-holds c =
     (search needs, refl, refl, search needs, search needs, packing-none (codeIn (now (a .column))) (a .least) (now (a .order)) (now (a .slot)) (now (a .lone)))
 
 ends-group-requires : tie.Need-ends-group-requires Inv-loop μ-loop
-ends-group-requires c κs = let p = c .before .before .before .before .before .before .pre in (c .loop-test .taken, p .0 .0)
+ends-group-requires c κs = (c .loop-test .taken, c .before .before .before .before .before .before .pre .0 .0)
+
+entry-of-requires : tie.Need-entry-of-requires Inv-loop μ-loop
+entry-of-requires c κs = c .before .before .before .before .before .before .before .before .before .pre .0 .1 (c .before .before .before .before .loop .i) (search needs)
+
+count-in-requires : tie.Need-count-in-requires Inv-loop μ-loop
+count-in-requires c κs = omega (arith, c .before .before .before .before .before .loop .inv .3, c .before .before .before .before .loop-test .taken, c .before .before .before .before .before .before .before .before .before .before .pre .0 .2)
+
+count-in-requires-2 : tie.Need-count-in-requires-2 Inv-loop μ-loop
+count-in-requires-2 c κs = omega (arith, c .before .before .before .before .before .before .loop .inv .4, c .before .before .before .before .before .loop-test .taken, c .before .before .before .before .before .before .before .before .before .before .before .pre .0 .2)
 
 loop-again : tie.Need-loop-again Inv-loop μ-loop
 loop-again c =
-    let a = c .before .before .before .before .before .before .before .before .before .before .args in
-    let l = c .before .before .before .before .before .loop in (
-      search needs,
-      l .inv .1,
-      length-set (l .lone) _ _ ∙ l .inv .2,
-      search needs,
-      search needs,
-      packing-lone (codeIn (now (a .column))) (a .least) (now (a .order)) (l .inv .5) (search needs) (c .before .before .before .ends-group .result) (c .before .before .before .ends-group .ensures)
-          (sym (c .before .is-lone .ensures) ∙ c .if1 .taken) (search needs),
-    )
-
-entry-of-requires : tie.Need-entry-of-requires Inv-loop μ-loop
-entry-of-requires c κs = c .before .before .before .before .before .before .before .before .before .before .pre .0 .1 (c .before .before .before .before .before .loop .i) (search needs)
-
-loop-again-2 : tie.Need-loop-again-2 Inv-loop μ-loop
-loop-again-2 c =
-    let a = c .before .before .before .before .before .before .before .before .before .before .before .args in
-    let l = c .before .before .before .before .before .before .loop in (
+    let a = c .before .before .before .before .before .before .before .before .before .before .before .before .args in
+    let p = c .before .before .before .before .before .before .before .before .before .before .before .before .pre in
+    let l = c .before .before .before .before .before .before .before .loop in
+    let h = c .before .before .before .before .before .before .loop-test .taken in (
       search needs,
       length-set (l .slot) _ _ ∙ l .inv .1,
-      l .inv .2,
-      search needs,
-      search needs,
-      packing-kept (codeIn (now (a .column))) (a .least) (now (a .order)) (l .inv .5) (search needs) (c .before .before .before .before .ends-group .result) (c .before .before .before .before .ends-group .ensures)
-          (sym (c .before .before .is-lone .ensures) ∙ c .before .if1 .left) (search needs) (c .entry-of .result) (c .entry-of .ensures),
+      length-set (l .lone) _ _ ∙ l .inv .2,
+      omega (arith, c .before .count-in .ensures, staying-most (not (c .before .before .before .before .is-lone .result)) (l .len), l .inv .3),
+      omega (arith, c .count-in2 .ensures, staying-most (c .before .before .before .before .is-lone .result) (l .alone), l .inv .4),
+      packing-more (codeIn (now (a .column))) (a .least) (now (a .order)) (l .inv .5) h (c .before .before .before .before .before .ends-group .result) (c .before .before .before .before .before .ends-group .ensures)
+          (omega (arith, l .inv .3, l .inv .1, h, p .1 .0)) (omega (arith, l .inv .4, l .inv .2, h, p .1 .1)) (c .before .before .before .before .is-lone .ensures) (c .before .before .entry-of .ensures) (c .before .count-in .ensures) (c .count-in2 .ensures),
     )
 
 returns : tie.Need-returns Inv-loop μ-loop
@@ -67,4 +65,4 @@ returns c =
 pub pack-groups-spec : {M : Type 1} → statement M
 pack-groups-spec =
     tie.close
-    (tie.spec Inv-loop μ-loop loop-holds ends-group-requires (λ c. search needs) (λ c. search needs) (λ c κs. search needs) (λ c. search needs) (λ c. search needs) (λ c. search needs) (λ c. search needs) (λ c. search needs) loop-again entry-of-requires (λ c. search needs) (λ c. search needs) (λ c. search needs) (λ c. search needs) (λ c. search needs) loop-again-2 (λ c. search needs) (λ c. search needs) returns)
+    (tie.spec Inv-loop μ-loop loop-holds ends-group-requires (λ c κs. search needs) (λ c. search needs) (λ c. search needs) entry-of-requires (λ c. search needs) (λ c. search needs) (λ c. search needs) (λ c. search needs) count-in-requires count-in-requires-2 (λ c. search needs) (λ c. search needs) loop-again (λ c. search needs) (λ c. search needs) returns)

@@ -1,14 +1,11 @@
--- `writing::match_words` meets its contract. The invariant: the words from word i on are left to compare.
-use mathlib.Core.Path.{_≡_, ap, subst}
-use mathlib.Core.List.{List, []}
-use Prim.Native.Nat.{ℕ, _-_, _≤_}
-use native.Mathlib.Omega.{arith}
+-- `writing::match_words` meets its contract. The invariant: the words from place i on are left to compare.
+use Prim.Native.Nat.{_-_, _≤_}
 use denote.Ref.{now}
-use lib.ListN.{length, getD, drop, drop-of-length-le}
-use Rattle.fields.specs.Words.{wordBytes, wordsBytes}
-use Rattle.fields.specs.WordsLaws.{wordsBytes-on}
+use lib.ListN.{length, drop}
+use Rattle.fields.specs.Words.{wordsBytes}
 use Rattle.writing.specs.Matched.{Matching}
-use Rattle.writing.specs.MatchedLaws.{matching-none, matching-more, matching-off, matching-done, matched-told}
+use Rattle.writing.specs.MatchedLaws.{matching-none, matched-told}
+use Rattle.writing.proofs.Words.{words-met, words-off, words-end}
 use borrow.Author.Needs.{needs}
 use Rattle.writing.proofs.match_words.Statement.{statement}
 use Rattle.writing.proofs.match_words.Tie as tie
@@ -27,22 +24,16 @@ match-word-requires c κs = c .before .before .loop .inv .1 .within
 
 returns : tie.Need-returns Inv-loop μ-loop
 returns c =
-    let ws = now (c .before .before .before .before .before .before .before .before .before .args .ws) in
     let l = c .before .before .before .before .before .before .loop in
-    matching-off (wordBytes (getD ws (l .i) 0)) _ (rw (wordsBytes-on ws (l .i) (c .before .before .before .before .before .loop-test .taken)) at (l .inv .1)) (matched-told (c .before .n .given .1) (c .before .before .before .match-word .ensures))
+    words-off (now (c .before .before .before .before .before .before .before .before .before .args .ws)) (l .i) (l .inv .1) (c .before .before .before .before .before .loop-test .taken) (matched-told (c .before .n .given .1) (c .before .before .before .match-word .ensures))
 
 loop-again : tie.Need-loop-again Inv-loop μ-loop
 loop-again c =
-    let ws = now (c .before .before .before .before .before .before .before .before .before .args .ws) in
     let l = c .before .before .before .before .before .before .loop in
-    (search needs, matching-more (wordBytes (getD ws (l .i) 0)) _ (rw (wordsBytes-on ws (l .i) (c .before .before .before .before .before .loop-test .taken)) at (l .inv .1)) (matched-told (c .before .next .given .1) (c .before .before .before .match-word .ensures)))
+    (search needs, words-met (now (c .before .before .before .before .before .before .before .before .before .args .ws)) (l .i) (l .inv .1) (c .before .before .before .before .before .loop-test .taken) (matched-told (c .before .next .given .1) (c .before .before .before .match-word .ensures)))
 
 returns-2 : tie.Need-returns-2 Inv-loop μ-loop
-unfolding wordsBytes
-returns-2 c =
-    let a = c .before .before .before .before .args in
-    let l = c .before .loop in
-    matching-done (subst (λ (left : List ℕ). Matching (wordsBytes (now (a .ws))) left (now (a .s)) (a .start) (l .at)) (ap wordsBytes (drop-of-length-le (now (a .ws)) {i = l .i} (c .loop-test .left))) (l .inv .1))
+returns-2 c = words-end (now (c .before .before .before .before .args .ws)) (c .before .loop .i) (c .before .loop .inv .1) (c .loop-test .left)
 
 pub match-words-spec : {M : Type 1} → statement M
 match-words-spec =

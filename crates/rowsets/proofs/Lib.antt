@@ -1,0 +1,2 @@
+-- Laws of sets of rows as bits.
+pub mod Bits

@@ -1,0 +1,2 @@
+-- Sets of rows, as bits.
+pub mod Rowsets
