@@ -6,7 +6,10 @@ use calls::Written;
 use entries::ArchiveRead;
 use questions::Look;
 ghost use mathlib.Core.Path.{_≡_};
+ghost use Prim.Native.Nat.{_≤_};
+ghost use lib.ListN.{length};
 ghost use Rattle.rows.specs.Rows.{rowsOf};
+ghost use Rattle.entries.specs.Reading.{walkArchive, archiveAnswer};
 ghost use Rattle.ready.specs.Ready.{Ready};
 ghost use Rattle.cuboids.specs.Cuboids.{cuboidBytes, expansionBytes};
 ghost use Rattle.calls.specs.Answers.{bytes, Answered};
@@ -108,11 +111,12 @@ fn fit_expansion(
     counts: &[u32],
     rows: usize,
     dims: usize,
+    store: &mut [u16],
 ) -> Written
-    requires { ⌜ Ready dims rows (now codes) (now sums) (now counts) ⌝ }
+    requires { ⌜ Ready dims rows (now codes) (now sums) (now counts) × (262144 ≤ length (now store)) ⌝ }
     ensures { λ r. ⌜ Answered (bytes (expansionBytes dims (rowsOf dims rows (now (codes .entry)) (now (sums .entry)) (now (counts .entry))))) (now (out .entry)) (now (out .exit)) r ⌝ }
 {
-    let needed = cuboids::write_expansion(out, codes, sums, counts, rows, dims);
+    let needed = cuboids::write_expansion(out, codes, sums, counts, rows, dims, store);
     if out.len() < needed {
         return Written::Stop(15);
     }
@@ -128,43 +132,74 @@ fn expand_read(
     dims: u32,
     bases: u32,
     cells: u32,
+    store: &mut [u16],
     out: &mut [u8],
 ) -> Written
-    requires { ⌜ Accepts (now s) (now codes) (now sums) (now counts) dims bases cells ⌝ }
+    requires { ⌜ Accepts (now s) (now codes) (now sums) (now counts) dims bases cells × (262144 ≤ length (now store)) ⌝ }
     ensures { λ r. ⌜ Answered (expands (now (s .entry))) (now (out .entry)) (now (out .exit)) r ⌝ }
 {
     let d = dims as usize;
     let n = bases as usize;
     let size = n * d;
-    fit_expansion(out, &codes[..size], &sums[..n], &counts[..n], n, d)
+    fit_expansion(out, &codes[..size], &sums[..n], &counts[..n], n, d, store)
 }
 
-// Reads an archive into the arrays that are lent, and expands it.
+// Reads the base rows of an archive whose fields are right into the arrays that are lent, and expands it.
 fn expand_in(
     s: &[u8],
     codes: &mut [u32; 8192],
     sums: &mut [i64; 1024],
     counts: &mut [u32; 1024],
+    store: &mut [u16; 262144],
+    dims: u32,
+    bases: u32,
+    cells: u32,
     out: &mut [u8],
 ) -> Written
+    requires { ⌜ archiveAnswer (walkArchive (now s)) ≡ ArchiveRead.Entries dims bases cells ⌝ }
     ensures { λ r. ⌜ Answered (expands (now (s .entry))) (now (out .entry)) (now (out .exit)) r ⌝ }
 {
-    match required::read_required(s, codes, sums, counts) {
+    let mut used = [0usize; 256];
+    match required::read_judged(s, codes, sums, counts, store, &mut used, dims, bases, cells) {
         ArchiveRead::Stop(n) => Written::Stop(n),
         ArchiveRead::Entries { dims, bases, cells } => {
-            expand_read(s, codes, sums, counts, dims, bases, cells, out)
+            expand_read(s, codes, sums, counts, dims, bases, cells, store, out)
         }
     }
 }
 
-// Expands an archive to the complete cube.
-pub fn expand(archive: &[u8], out: &mut [u8]) -> Written
-    ensures { λ r. ⌜ Answered (expands (now (archive .entry))) (now (out .entry)) (now (out .exit)) r ⌝ }
+// Expands an archive whose fields are right. One array has the slots of the check and then those of the expansion.
+fn expand_fields(s: &[u8], dims: u32, bases: u32, cells: u32, out: &mut [u8]) -> Written
+    requires { ⌜ archiveAnswer (walkArchive (now s)) ≡ ArchiveRead.Entries dims bases cells ⌝ }
+    ensures { λ r. ⌜ Answered (expands (now (s .entry))) (now (out .entry)) (now (out .exit)) r ⌝ }
 {
     let mut codes = [0u32; 8192];
     let mut sums = [0i64; 1024];
     let mut counts = [0u32; 1024];
-    expand_in(archive, &mut codes, &mut sums, &mut counts, out)
+    let mut store = [0u16; 262144];
+    expand_in(
+        s,
+        &mut codes,
+        &mut sums,
+        &mut counts,
+        &mut store,
+        dims,
+        bases,
+        cells,
+        out,
+    )
+}
+
+// Expands an archive to the complete cube. No array is declared before the first 11 stops are passed.
+pub fn expand(archive: &[u8], out: &mut [u8]) -> Written
+    ensures { λ r. ⌜ Answered (expands (now (archive .entry))) (now (out .entry)) (now (out .exit)) r ⌝ }
+{
+    match reader::check_archive(archive) {
+        ArchiveRead::Stop(n) => Written::Stop(n),
+        ArchiveRead::Entries { dims, bases, cells } => {
+            expand_fields(archive, dims, bases, cells, out)
+        }
+    }
 }
 
 // Answers a question to an archive that was accepted.

@@ -1,4 +1,4 @@
 -- Laws of the groups of a slot as cells in bytes.
-pub mod Front
+pub mod Shown
 pub mod Left
 pub mod Groupable

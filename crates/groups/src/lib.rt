@@ -2,7 +2,9 @@
 use walk::Walk;
 ghost use mathlib.Core.Path.{_≡_};
 ghost use Prim.Native.Nat.{_+_, _*_, _≤_};
-ghost use lib.ListN.{length};
+ghost use lib.ListN.{length, drop};
+ghost use Rattle.fields.specs.Words.{wordsBytes};
+ghost use Rattle.fields.specs.Opening.{startsWith};
 ghost use Rattle.fields.specs.Written.{Wrote};
 ghost use Rattle.cube.specs.Codes.{cell as cellOf};
 ghost use Rattle.rows.specs.Rows.{cut};
@@ -11,16 +13,28 @@ ghost use Rattle.entries.specs.Layout.{cellBytes};
 ghost use Rattle.writing.specs.Matched.{Matched};
 ghost use Rattle.groups.specs.Groups.{Groupable, groupBytes};
 
+// Writes the codes of the cell of a row under a set, whose bit d says whether it has dimension d.
+fn put_shown(out: &mut [u8], mine: &[u32], set: u32) -> usize
+    requires { ⌜ (length (now mine) ≤ 8) × (4 * length (now mine) ≤ length (now out)) ⌝ }
+    ensures { λ r. ⌜ Wrote (wordsBytes (cellOf set (now (mine .entry)))) (now (out .entry)) (now (out .exit)) r ⌝ }
+{
+    let mut at = 0;
+    for d in 0..mine.len() {
+        let code = engine::shown_code(set >> d, mine[d]);
+        at += fields::put_word(&mut out[at..], code);
+    }
+    at
+}
+
 // Writes the cell of a row under a set, with a total.
 pub fn put_group(out: &mut [u8], mine: &[u32], set: u32, total: cube::Total) -> usize
     requires { ⌜ (length (now mine) ≤ 8) × (4 * length (now mine) + 12 ≤ length (now out)) ⌝ }
     ensures { λ r. ⌜ Wrote (cellBytes (record { codes = cellOf set (now (mine .entry)); total = total })) (now (out .entry)) (now (out .exit)) r ⌝ }
 {
-    let dims = mine.len();
-    let mut cell = [0u32; 8];
-    engine::put_cell(&mut cell[..dims], mine, set);
+    let mut at = put_shown(out, mine, set);
     let sum = total.sum;
-    writing::put_cell(out, &cell[..dims], sum, total.count)
+    at += fields::put_sum(&mut out[at..], sum);
+    at + fields::put_word(&mut out[at..], total.count)
 }
 
 // Writes the cells of the groups of a slot.
@@ -54,16 +68,44 @@ pub fn put_groups(
     at
 }
 
-// Whether the bytes s have the cell of a row under a set, with a total, from a place on.
-fn match_group(s: &[u8], at: usize, mine: &[u32], set: u32, total: cube::Total) -> Walk
-    requires { ⌜ (length (now mine) ≤ 8) × (at ≤ length (now s)) ⌝ }
-    ensures { λ r. ⌜ Matched (now (s .entry)) at (cellBytes (record { codes = cellOf set (now (mine .entry)); total = total })) r ⌝ }
+// Whether the codes of the cell of a row under a set stand at a byte offset. No difference ends the loop, so that several codes are compared at once.
+fn shown_is(s: &[u8], start: usize, mine: &[u32], set: u32) -> bool
+    requires { ⌜ (length (now mine) ≤ 8) × (start + 4 * length (now mine) ≤ length (now s)) ⌝ }
+    ensures { λ r. ⌜ r ≡ startsWith (drop start (now (s .entry))) (wordsBytes (cellOf set (now (mine .entry)))) ⌝ }
 {
-    let dims = mine.len();
-    let mut cell = [0u32; 8];
-    engine::put_cell(&mut cell[..dims], mine, set);
+    let mut at = start;
+    let mut same = true;
+    for d in 0..mine.len() {
+        let code = engine::shown_code(set >> d, mine[d]);
+        let is = fields::word_is(s, at, code);
+        same = same & is;
+        at += 4;
+    }
+    same
+}
+
+// Whether the bytes s have the cell of a row under a set, with a total, from a place on.
+fn match_group(s: &[u8], start: usize, mine: &[u32], set: u32, total: cube::Total) -> Walk
+    requires { ⌜ (length (now mine) ≤ 8) × (start ≤ length (now s)) ⌝ }
+    ensures { λ r. ⌜ Matched (now (s .entry)) start (cellBytes (record { codes = cellOf set (now (mine .entry)); total = total })) r ⌝ }
+{
+    let size = 4 * mine.len();
+    if s.len() - start < size + 12 {
+        return Walk::Stop(12);
+    }
+    if !shown_is(s, start, mine, set) {
+        return Walk::Stop(12);
+    }
+    let at = start + size;
     let sum = total.sum;
-    writing::match_cell(s, at, &cell[..dims], sum, total.count)
+    if !fields::sum_is(s, at, sum) {
+        return Walk::Stop(12);
+    }
+    let next = at + 8;
+    if !fields::word_is(s, next, total.count) {
+        return Walk::Stop(12);
+    }
+    Walk::At(next + 4)
 }
 
 // Whether the bytes s have the cells of the groups of a slot from a place on.

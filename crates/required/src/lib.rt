@@ -99,15 +99,15 @@ fn is_required(
     counts: &[u32],
     rows: usize,
     dims: usize,
+    store: &mut [u16],
     used: &mut [usize],
 ) -> bool
-    requires { ⌜ Read (now s) dims rows (now codes) (now sums) (now counts) × (256 ≤ length (now used)) ⌝ }
+    requires { ⌜ Read (now s) dims rows (now codes) (now sums) (now counts) × (262144 ≤ length (now store)) × (256 ≤ length (now used)) ⌝ }
     ensures { λ r. ⌜ r ≡ same (now (s .entry)) (archiveBytes (wordsAt (now (s .entry)) dims 8) (rowsOf dims rows (now (codes .entry)) (now (sums .entry)) (now (counts .entry)))) ⌝ }
     ensures { λ r. ⌜ Sharing dims rows (now (codes .entry)) (now (used .exit)) ⌝ }
 {
     let mut sets = [0u8; 71680];
     let mut lens = [0u32; 1024];
-    let mut store = [0u16; 262144];
     judge(
         s,
         codes,
@@ -117,7 +117,7 @@ fn is_required(
         dims,
         &mut sets,
         &mut lens[..rows],
-        &mut store,
+        store,
         used,
     )
 }
@@ -131,30 +131,41 @@ fn judge_read(
     dims: u32,
     bases: u32,
     cells: u32,
+    store: &mut [u16],
     used: &mut [usize],
 ) -> ArchiveRead
     requires { ⌜ archiveAnswer (walkArchive (now s)) ≡ ArchiveRead.Entries dims bases cells ⌝ }
     requires { ⌜ (8192 ≤ length (now codes)) × (1024 ≤ length (now sums)) × (1024 ≤ length (now counts)) × Stored (walkArchive (now s)) (now codes) (now sums) (now counts) ⌝ }
-    requires { ⌜ 256 ≤ length (now used) ⌝ }
+    requires { ⌜ (262144 ≤ length (now store)) × (256 ≤ length (now used)) ⌝ }
     ensures { λ r. ⌜ r ≡ archiveAnswer (readArchive (now (s .entry))) ⌝ }
     ensures { λ r. ⌜ Shares (walkArchive (now (s .entry))) (now (codes .entry)) (now (used .exit)) ⌝ }
 {
     let d = dims as usize;
     let n = bases as usize;
     let size = n * d;
-    if is_required(s, &codes[..size], &sums[..n], &counts[..n], n, d, used) {
+    if is_required(
+        s,
+        &codes[..size],
+        &sums[..n],
+        &counts[..n],
+        n,
+        d,
+        store,
+        used,
+    ) {
         ArchiveRead::Entries { dims, bases, cells }
     } else {
         ArchiveRead::Stop(12)
     }
 }
 
-// The base rows of an archive whose fields are right, into the arrays that are lent, with how many of them share the cells of each set; what was read of it, or stop 12.
-fn read_judged(
+// The base rows of an archive whose fields are right, into the arrays that are lent, with how many of them share the cells of each set; what was read of it, or stop 12. The array for slots is lent too.
+pub fn read_judged(
     s: &[u8],
     codes: &mut [u32; 8192],
     sums: &mut [i64; 1024],
     counts: &mut [u32; 1024],
+    store: &mut [u16; 262144],
     used: &mut [usize; 256],
     dims: u32,
     bases: u32,
@@ -166,7 +177,7 @@ fn read_judged(
     ensures { λ r. ⌜ Shares (readArchive (now (s .entry))) (now (codes .exit)) (now (used .exit)) ⌝ }
 {
     entries::store_rows(s, dims, bases, codes, sums, counts);
-    judge_read(s, codes, sums, counts, dims, bases, cells, used)
+    judge_read(s, codes, sums, counts, dims, bases, cells, store, used)
 }
 
 // What was read of an archive whose fields are right, or stop 12. Its base rows are not asked for.
@@ -177,12 +188,14 @@ fn judge_fields(s: &[u8], dims: u32, bases: u32, cells: u32) -> ArchiveRead
     let mut codes = [0u32; 8192];
     let mut sums = [0i64; 1024];
     let mut counts = [0u32; 1024];
+    let mut store = [0u16; 262144];
     let mut used = [0usize; 256];
     read_judged(
         s,
         &mut codes,
         &mut sums,
         &mut counts,
+        &mut store,
         &mut used,
         dims,
         bases,
@@ -200,6 +213,26 @@ pub fn check_required(s: &[u8]) -> ArchiveRead
     }
 }
 
+// The same as `read_judged`, with slots of its own.
+fn judge_sharing(
+    s: &[u8],
+    codes: &mut [u32; 8192],
+    sums: &mut [i64; 1024],
+    counts: &mut [u32; 1024],
+    used: &mut [usize; 256],
+    dims: u32,
+    bases: u32,
+    cells: u32,
+) -> ArchiveRead
+    requires { ⌜ archiveAnswer (walkArchive (now s)) ≡ ArchiveRead.Entries dims bases cells ⌝ }
+    ensures { λ r. ⌜ r ≡ archiveAnswer (readArchive (now (s .entry))) ⌝ }
+    ensures { λ r. ⌜ Stored (readArchive (now (s .entry))) (now (codes .exit)) (now (sums .exit)) (now (counts .exit)) ⌝ }
+    ensures { λ r. ⌜ Shares (readArchive (now (s .entry))) (now (codes .exit)) (now (used .exit)) ⌝ }
+{
+    let mut store = [0u16; 262144];
+    read_judged(s, codes, sums, counts, &mut store, used, dims, bases, cells)
+}
+
 // Reads an archive with all its stops, 1 to 12; its base rows into the arrays that are lent, and how many of them share the cells of each set but the full one.
 pub fn read_sharing(
     s: &[u8],
@@ -215,7 +248,7 @@ pub fn read_sharing(
     match reader::check_archive(s) {
         ArchiveRead::Stop(n) => ArchiveRead::Stop(n),
         ArchiveRead::Entries { dims, bases, cells } => {
-            read_judged(s, codes, sums, counts, used, dims, bases, cells)
+            judge_sharing(s, codes, sums, counts, used, dims, bases, cells)
         }
     }
 }

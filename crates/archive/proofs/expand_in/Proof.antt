@@ -1,4 +1,4 @@
--- `archive::expand_in` meets its contract: the reader's stops, or the expansion of an archive that it accepts.
+-- `archive::expand_in` meets its contract: stop 12, or the expansion of an archive that is accepted.
 use mathlib.Core.Path.{sym, _∙_}
 use denote.Ref.{now}
 use Rattle.calls.proofs.Answers.{stopped}
@@ -9,11 +9,11 @@ use Rattle.archive.proofs.expand_in.Tie as tie
 
 expand-read-requires : tie.Need-expand-read-requires
 expand-read-requires c κs =
-    let r = c .before .before .before .before .before .before .before .before .before .before .read-required .ensures in
-    record { told = sym (r .0) ∙ c .before .before .before .before .before .before .before .before .dims .given .1; room = (search needs, search needs, search needs); stored = r .1 }
+    let r = c .before .before .before .before .before .before .before .before .before .before .before .read-judged .ensures in
+    (record { told = sym (r .0) ∙ c .before .before .before .before .before .before .before .before .before .dims .given .1; room = (search needs, search needs, search needs); stored = r .1 .0 }, search needs)
 
 returns : tie.Need-returns
-returns c = stopped (now (c .before .before .before .before .before .before .before .before .before .args .out)) (expand-refused (now (c .before .before .before .before .before .before .before .before .before .args .s)) (sym (c .before .before .before .read-required .ensures .0) ∙ c .before .n .given .1))
+returns c = stopped (now (c .before .before .before .before .before .before .before .before .before .before .before .args .out)) (expand-refused (now (c .before .before .before .before .before .before .before .before .before .before .before .args .s)) (sym (c .before .before .before .read-judged .ensures .0) ∙ c .before .n .given .1))
 
 pub expand-in-spec : {M : Type 1} → statement M
 expand-in-spec =

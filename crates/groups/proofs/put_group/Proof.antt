@@ -1,49 +1,55 @@
--- `groups::put_group` meets its contract: the cell stands in the front of eight codes, and is written.
--- the cell has a code for each of the row's
-use mathlib.Core.Path.{_≡_, sym, ap, ap₂, _∙_}
-use mathlib.Core.List.{List}
-use Prim.Native.Nat.{ℕ}
+-- `groups::put_group` meets its contract: three sections one straight after the other.
+use mathlib.Core.Path.{_≡_, _∙_}
+use mathlib.Core.List.{append-assoc}
+use Prim.Native.Nat.{_*_}
 use native.Mathlib.Omega.{arith}
 use denote.Ref.{now}
-use lib.IntN.{ℤ}
-use lib.ListN.{length, length-append}
-use lib.Seq.{length-take-le}
+use lib.ListN.{length, length-take, length-drop}
 use mir.Syntax.{w64}
 use mir.Facts.{toZ-ofZ}
-use Rattle.cube.proofs.Codes.{length-cell}
+use Rattle.fields.specs.WrittenLaws.{wrote-then}
 use Rattle.entries.specs.Layout.{cellBytes}
-use Rattle.writing.specs.WritingLaws.{wrote-as}
-use Rattle.groups.proofs.Front.{front-is}
+use Rattle.groups.proofs.Shown.{shown-length}
 use borrow.Author.Needs.{needs}
 use Rattle.groups.proofs.put_group.Statement.{statement}
 use Rattle.groups.proofs.put_group.Tie as tie
 
-own : (c : tie.After-put-cell) → length (c .put-cell .last .0) ≡ length (now (c .before .before .before .before .args .mine))
-own c = ap length (c .put-cell .ensures) ∙ length-cell (c .before .before .before .before .args .set) (now (c .before .before .before .before .args .mine))
+-- how many bytes the codes take
+codes : (c : tie.After-put-shown) → c .put-shown .result ≡ 4 * length (now (c .before .before .before .before .args .mine))
+codes c = let a = c .before .before .before .before .args in c .put-shown .ensures .count ∙ shown-length (a .set) (now (a .mine))
 
-slice-aggregate-put-cell : tie.Need-slice-aggregate-put-cell
-slice-aggregate-put-cell c = sym (length-take-le (length (now (c .before .before .before .args .mine))) _ (omega (arith, c .before .before .before .pre .0)))
+sub-put-sum : tie.Need-sub-put-sum
+sub-put-sum c = omega (arith, codes (c .before .before .before), c .before .before .before .before .before .before .before .pre .1)
 
-put-cell-requires : tie.Need-put-cell-requires
-put-cell-requires c κs = length-take-le (length (now (c .before .before .before .args .mine))) _ (omega (arith, c .before .before .before .pre .0))
+part-put-sum-start : tie.Need-part-put-sum-start
+part-put-sum-start c = omega (arith, codes (c .before .before .before), c .before .before .before .before .before .before .before .pre .1)
 
-array-share-prefix-cell : tie.Need-array-share-prefix-cell
-array-share-prefix-cell c = simp length-append (omega (arith, own (c .before .before .before)))
+put-sum-requires : tie.Need-put-sum-requires
+put-sum-requires c κs = simp (length-take, length-drop) (omega (arith, codes (c .before .before .before .before), c .before .before .before .before .before .before .before .before .pre .1))
 
-slice-aggregate-put-cell-2 : tie.Need-slice-aggregate-put-cell-2
-slice-aggregate-put-cell-2 c = sym (length-take-le (length (now (c .before .before .before .before .before .before .before .before .args .mine))) _ (array-share-prefix-cell (c .before)))
+add-at : tie.Need-add-at
+add-at c = omega (arith, codes (c .before .before .before .before .before .before .before))
 
-put-cell-requires-2 : tie.Need-put-cell-requires-2
-put-cell-requires-2 c κs = omega (arith, slice-aggregate-put-cell-2 c, c .before .before .before .before .before .before .before .before .pre .1)
+sub-put-word : tie.Need-sub-put-word
+sub-put-word c = omega (arith, codes (c .before .before .before .before .before .before .before))
+
+part-put-word-start : tie.Need-part-put-word-start
+part-put-word-start c = omega (arith, codes (c .before .before .before .before .before .before .before))
+
+put-word-requires : tie.Need-put-word-requires
+put-word-requires c κs = simp (length-take, length-drop) (omega (arith, codes (c .before .before .before .before .before .before .before .before)))
+
+add-result : tie.Need-add-result
+add-result c = omega (arith, codes (c .before .before .before .before .before .before .before .before .before .before .before))
 
 returns : tie.Need-returns
+unfolding cellBytes
 returns c =
-    wrote-as
-    (ap₂ (λ (codes : List ℕ) (sum : ℤ). cellBytes (record { codes = codes; total = record { sum = sum; count = c .before .before .before .before .before .before .before .before .before .before .before .args .total .count } }))
-    (front-is _ (own (c .before .before .before .before .before .before .before)) (c .before .before .before .before .before .before .before .put-cell .ensures)) (toZ-ofZ {w = w64} (record { sfits = c .before .before .before .before .before .struct-told .given .0 .1 })))
-    (c .before .before .put-cell2 .ensures)
+    let sum = toZ-ofZ {w = w64} {z = c .before .before .before .before .before .before .before .before .before .before .before .before .before .before .before .args .total .sum} (record { sfits = c .before .before .before .before .before .before .before .before .struct-told .given .0 .1 }) in
+    rw (sum, append-assoc) at
+    (wrote-then (wrote-then (c .before .before .before .before .before .before .before .before .before .before .before .put-shown .ensures) (c .before .before .before .before .before .before .put-sum .ensures)) (c .before .before .put-word .ensures))
 
 pub put-group-spec : {M : Type 1} → statement M
 put-group-spec =
     tie.close
-    (tie.spec (λ c. search needs) slice-aggregate-put-cell put-cell-requires array-share-prefix-cell slice-aggregate-put-cell-2 put-cell-requires-2 (λ c. search needs) returns)
+    (tie.spec (λ c κs. search needs) sub-put-sum part-put-sum-start (λ c. search needs) put-sum-requires add-at sub-put-word part-put-word-start (λ c. search needs) put-word-requires add-result (λ c. search needs) returns)

@@ -16,21 +16,22 @@ ready : (c : tie.After-shared-slice-known) → (let a = c .before .args in Ready
 ready c = read-ready (bytes-of (now (c .before .args .s)) (λ i. omega (arith, c .shared-slice-known .given i))) (c .before .pre .0)
 
 array-borrow-prefix-lens : tie.Need-array-borrow-prefix-lens
-array-borrow-prefix-lens c = ready (c .before .before .before .before) .few
+array-borrow-prefix-lens c = ready (c .before .before .before .before .before) .few
 
 slice-aggregate-judge-2 : tie.Need-slice-aggregate-judge-2
-slice-aggregate-judge-2 c = sym (length-take-le (c .before .before .before .before .before .before .args .rows) _ (ready (c .before .before .before .before .before) .few))
+slice-aggregate-judge-2 c = sym (length-take-le (c .before .before .before .before .before .before .before .args .rows) _ (ready (c .before .before .before .before .before .before) .few))
 
 judge-requires : tie.Need-judge-requires
-judge-requires c κs = let p = c .before .before .before .before .before .before .before .before .pre in (p .0, omega (arith, ready (c .before .before .before .before .before .before .before) .few), sym (slice-aggregate-judge-2 (c .before .before)), omega arith, p .1)
+judge-requires c κs = let p = c .before .before .before .before .before .before .before .before .before .pre in (p .0, omega (arith, ready (c .before .before .before .before .before .before .before .before) .few), sym (slice-aggregate-judge-2 (c .before .before)), p .1, p .2)
 
 returns : tie.Need-returns
 returns c =
-    let e = c .before .before .before .before .before .judge .ensures in
-    let r = ready (c .before .before .before .before .before .before .before .before .before .before .before .before .before) in
-    (e .0, sharing-held (r .dims) (r .few) (omega (arith, c .before .before .before .before .before .judge .kept .1 .1 .1 .1 .1 .1 .1 .1 .0)) (omega (arith, c .before .used .given, c .before .before .before .before .before .before .before .before .before .before .before .before .before .before .pre .1)) (e .1))
+    let e = c .before .before .before .before .before .before .judge .ensures in
+    let p = c .before .before .before .before .before .before .before .before .before .before .before .before .before .before .before .before .pre in
+    let r = ready (c .before .before .before .before .before .before .before .before .before .before .before .before .before .before .before) in
+    (e .0, sharing-held (r .dims) (r .few) (omega (arith, c .before .before .before .before .before .before .judge .kept .1 .1 .1 .1 .1 .1 .1 .1 .0, p .1)) (omega (arith, c .before .used .given, p .2)) (e .1))
 
 pub is-required-spec : {M : Type 1} → statement M
 is-required-spec =
     tie.close
-    (tie.spec (λ c. search needs) array-borrow-prefix-lens slice-aggregate-judge-2 (λ c. search needs) judge-requires (λ c. search needs) returns)
+    (tie.spec (λ c. search needs) array-borrow-prefix-lens slice-aggregate-judge-2 judge-requires (λ c. search needs) (λ c. search needs) returns)

@@ -23,31 +23,35 @@ read : (c : tie.After-shared-slice-known) → (let a = c .before .args in Read (
 read c = let a = c .before .args in read-of (are-bytes c) (c .before .pre .0) (now (a .codes)) (now (a .sums)) (now (a .counts)) (room (c .before)) (c .before .pre .1 .0 .3)
 
 mul-size : tie.Need-mul-size
-mul-size c = omega (arith, read-small (are-bytes (c .before .before .before)) (c .before .before .before .before .pre .0))
+mul-size c = omega (arith, read-small (are-bytes (c .before .before .before .before)) (c .before .before .before .before .before .pre .0))
 
 slice-aggregate-is-required : tie.Need-slice-aggregate-is-required
-slice-aggregate-is-required c = read (c .before .before .before .before) .size
+slice-aggregate-is-required c = read (c .before .before .before .before .before) .size
 
 slice-aggregate-is-required-2 : tie.Need-slice-aggregate-is-required-2
-slice-aggregate-is-required-2 c = sym (read (c .before .before .before .before .before) .amounts)
+slice-aggregate-is-required-2 c = sym (read (c .before .before .before .before .before .before) .amounts)
 
 slice-aggregate-is-required-3 : tie.Need-slice-aggregate-is-required-3
-slice-aggregate-is-required-3 c = sym (read (c .before .before .before .before .before .before) .tallies)
+slice-aggregate-is-required-3 c = sym (read (c .before .before .before .before .before .before .before) .tallies)
 
 is-required-requires : tie.Need-is-required-requires
-is-required-requires c κs = (read (c .before .before .before .before .before .before .before), c .before .before .before .before .before .before .before .before .pre .1 .1)
+is-required-requires c κs = let p = c .before .before .before .before .before .before .before .before .before .before .pre .1 .1 in (read (c .before .before .before .before .before .before .before .before .before), p .0, p .1)
 
 returns : tie.Need-returns
 returns c =
-    let e = c .before .before .before .is-required .ensures in
-    (passed-required (c .before .before .before .before .before .before .before .before .before .before .before .before .pre .0) (read (c .before .before .before .before .before .before .before .before .before .before .before)) (sym (c .if1 .taken) ∙ e .0), shares-told (walkArchive (now (c .before .before .before .before .before .before .before .before .before .before .before .before .args .s))) (now (c .before .before .before .before .before .before .before .before .before .before .before .before .args .codes)) _ (c .before .before .before .before .before .before .before .before .before .before .before .before .pre .0) (e .1))
+    let e = c .before .before .before .before .before .is-required .ensures in
+    let a = c .before .before .before .before .before .before .before .before .before .before .before .before .before .before .before .before .args in
+    let p = c .before .before .before .before .before .before .before .before .before .before .before .before .before .before .before .before .pre .0 in
+    (passed-required p (read (c .before .before .before .before .before .before .before .before .before .before .before .before .before .before .before)) (sym (c .if1 .taken) ∙ e .0), shares-told (walkArchive (now (a .s))) (now (a .codes)) _ p (e .1))
 
 returns-2 : tie.Need-returns-2
 returns-2 c =
-    let e = c .before .before .before .is-required .ensures in
-    (stopped-required (c .before .before .before .before .before .before .before .before .before .before .before .before .pre .0) (read (c .before .before .before .before .before .before .before .before .before .before .before)) (sym (c .if1 .left) ∙ e .0), shares-told (walkArchive (now (c .before .before .before .before .before .before .before .before .before .before .before .before .args .s))) (now (c .before .before .before .before .before .before .before .before .before .before .before .before .args .codes)) _ (c .before .before .before .before .before .before .before .before .before .before .before .before .pre .0) (e .1))
+    let e = c .before .before .before .before .before .is-required .ensures in
+    let a = c .before .before .before .before .before .before .before .before .before .before .before .before .before .before .before .before .args in
+    let p = c .before .before .before .before .before .before .before .before .before .before .before .before .before .before .before .before .pre .0 in
+    (stopped-required p (read (c .before .before .before .before .before .before .before .before .before .before .before .before .before .before .before)) (sym (c .if1 .left) ∙ e .0), shares-told (walkArchive (now (a .s))) (now (a .codes)) _ p (e .1))
 
 pub judge-read-spec : {M : Type 1} → statement M
 judge-read-spec =
     tie.close
-    (tie.spec mul-size slice-aggregate-is-required slice-aggregate-is-required-2 slice-aggregate-is-required-3 is-required-requires (λ c. search needs) returns (λ c. search needs) returns-2)
+    (tie.spec mul-size slice-aggregate-is-required slice-aggregate-is-required-2 slice-aggregate-is-required-3 is-required-requires (λ c. search needs) (λ c. search needs) returns (λ c. search needs) (λ c. search needs) returns-2)

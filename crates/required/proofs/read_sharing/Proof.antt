@@ -8,8 +8,8 @@ use borrow.Author.Needs.{needs}
 use Rattle.required.proofs.read_sharing.Statement.{statement}
 use Rattle.required.proofs.read_sharing.Tie as tie
 
-read-judged-requires : tie.Need-read-judged-requires
-read-judged-requires c κs = sym (c .before .before .before .before .before .before .before .check-archive .ensures) ∙ c .before .before .before .before .before .dims .given .1
+judge-sharing-requires : tie.Need-judge-sharing-requires
+judge-sharing-requires c κs = sym (c .before .before .before .before .before .before .before .check-archive .ensures) ∙ c .before .before .before .before .before .dims .given .1
 
 returns : tie.Need-returns
 returns c =
@@ -18,9 +18,9 @@ returns c =
     (stop-required s e, (stored-required s _ _ _ (stopped-stored (walkArchive s) _ _ _ e), shares-stop s _ _ e))
 
 returns-2 : tie.Need-returns-2
-returns-2 c = c .read-judged .ensures
+returns-2 c = c .judge-sharing .ensures
 
 pub read-sharing-spec : {M : Type 1} → statement M
 read-sharing-spec =
     tie.close
-    (tie.spec (λ c κs. search needs) (λ c. search needs) (λ c. search needs) read-judged-requires returns returns-2)
+    (tie.spec (λ c κs. search needs) (λ c. search needs) (λ c. search needs) judge-sharing-requires returns returns-2)
