@@ -18,7 +18,7 @@ fn archive(dims: usize, entries: usize, mut draw: impl FnMut() -> u32) -> Vec<u8
     File::archive().head(&vec![5; dims], 0).word(entries as u32).words(&words).closed()
 }
 
-/// Tables and archives of few words: each length from 4 to 36 is there, so that halves of every length leave every remainder.
+/// Tables and archives of few words: each length from 4 to 36 is there.
 #[test]
 fn every_length() {
     let mut random = Random::seeded(601);
@@ -45,12 +45,13 @@ fn every_length() {
     compare.had(CHECK, &[11, 12]);
 }
 
-/// Sums that pass 2 to the power 32 many times, at every place: words of any value, and the highest alone.
+/// Sums that pass 2 to the power 32 many times, at every place: words of any value, and the highest alone. Four lengths beyond 2 MiB, where
+/// the sum goes four words a step from the back, leave each remainder.
 #[test]
 fn large_sums() {
     let mut random = Random::seeded(602);
     let mut compare = Compare::new();
-    for (dims, entries) in [(1, 1), (2, 33), (5, 100), (8, 1_000), (8, 77_272)] {
+    for (dims, entries) in [(1, 1), (2, 33), (5, 100), (8, 1_000), (8, 77_272), (2, 104_900), (2, 104_901), (2, 104_902), (2, 104_903)] {
         for file in [archive(dims, entries, || random.draw() as u32), archive(dims, entries, || u32::MAX)] {
             let what = format!("{entries} entries, D {dims}");
             assert_eq!(compare.archive(&file, &what).err(), Some(12));
