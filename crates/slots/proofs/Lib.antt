@@ -11,6 +11,7 @@ pub mod Pruned
 pub mod Walked
 pub mod Split
 pub mod Slotted
+pub mod Standing
 pub mod Last
 pub mod Summing
 pub mod Totalled
