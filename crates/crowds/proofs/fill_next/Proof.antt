@@ -10,12 +10,12 @@ use denote.Ref.{now}
 use lib.ListN.{length, getD, take, drop}
 use lib.Seq.{length-take-le, take-append-le, take-all}
 use Rattle.lists.specs.Lists.{_∈_}
-use Rattle.deals.specs.Deals.{Names}
 use Rattle.rowsets.specs.Rowsets.{stays}
-use Rattle.slots.specs.Slots.{rowIn, out, markIn, splitOrder}
+use Rattle.slots.specs.Slots.{rowIn, out, markIn}
 use Rattle.crowds.specs.Crowds.{part, place, shorter, Holds}
 use Rattle.crowds.proofs.Shorter.{shorter-zeros, shorter-power, shorter-place}
-use Rattle.crowds.proofs.Filling.{below-all, Next, next-few, next-column, next-small, next-slot, next-rising, next-names, next-kept, next-left, filled}
+use Rattle.crowds.proofs.Column.{turn-small, turn-column}
+use Rattle.crowds.proofs.Filling.{below-all, Next, next-few, next-slot, next-rising, next-names, next-kept, next-left, filled}
 use borrow.Author.Needs.{needs}
 use Rattle.crowds.proofs.fill_next.Statement.{statement}
 use Rattle.crowds.proofs.fill_next.Tie as tie
@@ -59,17 +59,19 @@ next c =
     let a = c .before .before .before .before .before .before .before .before .before .before .before .before .before .before .before .args in
     let p = c .before .before .before .before .before .before .before .before .before .before .before .before .before .before .before .pre in
     record {
-      low = p .0 .1;
-      high = p .0 .2;
-      few = p .0 .0;
-      valid = p .0 .3;
-      one = p .1 .1 .2;
-      small = low (c .before .before .before .before .before .before);
-      within = p .1 .1 .3;
-      told = p .1 .1 .1;
-      is-column = c .before .column-of .ensures;
-      is-rising = c .column-of2 .ensures;
-      passing = p .1 .1 .4;
+      turn = record {
+        low = p .0 .1;
+        high = p .0 .2;
+        few = p .0 .0;
+        valid = p .0 .3;
+        one = p .1 .1 .2;
+        small = low (c .before .before .before .before .before .before);
+        within = p .1 .1 .3;
+        told = p .1 .1 .1;
+        is-column = c .before .column-of .ensures;
+        is-rising = c .column-of2 .ensures;
+        passing = p .1 .1 .4;
+      };
       held = p .1 .1 .5;
       is-old = c .before .before .slot-of .ensures ∙ ap (λ (u : ℕ). part u (getD (now (a .sizes)) u 0) (now (a .store))) (less (c .before .before .before .before .before));
     }
@@ -81,8 +83,8 @@ split-groups-requires : tie.Need-split-groups-requires
 split-groups-requires c κs =
     let p = c .before .before .before .before .before .before .before .before .before .before .before .before .before .before .before .before .before .before .pre in
     let x = next (c .before .before .before) in (
-      (omega (arith, next-column x, p .0 .0), next-slot x, p .1 .1 .4 .room, next-small x, next-rising x),
-      (p .1 .0 .2, sym (slice-aggregate-split-groups (c .before)) ∙ sym (next-column x), p .1 .0 .4),
+      (omega (arith, turn-column (x .turn), p .0 .0), next-slot x, p .1 .1 .4 .room, turn-small (x .turn), next-rising x),
+      (p .1 .0 .2, sym (slice-aggregate-split-groups (c .before)) ∙ sym (turn-column (x .turn)), p .1 .0 .4),
     )
 
 mul-from : tie.Need-mul-from
