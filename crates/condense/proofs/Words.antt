@@ -15,6 +15,7 @@ use Rattle.lists.specs.Lists.{some}
 use Rattle.lists.proofs.Tests.{cases, truth, both, either}
 use Rattle.lattice.specs.Sets.{holds}
 use Rattle.lattice.proofs.Less.{less-within}
+use Rattle.deals.specs.Deals.{Zeros}
 use Rattle.rowsets.specs.Rowsets.{has}
 use Rattle.rowsets.proofs.Bits.{has-none}
 use Rattle.condense.specs.Alone.{wordsOf, passes, Stored}
@@ -91,9 +92,9 @@ module _ (rows old words : List ℕ) (i : ℕ) (a : Adding rows old words i) whe
 
 -- ---- the rows that are passed over
 
-pub cleared-none : (words : List ℕ) {n : ℕ} → (length words ≡ n) × ((i : ℕ) → i < n → getD words i 0 ≡ 0) → (x : ℕ) → has words x ≡ false
-cleared-none words c = has-none words (λ i. cases (truth (ltb i (length words)))
-    (λ t. c .1 i (omega (arith, ltb-true i (length words) t, c .0)))
+pub cleared-none : (words : List ℕ) → Zeros words → (x : ℕ) → has words x ≡ false
+cleared-none words z = has-none words (λ i. cases (truth (ltb i (length words)))
+    (λ t. z i (ltb-true i (length words) t))
     (λ t. List·getD-eq-default words 0 (ltb-false i (length words) t)))
 
 module _ (alone : List ℕ) (s x : ℕ) where

@@ -51,15 +51,6 @@ fn note_lone(lone: &[u32], set: u8, sets: &mut [u8], lens: &mut [u32], rows: usi
     }
 }
 
-// Sets all words to 0.
-fn clear(words: &mut [u32])
-    ensures { λ _. ⌜ (length (now (words .exit)) ≡ length (now (words .entry))) × ((i : ℕ) → i < length (now (words .entry)) → getD (now (words .exit)) i 0 ≡ 0) ⌝ }
-{
-    for i in 0..words.len() {
-        words[i] = 0;
-    }
-}
-
 // The words of a set.
 fn words_of<'a>(alone: &'a [u32], set: usize) -> &'a [u32]
     requires { ⌜ (8192 ≤ length (now alone)) × (set < 256) ⌝ }
@@ -75,7 +66,7 @@ fn pass_rows(alone: &[u32], set: u32, passed: &mut [u32])
     requires { ⌜ (8192 ≤ length (now alone)) × (set < 256) × (length (now passed) ≡ 32) ⌝ }
     ensures { λ _. ⌜ (length (now (passed .exit)) ≡ 32) × ((x : ℕ) → hasRow (now (passed .exit)) x ≡ passes 8 (now (alone .entry)) set x) ⌝ }
 {
-    clear(passed);
+    deals::clear(passed);
     for d in 0..8 {
         let one = lattice::sets_of(d);
         if !lattice::holds_set(set, one) {
@@ -180,7 +171,7 @@ pub fn condense_rows(
     let mut marks = [0u32; 1024];
     let mut next = [0u32; 1026];
     let mut lone = [0u32; 1024];
-    clear(lens);
+    deals::clear(lens);
     crowds::read_columns(codes, rows, dims, &mut columns);
     let all = lattice::sets_of(dims as u32) - 1;
     let mut cells = 0;

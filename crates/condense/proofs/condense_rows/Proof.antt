@@ -52,7 +52,7 @@ loop-holds c =
     let a = c .before .before .before .before .before .before .before .before .before .before .before .before .before .args in
     let none = c .before .before .before .before .before .before .clear .ensures in
     let size = c .before .before .before .before .before .before .before .before .before .before .before .before .before .pre .1 .3 in
-    (refl, refl, refl, search needs, search needs, search needs, search needs, search needs, search needs, filling-start (few c) (now (a .store)) (now (a .sizes)), listing-start (base c) _ (now (a .sets)) _ (none .0 ∙ size) (λ i h. none .1 i (omega (arith, h, size))))
+    (refl, refl, refl, search needs, search needs, search needs, search needs, search needs, search needs, filling-start (few c) (now (a .store)) (now (a .sizes)), listing-start (base c) _ (now (a .sets)) _ (none .0 ∙ size) (λ i h. none .1 i (omega (arith, h, none .0, size))))
 
 loop-again : tie.Need-loop-again Inv-loop μ-loop
 loop-again c =
