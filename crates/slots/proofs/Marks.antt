@@ -37,9 +37,6 @@ module _ (key : ℕ → List ℕ) where
   parts x y h = rw (same-earlier (key x) (key y), h) (cases (truth (earlier (key x) (key y))) (λ t. rw t refl) (λ t. rw t refl))
 
   module _ (least : ℕ) (low : 1 ≤ least) (high : least ≤ 2) where
-    not-two : least ≡ 1 → eqb least 2 ≡ false
-    not-two e = rw e refl
-
     lone-not : (f t : Bool) → f && t ≡ false → isLone least f t ≡ false
     lone-not f t e = rw e (cases (truth (eqb least 2)) (λ u. rw u refl) (λ u. rw u refl))
 

@@ -24,7 +24,7 @@ closes-next key l x i h = rw (drop-cons l i 0 h) refl
 pub same-code : (column : List ℕ) (x y : ℕ) → not (same (codeIn column x) (codeIn column y)) ≡ not (eqb (getD column x 0) (getD column y 0))
 same-code column x y = cases (truth (eqb (getD column x 0) (getD column y 0))) (λ t. rw t refl) (λ t. rw t refl)
 
-pub kept-not : (least : ℕ) (f t : Bool) → isKept (not (eqb least 2)) f t ≡ not (isLone least f t)
+kept-not : (least : ℕ) (f t : Bool) → isKept (not (eqb least 2)) f t ≡ not (isLone least f t)
 kept-not least f t = cases (truth (eqb least 2)) (λ e. rw e refl) (λ e. rw e refl)
 
 -- ---- a slot written
