@@ -16,12 +16,12 @@ use Rattle.crowds.proofs.complete_slots.Statement.{statement}
 use Rattle.crowds.proofs.complete_slots.Tie as tie
 
 abbrev Inv-loop : tie.InvT-loop
-Inv-loop codes rows dims store₀ sizes₀ columns order₀ marks₀ next₀ lone₀ passed all k₀ store sizes order marks next lone k =
-    (length store ≡ length store₀) × (length sizes ≡ length sizes₀) × (length order ≡ 1024) × (length marks ≡ 1024) × (length next ≡ 1026) × (length lone ≡ 1024)
+Inv-loop codes rows dims store₀ sizes₀ columns order₀ marks₀ lone₀ passed all k₀ store sizes order marks lone k =
+    (length store ≡ length store₀) × (length sizes ≡ length sizes₀) × (length order ≡ 1024) × (length marks ≡ 1024) × (length lone ≡ 1024)
     × ((s : ℕ) → Passing 1 dims rows codes passed s) × Completing dims rows codes store sizes all k
 
 abbrev μ-loop : tie.MeasureT-loop
-μ-loop codes rows dims store₀ sizes₀ columns order₀ marks₀ next₀ lone₀ passed all k₀ store sizes order marks next lone k = 256 - k
+μ-loop codes rows dims store₀ sizes₀ columns order₀ marks₀ lone₀ passed all k₀ store sizes order marks lone k = 256 - k
 
 read-columns-requires : tie.Need-read-columns-requires Inv-loop μ-loop
 read-columns-requires c κs = let p = c .before .before .before .before .pre in (p .0 .2, p .0 .0, p .0 .1, search needs, p .0 .3)
@@ -46,12 +46,12 @@ loop-holds : tie.Need-loop-holds Inv-loop μ-loop
 loop-holds c =
     let a = c .before .before .before .before .before .before .before .args in
     let e : full (a .dims) ≡ c .sets-of .result - 1 = omega (arith, all-sets c) in
-    (refl, refl, search needs, search needs, search needs, search needs, passing-none 1 (a .dims) (a .rows) (now (a .codes)), completing-start (omega (arith, few c)) (subst (AllHold 2 (a .dims) (a .rows) (now (a .codes)) (now (a .store)) (now (a .sizes))) e (c .before .before .before .before .before .before .before .pre .1 .2)))
+    (refl, refl, search needs, search needs, search needs, passing-none 1 (a .dims) (a .rows) (now (a .codes)), completing-start (omega (arith, few c)) (subst (AllHold 2 (a .dims) (a .rows) (now (a .codes)) (now (a .store)) (now (a .sizes))) e (c .before .before .before .before .before .before .before .pre .1 .2)))
 
 loop-again : tie.Need-loop-again Inv-loop μ-loop
 loop-again c =
     let v = c .before .before .before .loop .inv in
-    (v .0, v .1, v .2, v .3, v .4, v .5, v .6, completing-skip (omega (arith, few (c .before .before .before .before))) (v .7) (c .before .before .loop-test .taken) (c .before .set-at .ensures) (c .if1 .taken))
+    (v .0, v .1, v .2, v .3, v .4, v .5, completing-skip (omega (arith, few (c .before .before .before .before))) (v .6) (c .before .before .loop-test .taken) (c .before .set-at .ensures) (c .if1 .taken))
 
 -- the set has its turn
 below : (c : tie.Else1 Inv-loop μ-loop) → c .before .set-at .result < c .before .before .before .before .sets-of .result - 1
@@ -70,49 +70,49 @@ loop-again-2 c =
     let v = c .before .before .before .before .before .loop .inv in
     let h = below (c .before .before) in
     let low = few (c .before .before .before .before .before .before) in
-    let w = whole-filled (p .0 .0) (omega (arith, h, low)) (omega (arith, v .0, p .1 .0)) (v .7 .each (c .before .before .before .set-at .result) h .1) (c .if2 .taken) in
-    (v .0, v .1, v .2, v .3, v .4, v .5, v .6, completing-more (omega (arith, low)) (v .7) (c .before .before .before .before .loop-test .taken) (c .before .before .before .set-at .ensures) h w)
+    let w = whole-filled (p .0 .0) (omega (arith, h, low)) (omega (arith, v .0, p .1 .0)) (v .6 .each (c .before .before .before .set-at .result) h .1) (c .if2 .taken) in
+    (v .0, v .1, v .2, v .3, v .4, v .5, completing-more (omega (arith, low)) (v .6) (c .before .before .before .before .loop-test .taken) (c .before .before .before .set-at .ensures) h w)
 
 -- it is filled
 fill-set-requires : tie.Need-fill-set-requires Inv-loop μ-loop
 fill-set-requires c κs =
-    let p = c .before .before .before .before .before .before .before .before .before .before .before .before .before .before .before .before .before .before .before .before .before .pre in
-    let v = c .before .before .before .before .before .before .before .before .before .before .before .before .before .loop .inv in
-    let h = below (c .before .before .before .before .before .before .before .before .before .before) in
-    let low = few (c .before .before .before .before .before .before .before .before .before .before .before .before .before .before) in (
+    let p = c .before .before .before .before .before .before .before .before .before .before .before .before .before .before .before .before .before .before .before .before .pre in
+    let v = c .before .before .before .before .before .before .before .before .before .before .before .before .loop .inv in
+    let h = below (c .before .before .before .before .before .before .before .before .before) in
+    let low = few (c .before .before .before .before .before .before .before .before .before .before .before .before .before) in (
       (p .0 .0, omega arith, omega arith, p .0 .3),
       (
-        (omega (arith, v .0, p .1 .0), omega (arith, v .1, p .1 .1), v .2, v .3, v .4, v .5),
-        (p .0 .1, c .before .before .before .before .before .before .before .before .before .before .before .before .before .before .before .before .read-columns .ensures, omega (arith, h, all-sets (c .before .before .before .before .before .before .before .before .before .before .before .before .before .before)), v .6 (c .before .before .before .before .before .before .before .before .before .before .before .set-at .result), filling-shorter (omega (arith, low)) (v .7 .filling) (c .before .before .before .before .before .before .before .before .before .before .before .before .loop-test .taken) (c .before .before .before .before .before .before .before .before .before .before .before .set-at .ensures) h),
+        (omega (arith, v .0, p .1 .0), omega (arith, v .1, p .1 .1), v .2, v .3, v .4),
+        (p .0 .1, c .before .before .before .before .before .before .before .before .before .before .before .before .before .before .before .read-columns .ensures, omega (arith, h, all-sets (c .before .before .before .before .before .before .before .before .before .before .before .before .before)), v .5 (c .before .before .before .before .before .before .before .before .before .before .set-at .result), filling-shorter (omega (arith, low)) (v .6 .filling) (c .before .before .before .before .before .before .before .before .before .before .before .loop-test .taken) (c .before .before .before .before .before .before .before .before .before .before .set-at .ensures) h),
       ),
     )
 
 loop-again-3 : tie.Need-loop-again-3 Inv-loop μ-loop
 loop-again-3 c =
-    let v = c .before .before .before .before .before .before .before .before .before .before .before .before .before .before .before .before .before .before .before .before .before .before .loop .inv in
-    (search needs, search needs, search needs, search needs, search needs, search needs, v .6, completing-more (omega (arith, few (c .before .before .before .before .before .before .before .before .before .before .before .before .before .before .before .before .before .before .before .before .before .before .before))) (v .7) (c .before .before .before .before .before .before .before .before .before .before .before .before .before .before .before .before .before .before .before .before .before .loop-test .taken) (c .before .before .before .before .before .before .before .before .before .before .before .before .before .before .before .before .before .before .before .before .set-at .ensures) (below (c .before .before .before .before .before .before .before .before .before .before .before .before .before .before .before .before .before .before .before)) (c .before .before .before .before .before .before .before .before .fill-set .ensures .0))
+    let v = c .before .before .before .before .before .before .before .before .before .before .before .before .before .before .before .before .before .before .before .before .loop .inv in
+    (search needs, search needs, search needs, search needs, search needs, v .5, completing-more (omega (arith, few (c .before .before .before .before .before .before .before .before .before .before .before .before .before .before .before .before .before .before .before .before .before))) (v .6) (c .before .before .before .before .before .before .before .before .before .before .before .before .before .before .before .before .before .before .before .loop-test .taken) (c .before .before .before .before .before .before .before .before .before .before .before .before .before .before .before .before .before .before .set-at .ensures) (below (c .before .before .before .before .before .before .before .before .before .before .before .before .before .before .before .before .before)) (c .before .before .before .before .before .before .before .fill-set .ensures .0))
 
 -- the full set
 fill-set-requires-2 : tie.Need-fill-set-requires-2 Inv-loop μ-loop
 fill-set-requires-2 c κs =
-    let p = c .before .before .before .before .before .before .before .before .before .before .before .before .before .before .before .before .before .pre in
-    let v = c .before .before .before .before .before .before .before .before .before .loop .inv in
-    let all = c .before .before .before .before .before .before .before .before .before .before .sets-of .result - 1 in
-    let low = few (c .before .before .before .before .before .before .before .before .before .before) in
-    let held = filling-done (omega (arith, low)) (v .7 .filling) (c .before .before .before .before .before .before .before .before .loop-test .left) in (
+    let p = c .before .before .before .before .before .before .before .before .before .before .before .before .before .before .before .before .pre in
+    let v = c .before .before .before .before .before .before .before .before .loop .inv in
+    let all = c .before .before .before .before .before .before .before .before .before .sets-of .result - 1 in
+    let low = few (c .before .before .before .before .before .before .before .before .before) in
+    let held = filling-done (omega (arith, low)) (v .6 .filling) (c .before .before .before .before .before .before .before .loop-test .left) in (
       (p .0 .0, omega arith, omega arith, p .0 .3),
       (
-        (omega (arith, v .0, p .1 .0), omega (arith, v .1, p .1 .1), v .2, v .3, v .4, v .5),
-        (p .0 .1, c .before .before .before .before .before .before .before .before .before .before .before .before .read-columns .ensures, omega (arith, all-sets (c .before .before .before .before .before .before .before .before .before .before)), v .6 all, λ one. held .all _ (shorter-less all one low)),
+        (omega (arith, v .0, p .1 .0), omega (arith, v .1, p .1 .1), v .2, v .3, v .4),
+        (p .0 .1, c .before .before .before .before .before .before .before .before .before .before .before .read-columns .ensures, omega (arith, all-sets (c .before .before .before .before .before .before .before .before .before)), v .5 all, λ one. held .all _ (shorter-less all one low)),
       ),
     )
 
 returns : tie.Need-returns Inv-loop μ-loop
 returns c =
-    let a = c .before .before .before .before .before .before .before .before .before .before .before .before .before .before .before .before .before .before .before .before .before .before .before .before .before .before .args in
-    subst (AllHold 1 (a .dims) (a .rows) (now (a .codes)) _ _) (all-sets (c .before .before .before .before .before .before .before .before .before .before .before .before .before .before .before .before .before .before .before)) (all-more (filling-done (omega (arith, few (c .before .before .before .before .before .before .before .before .before .before .before .before .before .before .before .before .before .before .before))) (c .before .before .before .before .before .before .before .before .before .before .before .before .before .before .before .before .before .before .loop .inv .7 .filling) (c .before .before .before .before .before .before .before .before .before .before .before .before .before .before .before .before .before .loop-test .left)) (c .before .before .before .before .before .before .before .before .fill-set2 .ensures .0))
+    let a = c .before .before .before .before .before .before .before .before .before .before .before .before .before .before .before .before .before .before .before .before .before .before .before .before .args in
+    subst (AllHold 1 (a .dims) (a .rows) (now (a .codes)) _ _) (all-sets (c .before .before .before .before .before .before .before .before .before .before .before .before .before .before .before .before .before)) (all-more (filling-done (omega (arith, few (c .before .before .before .before .before .before .before .before .before .before .before .before .before .before .before .before .before))) (c .before .before .before .before .before .before .before .before .before .before .before .before .before .before .before .before .loop .inv .6 .filling) (c .before .before .before .before .before .before .before .before .before .before .before .before .before .before .before .loop-test .left)) (c .before .before .before .before .before .before .before .fill-set2 .ensures .0))
 
 pub complete-slots-spec : {M : Type 1} → statement M
 complete-slots-spec =
     tie.close
-    (tie.spec Inv-loop μ-loop (λ c. search needs) read-columns-requires cast-sets-of sets-of-requires sub-all loop-holds (λ c κs. search needs) (λ c. search needs) (λ c. search needs) loop-again (λ c. search needs) mul-if2 slice-read-if2 (λ c. search needs) (λ c. search needs) loop-again-2 (λ c. search needs) (λ c. search needs) (λ c. search needs) (λ c. search needs) (λ c. search needs) (λ c. search needs) fill-set-requires (λ c. search needs) (λ c. search needs) loop-again-3 (λ c. search needs) (λ c. search needs) (λ c. search needs) (λ c. search needs) (λ c. search needs) (λ c. search needs) fill-set-requires-2 (λ c. search needs) (λ c. search needs) returns)
+    (tie.spec Inv-loop μ-loop (λ c. search needs) read-columns-requires cast-sets-of sets-of-requires sub-all loop-holds (λ c κs. search needs) (λ c. search needs) (λ c. search needs) loop-again (λ c. search needs) mul-if2 slice-read-if2 (λ c. search needs) (λ c. search needs) loop-again-2 (λ c. search needs) (λ c. search needs) (λ c. search needs) (λ c. search needs) (λ c. search needs) fill-set-requires (λ c. search needs) (λ c. search needs) loop-again-3 (λ c. search needs) (λ c. search needs) (λ c. search needs) (λ c. search needs) (λ c. search needs) fill-set-requires-2 (λ c. search needs) (λ c. search needs) returns)
