@@ -253,7 +253,27 @@ pub fn read_sharing(
     }
 }
 
-// Reads an archive with all its stops, 1 to 12; its base rows into the arrays that are lent.
+// Reads an archive with all its stops, 1 to 12; its base rows into the arrays that are lent. The array for slots is lent too.
+pub fn read_lent(
+    s: &[u8],
+    codes: &mut [u32; 8192],
+    sums: &mut [i64; 1024],
+    counts: &mut [u32; 1024],
+    store: &mut [u16; 262144],
+) -> ArchiveRead
+    ensures { λ r. ⌜ r ≡ archiveAnswer (readArchive (now (s .entry))) ⌝ }
+    ensures { λ r. ⌜ Stored (readArchive (now (s .entry))) (now (codes .exit)) (now (sums .exit)) (now (counts .exit)) ⌝ }
+{
+    let mut used = [0usize; 256];
+    match reader::check_archive(s) {
+        ArchiveRead::Stop(n) => ArchiveRead::Stop(n),
+        ArchiveRead::Entries { dims, bases, cells } => {
+            read_judged(s, codes, sums, counts, store, &mut used, dims, bases, cells)
+        }
+    }
+}
+
+// The same as `read_lent`, with slots of its own.
 pub fn read_required(
     s: &[u8],
     codes: &mut [u32; 8192],
