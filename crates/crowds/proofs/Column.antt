@@ -22,11 +22,11 @@ use Rattle.engine.proofs.Refined.{Refined}
 use Rattle.slots.specs.Slots.{crowds, shares, loners, parted, packed, codeIn, loneRows, slotFrom, loneFrom}
 use Rattle.slots.proofs.Marks.{slot-arranged, lone-arranged}
 use Rattle.slots.proofs.Split.{slot-same, lone-same}
-use Rattle.slots.proofs.Last.{last-refined}
+use Rattle.slots.proofs.Last.{key-none, last-refined}
 use Rattle.crowds.specs.Crowds.{part, Columns, Passing, place, shorter, leftOut}
 use Rattle.crowds.proofs.Shorter.{shorter-last, shorter-and, shorter-place, shorter-none}
 use Rattle.crowds.proofs.Left.{left-in}
-use Rattle.crowds.proofs.First.{first-same, first-shares, arranged-same}
+use Rattle.crowds.proofs.First.{first-shares, arranged-same}
 
 pub left-next : (least : ℕ) (xs : List (List ℕ)) (n s : ℕ) → 1 ≤ s → leftOut least xs n s ≡ loneRows least (key (shorter s) xs) (key s xs) n
 unfolding leftOut
@@ -76,7 +76,7 @@ module _ {least d n : ℕ} {codes columns column rising passed : List ℕ} {s : 
   module _ (single : size s ≡ 1) (more : n ≢ 1) where
     -- nothing else tells the rows apart
     alike-first : (i j : ℕ) → i < n → j < n → earlier (codeIn column i) (codeIn column j) ≡ earlier (key s xs i) (key s xs j)
-    alike-first i j h k = sym (turn-refined .equal i j h k (subst (λ (t : ℕ). key t xs i ≡ key t xs j) (sym (shorter-none s (x .one) (x .small) single)) (first-same d n codes (x .valid) i j h k)))
+    alike-first i j h k = sym (turn-refined .equal i j h k (subst (λ (t : ℕ). key t xs i ≡ key t xs j) (sym (shorter-none s (x .one) (x .small) single)) (key-none d n codes (x .valid) i j h k)))
 
     in-order : arranged (codeIn column) n ≡ arranged (key s xs) n
     in-order = arranged-same (codeIn column) (key s xs) n alike-first
