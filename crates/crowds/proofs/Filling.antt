@@ -134,7 +134,7 @@ module _ (least d n : ℕ) (codes store sizes p : List ℕ) (s a k len : ℕ) (f
       few = rw (getD-set-same sizes s len 0 (omega (arith, low, places))) small;
       slot = rw (getD-set-same sizes s len 0 (omega (arith, low, places))) (part-here store p s a k ea ek (omega (arith, whole)) fits len (omega (arith, small, few, whole)) ∙ g);
     };
-    others = λ t q h. record {
+    others = λ m t q h. record {
       few = rw (getD-set-other sizes s t len 0 q) (h .few);
       slot = rw (getD-set-other sizes s t len 0 q) (part-other store p s a k ea ek (omega (arith, whole)) fits t (getD sizes t 0) (omega (arith, h .few, few)) q ∙ h .slot);
     };

@@ -4,4 +4,5 @@ pub mod Reading
 pub mod Shorter
 pub mod Filling
 pub mod Turns
+pub mod Completing
 pub mod Left

@@ -5,7 +5,7 @@
 --   Passing ..          rows may be passed over at set s: none of them shares its cell, and at the empty set there are none
 --   Holds ..            the slot of set s has the groups that the rows form by their cells under s
 --   AllHold .. m        so have the slots of all sets below m
---   Filled ..           the slot of set s is filled, and the others are as they were
+--   Filled ..           the slot of set s is filled, and the others have what they had
 --   place s             the place of the last dimension of set s, counted from 0
 --   shorter s           set s without its last dimension
 --   leftOut ..          the rows that are left out at set s: they share their cell under the set without its last dimension, but not that under s
@@ -58,4 +58,4 @@ pub record AllHold (least d n : ℕ) (codes slots sizes : List ℕ) (m : ℕ) : 
 
 pub record Filled (least d n : ℕ) (codes slots sizes slots₂ sizes₂ : List ℕ) (s : ℕ) : Type 0 where
   pub here : Holds least d n codes slots₂ sizes₂ s
-  pub others : (t : ℕ) → t ≢ s → Holds least d n codes slots sizes t → Holds least d n codes slots₂ sizes₂ t
+  pub others : (k t : ℕ) → t ≢ s → Holds k d n codes slots sizes t → Holds k d n codes slots₂ sizes₂ t
