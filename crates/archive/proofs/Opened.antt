@@ -16,6 +16,7 @@ use Rattle.entries.specs.declared.ArchiveRead.the-variants as Read
 use Rattle.entries.proofs.Accepted.{read-forth, archive-forth}
 use Rattle.fields.specs.Words.{wordsAt}
 use Rattle.ready.specs.Ready.{Ready}
+use Rattle.normals.specs.Grouped.{Grouped}
 use Rattle.required.proofs.Judged.{sizes-at, read-ready}
 use Rattle.required.proofs.Reading.{read-of}
 use Rattle.archive.specs.Accepts.{Accepts}
@@ -39,6 +40,16 @@ told : (p : Parsed Held) {d n m : ℕ} → archiveAnswer p ≡ Read.Entries d n 
     → (a : Held) × (rest : List ℕ) × (p ≡ got a rest) × (length (a .sizes) ≡ d) × (length (a .bases) ≡ n) × (length (a .cells) ≡ m)
 told (stop k) e = let z : false ≡ true = cc in absurd (false≢true z)
 told (got a rest) e = (a, rest, refl, cc e, cc e, cc e)
+
+-- the slots of the rows that the walk told of are those of the rows that were read
+pub grouped-read : (s : List ℕ) {d n m i j k : ℕ} (codes : List ℕ) (sums : List ℤ) (counts : List ℕ) {store used : List ℕ} → archiveAnswer (walkArchive s) ≡ Read.Entries d n m → archiveAnswer (readArchive s) ≡ Read.Entries i j k
+    → Grouped d n (take (n * d) codes) (take n sums) (take n counts) store used → Grouped i j (take (j * i) codes) (take j sums) (take j counts) store used
+grouped-read s {d} {n} {m} {i} {j} {k} codes sums counts e f g =
+    let t = told (readArchive s) f in
+    let h : Read.Entries d n m ≡ Read.Entries i j k = sym e ∙ ap archiveAnswer (read-forth s (t .2) .0 ∙ sym (t .2)) ∙ f in
+    let dims : d ≡ i = cc h in
+    let rows : n ≡ j = cc h in
+    rw (← dims, ← rows) g
 
 pub opened : {s codes : List ℕ} {sums : List ℤ} {counts : List ℕ} {d n m : ℕ} → Bytes s → Accepts s codes sums counts d n m → OpenedIn s d n m codes sums counts
 opened {s} {codes} {sums} {counts} {d} {n} {m} b x =

@@ -6,11 +6,12 @@ use calls::Written;
 use entries::ArchiveRead;
 use questions::Look;
 ghost use mathlib.Core.Path.{_≡_};
-ghost use Prim.Native.Nat.{_≤_};
-ghost use lib.ListN.{length};
+ghost use Prim.Native.Nat.{_*_};
+ghost use lib.ListN.{take};
 ghost use Rattle.rows.specs.Rows.{rowsOf};
 ghost use Rattle.entries.specs.Reading.{walkArchive, archiveAnswer};
 ghost use Rattle.ready.specs.Ready.{Ready};
+ghost use Rattle.normals.specs.Grouped.{Grouped};
 ghost use Rattle.cuboids.specs.Cuboids.{cuboidBytes, expansionBytes};
 ghost use Rattle.calls.specs.Answers.{bytes, Answered};
 ghost use Rattle.calls.specs.Calls.{checks, listsCuboid, expands, looksUp};
@@ -103,7 +104,7 @@ pub fn list_cuboid(archive: &[u8], set: u32, out: &mut [u8]) -> Written
     list_in(archive, &mut codes, &mut sums, &mut counts, set, out)
 }
 
-// Writes the expansion where there is room for it.
+// Writes the expansion where there is room for it, by the slots that are lent.
 fn fit_expansion(
     out: &mut [u8],
     codes: &[u32],
@@ -112,18 +113,19 @@ fn fit_expansion(
     rows: usize,
     dims: usize,
     store: &mut [u16],
+    used: &mut [usize],
 ) -> Written
-    requires { ⌜ Ready dims rows (now codes) (now sums) (now counts) × (262144 ≤ length (now store)) ⌝ }
+    requires { ⌜ Grouped dims rows (now codes) (now sums) (now counts) (now store) (now used) ⌝ }
     ensures { λ r. ⌜ Answered (bytes (expansionBytes dims (rowsOf dims rows (now (codes .entry)) (now (sums .entry)) (now (counts .entry))))) (now (out .entry)) (now (out .exit)) r ⌝ }
 {
-    let needed = cuboids::write_expansion(out, codes, sums, counts, rows, dims, store);
+    let needed = cuboids::write_expansion(out, codes, sums, counts, rows, dims, store, used);
     if out.len() < needed {
         return Written::Stop(15);
     }
     Written::Length(needed)
 }
 
-// Expands an archive that was accepted.
+// Expands an archive that was accepted; the slots that are lent are those of its base rows.
 fn expand_read(
     s: &[u8],
     codes: &[u32],
@@ -133,15 +135,26 @@ fn expand_read(
     bases: u32,
     cells: u32,
     store: &mut [u16],
+    used: &mut [usize],
     out: &mut [u8],
 ) -> Written
-    requires { ⌜ Accepts (now s) (now codes) (now sums) (now counts) dims bases cells × (262144 ≤ length (now store)) ⌝ }
+    requires { ⌜ Accepts (now s) (now codes) (now sums) (now counts) dims bases cells ⌝ }
+    requires { ⌜ Grouped dims bases (take (bases * dims) (now codes)) (take bases (now sums)) (take bases (now counts)) (now store) (now used) ⌝ }
     ensures { λ r. ⌜ Answered (expands (now (s .entry))) (now (out .entry)) (now (out .exit)) r ⌝ }
 {
     let d = dims as usize;
     let n = bases as usize;
     let size = n * d;
-    fit_expansion(out, &codes[..size], &sums[..n], &counts[..n], n, d, store)
+    fit_expansion(
+        out,
+        &codes[..size],
+        &sums[..n],
+        &counts[..n],
+        n,
+        d,
+        store,
+        used,
+    )
 }
 
 // Reads the base rows of an archive whose fields are right into the arrays that are lent, and expands it.
@@ -151,6 +164,7 @@ fn expand_in(
     sums: &mut [i64; 1024],
     counts: &mut [u32; 1024],
     store: &mut [u16; 262144],
+    used: &mut [usize; 256],
     dims: u32,
     bases: u32,
     cells: u32,
@@ -159,16 +173,15 @@ fn expand_in(
     requires { ⌜ archiveAnswer (walkArchive (now s)) ≡ ArchiveRead.Entries dims bases cells ⌝ }
     ensures { λ r. ⌜ Answered (expands (now (s .entry))) (now (out .entry)) (now (out .exit)) r ⌝ }
 {
-    let mut used = [0usize; 256];
-    match required::read_judged(s, codes, sums, counts, store, &mut used, dims, bases, cells) {
+    match required::read_judged(s, codes, sums, counts, store, used, dims, bases, cells) {
         ArchiveRead::Stop(n) => Written::Stop(n),
         ArchiveRead::Entries { dims, bases, cells } => {
-            expand_read(s, codes, sums, counts, dims, bases, cells, store, out)
+            expand_read(s, codes, sums, counts, dims, bases, cells, store, used, out)
         }
     }
 }
 
-// Expands an archive whose fields are right. One array has the slots of the check and then those of the expansion.
+// Expands an archive whose fields are right. The slots of the check are completed for the expansion.
 fn expand_fields(s: &[u8], dims: u32, bases: u32, cells: u32, out: &mut [u8]) -> Written
     requires { ⌜ archiveAnswer (walkArchive (now s)) ≡ ArchiveRead.Entries dims bases cells ⌝ }
     ensures { λ r. ⌜ Answered (expands (now (s .entry))) (now (out .entry)) (now (out .exit)) r ⌝ }
@@ -177,12 +190,14 @@ fn expand_fields(s: &[u8], dims: u32, bases: u32, cells: u32, out: &mut [u8]) ->
     let mut sums = [0i64; 1024];
     let mut counts = [0u32; 1024];
     let mut store = [0u16; 262144];
+    let mut used = [0usize; 256];
     expand_in(
         s,
         &mut codes,
         &mut sums,
         &mut counts,
         &mut store,
+        &mut used,
         dims,
         bases,
         cells,

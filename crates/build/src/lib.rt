@@ -12,7 +12,7 @@ ghost use Rattle.ready.specs.Ready.{Ready};
 ghost use Rattle.calls.specs.Answers.{bytes, Answered};
 ghost use Rattle.calls.specs.Calls.{builds};
 
-// Writes the archive of sizes and base rows where there is room for it.
+// Writes the archive of sizes and base rows where there is room for it, with a lent array for slots.
 pub fn fit_archive(
     out: &mut [u8],
     sizes: &[u32],
@@ -20,11 +20,12 @@ pub fn fit_archive(
     sums: &[i64],
     counts: &[u32],
     rows: usize,
+    store: &mut [u16],
 ) -> Written
-    requires { ⌜ Ready (length (now sizes)) rows (now codes) (now sums) (now counts) × Limits (now sizes) (rowsOf (length (now sizes)) rows (now codes) (now sums) (now counts)) ⌝ }
+    requires { ⌜ Ready (length (now sizes)) rows (now codes) (now sums) (now counts) × Limits (now sizes) (rowsOf (length (now sizes)) rows (now codes) (now sums) (now counts)) × (262144 ≤ length (now store)) ⌝ }
     ensures { λ r. ⌜ Answered (bytes (archiveBytes (now (sizes .entry)) (rowsOf (length (now (sizes .entry))) rows (now (codes .entry)) (now (sums .entry)) (now (counts .entry))))) (now (out .entry)) (now (out .exit)) r ⌝ }
 {
-    let needed = building::write_archive(out, sizes, codes, sums, counts, rows);
+    let needed = building::write_archive(out, sizes, codes, sums, counts, rows, store);
     if out.len() < needed {
         return Written::Stop(15);
     }
@@ -39,14 +40,15 @@ fn write_sized(
     sums: &[i64],
     counts: &[u32],
     rows: usize,
+    store: &mut [u16],
     out: &mut [u8],
 ) -> Written
-    requires { ⌜ (8 + 4 * length (now sizes) ≤ length (now s)) × Ready (length (now sizes)) rows (now codes) (now sums) (now counts) ⌝ }
+    requires { ⌜ (8 + 4 * length (now sizes) ≤ length (now s)) × Ready (length (now sizes)) rows (now codes) (now sums) (now counts) × (262144 ≤ length (now store)) ⌝ }
     requires { ⌜ Limits (wordsAt (now s) (length (now sizes)) 8) (rowsOf (length (now sizes)) rows (now codes) (now sums) (now counts)) ⌝ }
     ensures { λ r. ⌜ Answered (bytes (archiveBytes (wordsAt (now (s .entry)) (length (now (sizes .entry))) 8) (rowsOf (length (now (sizes .entry))) rows (now (codes .entry)) (now (sums .entry)) (now (counts .entry))))) (now (out .entry)) (now (out .exit)) r ⌝ }
 {
     fields::read_words(s, 8, sizes);
-    fit_archive(out, sizes, codes, sums, counts, rows)
+    fit_archive(out, sizes, codes, sums, counts, rows, store)
 }
 
 // Writes the archive of a table that was accepted; the arrays have its base rows.
@@ -67,6 +69,7 @@ fn build_read(
     let n = rows as usize;
     let size = n * d;
     let mut sizes = [0u32; 8];
+    let mut store = [0u16; 262144];
     write_sized(
         s,
         &mut sizes[..d],
@@ -74,6 +77,7 @@ fn build_read(
         &sums[..n],
         &counts[..n],
         n,
+        &mut store,
         out,
     )
 }

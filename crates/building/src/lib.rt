@@ -59,7 +59,7 @@ fn put_archive(
     fields::put_check(out, at)
 }
 
-// Writes the archive where there is room for it. Returns how long it is.
+// Writes the archive where there is room for it, with a lent array for slots. Returns how long it is.
 pub fn write_archive(
     out: &mut [u8],
     sizes: &[u32],
@@ -67,12 +67,12 @@ pub fn write_archive(
     sums: &[i64],
     counts: &[u32],
     rows: usize,
+    store: &mut [u16],
 ) -> usize
-    requires { ⌜ Ready (length (now sizes)) rows (now codes) (now sums) (now counts) × Limits (now sizes) (rowsOf (length (now sizes)) rows (now codes) (now sums) (now counts)) ⌝ }
+    requires { ⌜ Ready (length (now sizes)) rows (now codes) (now sums) (now counts) × Limits (now sizes) (rowsOf (length (now sizes)) rows (now codes) (now sums) (now counts)) × (262144 ≤ length (now store)) ⌝ }
     ensures { λ r. ⌜ Fitted (archiveBytes (now (sizes .entry)) (rowsOf (length (now (sizes .entry))) rows (now (codes .entry)) (now (sums .entry)) (now (counts .entry)))) (now (out .entry)) (now (out .exit)) r ⌝ }
 {
     let dims = sizes.len();
-    let mut store = [0u16; 262144];
     let mut used = [0usize; 256];
     let mut sets = [0u8; 71680];
     let mut lens = [0u32; 1024];
@@ -80,7 +80,7 @@ pub fn write_archive(
         codes,
         rows,
         dims,
-        &mut store,
+        store,
         &mut used,
         &mut sets,
         &mut lens[..rows],
@@ -105,7 +105,7 @@ pub fn write_archive(
             rows,
             &sets,
             &lens[..rows],
-            &store,
+            store,
             &used,
             cells,
         )

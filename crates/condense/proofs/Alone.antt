@@ -31,6 +31,7 @@ module _ {d n : ℕ} {codes alone : List ℕ} {s : ℕ} (low : Lower d n codes a
     room = room;
     sound = λ x h e. ap not (told x) ∙ low .sound x h e;
     first = λ e x. ap not (told x ∙ ap (λ (z : ℕ). passes 8 alone z x) e ∙ passes-first alone x);
+    next = λ e f x h. ap not (told x) ∙ low .next e f x h;
   }
 
   pub lower-new : keep (stays passed) (leftOut 2 xs n s) ≡ new

@@ -6,7 +6,7 @@ use mathlib.Core.Bool.{Bool, true, false, not, _&&_, false≢true, Bool·not-not
 use mathlib.Core.List.{List, [], _∷_, _++_, append-nil, Memᴰ·append-right, List·Memᴰ·head, List·Memᴰ·tail, List·Memᴰ·not-nil}
 use Prim.Native.Nat.{ℕ, _-_, _*_, _^_, _≤_, _<_}
 use native.Mathlib.Omega.{arith}
-use lib.Pow.{pow-mono, pow-lt}
+use lib.Pow.{pow-mono, pow-lt, pow-pos}
 use lib.ListN.{length, getD, length-map}
 use lib.Seq.{ext-getD}
 use borrow.Author.Tests.{not-true, not-false}
@@ -16,9 +16,9 @@ use Rattle.lists.proofs.Tests.{cases, truth, refuted, some-in, some-of}
 use Rattle.lists.proofs.Members.{at-in, keep-in, keep-of}
 use Rattle.lists.proofs.Pairwise.{pairwise-keep}
 use Rattle.lists.proofs.Places.{map-at}
-use Rattle.lattice.specs.Sets.{before, full, sets, setsFrom, holds}
+use Rattle.lattice.specs.Sets.{size as sizeOf, before, full, sets, setsFrom, holds}
 use Rattle.lattice.proofs.Sets.{by-lattice, sets-of, full-lt, holds-enough}
-use Rattle.lattice.proofs.Less.{less-held, less-before, less-between}
+use Rattle.lattice.proofs.Less.{less-within, less-held, less-before, less-between}
 use Rattle.lattice.proofs.Turns.{from-full}
 use Rattle.cube.specs.Codes.{plain}
 use Rattle.cube.specs.Condensed.{proper, single, Base}
@@ -31,7 +31,8 @@ use Rattle.rowsets.specs.Rowsets.{has}
 use Rattle.engine.specs.Index.{key}
 use Rattle.slots.specs.Slots.{shares}
 use Rattle.crowds.specs.Crowds.{shorter, leftOut}
-use Rattle.crowds.proofs.Shorter.{shorter-less, shorter-holds, rising-front}
+use Rattle.crowds.proofs.Shorter.{shorter-less, shorter-holds, shorter-alone, rising-front}
+use Rattle.crowds.proofs.First.{first-shares}
 use Rattle.crowds.proofs.Turns.{all-rising, all-of}
 use Rattle.crowds.proofs.Left.{left-in, left-of, left-distinct, shares-single}
 use Rattle.condense.specs.Lists.{noted}
@@ -138,6 +139,17 @@ module _ (d n : ℕ) (codes : List ℕ) (dims : d ≤ 8) (few : n ≤ 1024) (siz
         passed-of (shorter s) (omega (arith, l, within)) (λ q. omega (arith, q, l)) (shorter-holds s one small d)
         (not-false (single (plain d) xs (shorter s) x) (sym (sharing (omega (arith, l))) ∙ t))
 
+    -- none is passed over where only the empty set is smaller: they all share its cell
+    first-on : sizeOf s ≡ 1 → n ≢ 1 → isNew alone s i ≡ true
+    first-on one more = ap not (refuted (λ p. let r = passes-in alone s i 8 p in
+        let k = r .0 in
+        let w = less-within 32 k s (omega (arith, r .1)) (r .2) in
+        let below : s - 2 ^ k < s = omega (arith, w, pow-pos k) in
+        let e : s - 2 ^ k ≡ 0 = shorter-alone s (omega (arith, w, pow-pos k)) small one (s - 2 ^ k) below (less-held 32 k s (omega (arith, r .1)) (r .2) 8) in
+        let m = subst (λ (t : ℕ). t ∈ done) e (less-done k (r .1) (r .2)) in
+        let g = subst (λ (t : ℕ). has (wordsOf alone t) i ≡ true) e (r .3) in
+        false≢true (sym (known 0 m i h ∙ ap not (first-shares d n codes (b .valid) 2 (omega arith) more i h)) ∙ g)))
+
     next : listedTo (plain d) xs (done ++ s ∷ []) x ≡ acc ++ only (single (plain d) xs s x && opened) s []
     next = listed-more (plain d) (plain-laws d) xs done x s
 
@@ -169,7 +181,7 @@ module _ (d n : ℕ) (codes : List ℕ) (dims : d ≤ 8) (few : n ≤ 1024) (siz
         (λ t. kept (λ y m g. false≢true (sym (subst (λ (z : ℕ). shares 2 (key s xs) n z ≡ false) g (left-in 2 xs n s y (keep-in (isNew alone s) (leftOut 2 xs n s) m .0) .1)) ∙ sharing (omega arith) ∙ ap not t)) (rw t))
 
   pub lone-lower : Lower d n codes alone s
-  lone-lower = record { sound = kept-on; whole = passed-on }
+  lone-lower = record { sound = kept-on; whole = passed-on; next = λ one more i h. first-on i h one more }
 
   pub partly-noted : noted s lone (partly d xs done) ≡ partly d xs (done ++ s ∷ [])
   unfolding partly

@@ -6,17 +6,19 @@ use mathlib.Core.List.{List}
 use Prim.Native.Nat.{ℕ, zero, suc, _+_, _-_, _*_, _/_, _^_, _≤_, _<_}
 use native.Mathlib.Numerals.{add-one}
 use native.Mathlib.Omega.{arith}
-use lib.Dec.{eqb, ltb}
+use lib.Dec.{eqb}
 use lib.Pow.{pow-pos}
-use lib.ListN.{length, getD, drop, set, length-set, length-take, length-drop, List·getD-eq-default}
+use lib.ListN.{length, getD, drop, set, length-set, length-take, length-drop}
 use lib.Seq.{getD-set-same, getD-set-other, getD-take, getD-drop, ext-getD, length-take-le}
-use borrow.Author.Tests.{eqb-true, eqb-false, eq-eqb, ne-eqb, ltb-true, ltb-false}
+use borrow.Author.Tests.{eqb-true, eqb-false, eq-eqb, ne-eqb}
 use Rattle.lists.specs.Lists.{some}
 use Rattle.lists.proofs.Tests.{cases, truth, both, either}
 use Rattle.lattice.specs.Sets.{holds}
 use Rattle.lattice.proofs.Less.{less-within}
+use Rattle.deals.specs.Deals.{Zeros}
 use Rattle.rowsets.specs.Rowsets.{has}
 use Rattle.rowsets.proofs.Bits.{has-none}
+use Rattle.slots.proofs.Whole.{zero-at}
 use Rattle.condense.specs.Alone.{wordsOf, passes, Stored}
 use Rattle.condense.proofs.Lists.{some-next, some-done}
 
@@ -91,10 +93,8 @@ module _ (rows old words : List ℕ) (i : ℕ) (a : Adding rows old words i) whe
 
 -- ---- the rows that are passed over
 
-pub cleared-none : (words : List ℕ) {n : ℕ} → (length words ≡ n) × ((i : ℕ) → i < n → getD words i 0 ≡ 0) → (x : ℕ) → has words x ≡ false
-cleared-none words c = has-none words (λ i. cases (truth (ltb i (length words)))
-    (λ t. c .1 i (omega (arith, ltb-true i (length words) t, c .0)))
-    (λ t. List·getD-eq-default words 0 (ltb-false i (length words) t)))
+pub cleared-none : (words : List ℕ) → Zeros words → (x : ℕ) → has words x ≡ false
+cleared-none words z = has-none words (λ i. zero-at words i z)
 
 module _ (alone : List ℕ) (s x : ℕ) where
   -- row x is in the words of s without the dimension at place k

@@ -4,7 +4,7 @@
 --   AloneOn ..            they have the rows that share no cell on s
 --   passes k alone s x    row x is in the words of s without one of its first k dimensions
 --   isNew alone s x       row x is in the words of none of the sets that have one dimension less: it is not passed over at s
---   Lower ..              the words of these sets serve at s: a row in them shares no cell there, and one that shares none on the shorter set is in them
+--   Lower ..              the words of these sets serve at s: a row in them shares no cell there, and one that shares none on the shorter set is in them; where s has one dimension they have no row, unless there is one only
 --   Stored ..             words are put into those of set s, and those of the others are as they were
 --   Told ..               the words of set s have the rows that share no cell there, and those of the others are as they were
 use mathlib.Core.Path.{_≡_}
@@ -13,7 +13,7 @@ use mathlib.Core.Bool.{Bool, true, false, not, _&&_, _||_}
 use mathlib.Core.List.{List}
 use Prim.Native.Nat.{ℕ, zero, suc, _-_, _*_, _^_, _≤_, _<_}
 use lib.ListN.{take, drop}
-use Rattle.lattice.specs.Sets.{holds}
+use Rattle.lattice.specs.Sets.{size, holds}
 use Rattle.rows.specs.Rows.{cut}
 use Rattle.rowsets.specs.Rowsets.{has}
 use Rattle.engine.specs.Index.{key}
@@ -36,6 +36,7 @@ isNew alone s x = not (passes 8 alone s x)
 pub record Lower (d n : ℕ) (codes alone : List ℕ) (s : ℕ) : Type 0 where
   pub sound : (x : ℕ) → x < n → shares 2 (key s (cut d n codes)) n x ≡ true → isNew alone s x ≡ true
   pub whole : (x : ℕ) → x < n → 1 ≤ s → shares 2 (key (shorter s) (cut d n codes)) n x ≡ false → passes 8 alone s x ≡ true
+  pub next : size s ≡ 1 → n ≢ 1 → (x : ℕ) → x < n → isNew alone s x ≡ true
 
 pub record Stored (words alone alone₂ : List ℕ) (s : ℕ) : Type 0 where
   pub here : wordsOf alone₂ s ≡ words

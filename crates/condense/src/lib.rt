@@ -51,15 +51,6 @@ fn note_lone(lone: &[u32], set: u8, sets: &mut [u8], lens: &mut [u32], rows: usi
     }
 }
 
-// Sets all words to 0.
-fn clear(words: &mut [u32])
-    ensures { λ _. ⌜ (length (now (words .exit)) ≡ length (now (words .entry))) × ((i : ℕ) → i < length (now (words .entry)) → getD (now (words .exit)) i 0 ≡ 0) ⌝ }
-{
-    for i in 0..words.len() {
-        words[i] = 0;
-    }
-}
-
 // The words of a set.
 fn words_of<'a>(alone: &'a [u32], set: usize) -> &'a [u32]
     requires { ⌜ (8192 ≤ length (now alone)) × (set < 256) ⌝ }
@@ -75,7 +66,7 @@ fn pass_rows(alone: &[u32], set: u32, passed: &mut [u32])
     requires { ⌜ (8192 ≤ length (now alone)) × (set < 256) × (length (now passed) ≡ 32) ⌝ }
     ensures { λ _. ⌜ (length (now (passed .exit)) ≡ 32) × ((x : ℕ) → hasRow (now (passed .exit)) x ≡ passes 8 (now (alone .entry)) set x) ⌝ }
 {
-    clear(passed);
+    deals::clear(passed);
     for d in 0..8 {
         let one = lattice::sets_of(d);
         if !lattice::holds_set(set, one) {
@@ -119,13 +110,12 @@ fn list_set(
     sizes: &mut [usize],
     order: &mut [u32],
     marks: &mut [u32],
-    next: &mut [u32],
     lone: &mut [u32],
     sets: &mut [u8],
     lens: &mut [u32],
 ) -> usize
     requires { ⌜ (rows ≤ 1024) × Valid dims (cut dims rows (now codes)) × (dims ≤ 8) × Columns dims rows (now codes) (now columns) × (set < 2 ^ dims) × (1 ≤ set → Holds 2 dims rows (now codes) (now store) (now sizes) (shorter set)) ⌝ }
-    requires { ⌜ (262144 ≤ length (now store)) × (256 ≤ length (now sizes)) × (length (now order) ≡ 1024) × (length (now marks) ≡ 1024) × (length (now next) ≡ 1026) × (length (now lone) ≡ 1024) ⌝ }
+    requires { ⌜ (262144 ≤ length (now store)) × (256 ≤ length (now sizes)) × (length (now order) ≡ 1024) × (length (now marks) ≡ 1024) × (length (now lone) ≡ 1024) ⌝ }
     requires { ⌜ (8192 ≤ length (now alone)) × (length (now passed) ≡ 32) × Lower dims rows (now codes) (now alone) set ⌝ }
     requires { ⌜ (rows * 70 ≤ length (now sets)) × (length (now lens) ≡ rows) × Short rows (now lens) × Fit (noted set (keep (isNew (now alone) set) (leftOut 2 (cut dims rows (now codes)) rows set)) (listsOf rows (now sets) (now lens))) ⌝ }
     ensures { λ r. ⌜ Filled 2 dims rows (now (codes .entry)) (now (store .entry)) (now (sizes .entry)) (now (store .exit)) (now (sizes .exit)) set ⌝ }
@@ -146,7 +136,6 @@ fn list_set(
         sizes,
         order,
         marks,
-        next,
         lone,
     );
     let new = &lone[..n];
@@ -178,9 +167,8 @@ pub fn condense_rows(
     let mut passed = [0u32; 32];
     let mut order = [0u32; 1024];
     let mut marks = [0u32; 1024];
-    let mut next = [0u32; 1026];
     let mut lone = [0u32; 1024];
-    clear(lens);
+    deals::clear(lens);
     crowds::read_columns(codes, rows, dims, &mut columns);
     let all = lattice::sets_of(dims as u32) - 1;
     let mut cells = 0;
@@ -201,7 +189,6 @@ pub fn condense_rows(
             sizes,
             &mut order,
             &mut marks,
-            &mut next,
             &mut lone,
             sets,
             lens,

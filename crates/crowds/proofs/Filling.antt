@@ -1,8 +1,8 @@
 -- A slot is filled from another one.
-use mathlib.Core.Path.{_≡_, refl, sym, ap, ap₂, subst, _∙_}
+use mathlib.Core.Path.{_≡_, sym, ap, ap₂, subst, _∙_}
 use mathlib.Core.Bool.{Bool, true, not}
 use mathlib.Core.List.{List, [], _∷_, _++_, map}
-use Prim.Native.Nat.{ℕ, zero, suc, _+_, _*_, _^_, _≤_, _<_}
+use Prim.Native.Nat.{ℕ, _+_, _*_, _^_, _≤_, _<_}
 use native.Mathlib.Omega.{arith}
 use native.Mathlib.Numerals.{add-one}
 use lib.Dec.{ltb}
@@ -18,41 +18,22 @@ use Rattle.deals.specs.Deals.{Names}
 use Rattle.rowsets.specs.Rowsets.{stays}
 use Rattle.rowsets.proofs.Bits.{has-none}
 use Rattle.rows.specs.Rows.{cut}
-use Rattle.rows.proofs.Rows.{cut-length}
-use Rattle.engine.specs.Index.{key, arranged, columnOf, Valid}
-use Rattle.engine.proofs.Columns.{column-small, column-length}
+use Rattle.engine.specs.Index.{key, arranged}
 use Rattle.engine.proofs.Sorted.{stable-in}
-use Rattle.engine.proofs.Refined.{Refined}
-use Rattle.slots.specs.Slots.{crowds, packed, rowIn, endIn, codeIn, loneRows, slotFrom, loneFrom, out, markIn, markKey, splitOrder, Slot}
+use Rattle.slots.specs.Slots.{crowds, packed, rowIn, endIn, codeIn, slotFrom, loneFrom, out, markIn, markKey, splitOrder, Slot}
 use Rattle.slots.proofs.Split.{slot-same, lone-same, split-kept, split-left}
 use Rattle.slots.proofs.Slotted.{slot-few, slot-in}
-use Rattle.slots.proofs.Last.{last-refined}
-use Rattle.crowds.specs.Crowds.{part, Columns, Passing, place, shorter, leftOut, Holds, Filled, ends}
-use Rattle.crowds.proofs.Shorter.{shorter-last, shorter-and, shorter-place}
+use Rattle.crowds.specs.Crowds.{part, Passing, shorter, leftOut, Holds, Filled, ends}
+use Rattle.crowds.proofs.Column.{Turn, left-next, turn-refined, turn-small, turn-column, turn-rising}
 use Rattle.crowds.proofs.Parts.{part-here, part-other}
 
 pub below-all : {s : ℕ} (d : ℕ) → d ≤ 8 → s < 2 ^ d → s < 256
 below-all d h l = omega (arith, l, pow-mono {i = d} {j = 8} h)
 
-left-next : (least : ℕ) (xs : List (List ℕ)) (n s : ℕ) → 1 ≤ s → leftOut least xs n s ≡ loneRows least (key (shorter s) xs) (key s xs) n
-unfolding leftOut
-left-next least xs n zero h = absurd (omega (arith, h))
-left-next least xs n (suc s) h = refl
-
 -- ---- the groups of the set without its last dimension are split
 
 pub record Next (least d n : ℕ) (codes columns column rising passed store sizes : List ℕ) (s : ℕ) (old : List ℕ) : Type 0 where
-  pub low : 1 ≤ least
-  pub high : least ≤ 2
-  pub few : n ≤ 1024
-  pub valid : Valid d (cut d n codes)
-  pub one : 1 ≤ s
-  pub small : s < 256
-  pub within : s < 2 ^ d
-  pub told : Columns d n codes columns
-  pub is-column : column ≡ part (place s) n columns
-  pub is-rising : rising ≡ part (8 + place s) n columns
-  pub passing : Passing least d n codes passed s
+  pub turn : Turn least d n codes columns column rising passed s
   pub held : Holds least d n codes store sizes (shorter s)
   pub is-old : old ≡ part (shorter s) (getD sizes (shorter s) 0) store
 
@@ -60,36 +41,23 @@ module _ {least d n : ℕ} {codes columns column rising passed store sizes : Lis
   abbrev xs : List (List ℕ)
   xs = cut d n codes
 
-  last : place s < d
-  last = shorter-place s (x .one) (x .small) d (x .within)
-
-  by-last : column ≡ columnOf (place s) xs
-  by-last = x .is-column ∙ x .told .column (place s) last
-
-  refined : Refined n (key (shorter s) xs) (codeIn column) (key s xs)
-  refined = subst (λ (l : List ℕ). Refined n (key (shorter s) xs) (codeIn l) (key s xs)) (sym by-last)
-      (last-refined d n (place s) s (shorter s) codes (x .valid) last (shorter-last s (x .one) (x .small)) (shorter-and s (x .one) (x .small)))
-
-  pub next-small : (i : ℕ) → getD column i 0 < 65536
-  next-small = subst (λ (l : List ℕ). (i : ℕ) → getD l i 0 < 65536) (sym by-last) (column-small d (place s) xs (x .valid))
+  few : n ≤ 1024
+  few = x .turn .few
 
   whole : old ≡ packed (crowds least (key (shorter s) xs) n)
   whole = x .is-old ∙ x .held .slot
 
-  pub next-column : length column ≡ n
-  next-column = ap length by-last ∙ column-length (place s) xs ∙ cut-length d n codes
+  slot : Slot n old
+  slot = record { least = least; by = key (shorter s) xs; groups = whole }
 
   pub next-slot : Slot (length column) old
-  next-slot = subst (λ (k : ℕ). Slot k old) (sym next-column) (record { least = least; by = key (shorter s) xs; groups = whole })
+  next-slot = subst (λ (k : ℕ). Slot k old) (sym (turn-column (x .turn))) slot
 
   pub next-rising : rising ≡ arranged (codeIn column) (length column)
-  next-rising =
-      x .is-rising ∙ x .told .order (place s) last
-      ∙ subst (λ (k : ℕ). arranged (codeIn (columnOf (place s) xs)) n ≡ arranged (codeIn (columnOf (place s) xs)) k) (sym next-column) refl
-      ∙ ap (λ (l : List ℕ). arranged (codeIn l) (length column)) (sym by-last)
+  next-rising = subst (λ (k : ℕ). rising ≡ arranged (codeIn column) k) (sym (turn-column (x .turn))) (turn-rising (x .turn))
 
   pub next-few : length old ≤ n
-  next-few = slot-few (x .few) (record { least = least; by = key (shorter s) xs; groups = whole })
+  next-few = slot-few few slot
 
   -- the rows that were split, in order and marked
   module _ (order marks : List ℕ) (e : order ≡ splitOrder (stays passed) column old) (h : (y : ℕ) → y ∈ map rowIn old → getD marks y 0 ≡ markIn (stays passed) column 0 0 old y out) where
@@ -103,20 +71,20 @@ module _ {least d n : ℕ} {codes columns column rising passed store sizes : Lis
     tell y z i j = ap₂ (λ (a b : ℕ). same (a ∷ []) (b ∷ [])) (h y (inside i)) (h z (inside j))
 
     pub next-names : Names order n
-    next-names k l = slot-in (x .few) (record { least = least; by = key (shorter s) xs; groups = whole }) (getD order k 0) (inside (subst (λ (z : List ℕ). getD order k 0 ∈ z) e (at-in 0 order k l)))
+    next-names k l = slot-in few slot (getD order k 0) (inside (subst (λ (z : List ℕ). getD order k 0 ∈ z) e (at-in 0 order k l)))
 
     pub next-kept : slotFrom (codeIn marks) least true order ≡ packed (crowds least (key s xs) n)
     next-kept =
         ap (slotFrom (codeIn marks) least true) e ∙ slot-same (codeIn marks) (markKey p column old) least true (splitOrder p column old) tell
         ∙ ap (λ (l : List ℕ). slotFrom (markKey p column l) least true (splitOrder p column l)) whole
-        ∙ split-kept p column refined next-small least (x .low) (x .high) (x .few) (x .passing .sound)
+        ∙ split-kept p column (turn-refined (x .turn)) (turn-small (x .turn)) least (x .turn .low) (x .turn .high) few (x .turn .passing .sound)
 
     pub next-left : loneFrom (codeIn marks) least true order ≡ keep p (leftOut least xs n s)
     next-left =
         ap (loneFrom (codeIn marks) least true) e ∙ lone-same (codeIn marks) (markKey p column old) least true (splitOrder p column old) tell
         ∙ ap (λ (l : List ℕ). loneFrom (markKey p column l) least true (splitOrder p column l)) whole
-        ∙ split-left p column refined next-small least (x .low) (x .high) (x .few) (x .passing .sound)
-        ∙ ap (keep p) (sym (left-next least xs n s (x .one)))
+        ∙ split-left p column (turn-refined (x .turn)) (turn-small (x .turn)) least (x .turn .low) (x .turn .high) few (x .turn .passing .sound)
+        ∙ ap (keep p) (sym (left-next least xs n s (x .turn .one)))
 
 -- ---- a slot is filled
 
@@ -134,7 +102,7 @@ module _ (least d n : ℕ) (codes store sizes p : List ℕ) (s a k len : ℕ) (f
       few = rw (getD-set-same sizes s len 0 (omega (arith, low, places))) small;
       slot = rw (getD-set-same sizes s len 0 (omega (arith, low, places))) (part-here store p s a k ea ek (omega (arith, whole)) fits len (omega (arith, small, few, whole)) ∙ g);
     };
-    others = λ t q h. record {
+    others = λ m t q h. record {
       few = rw (getD-set-other sizes s t len 0 q) (h .few);
       slot = rw (getD-set-other sizes s t len 0 q) (part-other store p s a k ea ek (omega (arith, whole)) fits t (getD sizes t 0) (omega (arith, h .few, few)) q ∙ h .slot);
     };
@@ -165,4 +133,4 @@ none-passed x = ap not (has-none none zeros x)
         (λ t. List·getD-eq-default none 0 {n = i} (omega (arith, none-long, ltb-false i 32 t)))
 
 pub passing-none : (least d n : ℕ) (codes : List ℕ) (s : ℕ) → Passing least d n codes none s
-passing-none least d n codes s = record { room = none-long; sound = λ x h t. none-passed x; first = λ e x. none-passed x }
+passing-none least d n codes s = record { room = none-long; sound = λ x h t. none-passed x; first = λ e x. none-passed x; next = λ e f x h. none-passed x }

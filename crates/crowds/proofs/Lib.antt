@@ -2,6 +2,9 @@
 pub mod Parts
 pub mod Reading
 pub mod Shorter
+pub mod Left
+pub mod First
+pub mod Column
 pub mod Filling
 pub mod Turns
-pub mod Left
+pub mod Completing

@@ -78,5 +78,5 @@ module _ {least d n : ℕ} {codes : List ℕ} {m : ℕ} (few : m ≤ 256) where
           left = append-snoc (f .done) s (setsFrom m (k + 1)) ∙ next;
           held = λ t i. cases (truth (eqb t s))
               (λ q. rw (eqb-true t s q) (g .here))
-              (λ q. g .others t (eqb-false t s q) (cases (List·Memᴰ·append-cases (f .done) i) (λ j. f .held t j) (λ j. absurd (eqb-false t s q (only-one j)))));
+              (λ q. g .others least t (eqb-false t s q) (cases (List·Memᴰ·append-cases (f .done) i) (λ j. f .held t j) (λ j. absurd (eqb-false t s q (only-one j)))));
         }

@@ -2,10 +2,10 @@
 --
 --   part i n l          the first n elements of part i of a flat list
 --   Columns d n ..      the columns of n rows of d codes; and behind them, for each, the rows in the order of their codes
---   Passing ..          rows may be passed over at set s: none of them shares its cell, and at the empty set there are none
+--   Passing ..          rows may be passed over at set s: none of them shares its cell; at the empty set there are none, nor at a set of one dimension unless there is one row only
 --   Holds ..            the slot of set s has the groups that the rows form by their cells under s
 --   AllHold .. m        so have the slots of all sets below m
---   Filled ..           the slot of set s is filled, and the others are as they were
+--   Filled ..           the slot of set s is filled, and the others have what they had
 --   place s             the place of the last dimension of set s, counted from 0
 --   shorter s           set s without its last dimension
 --   leftOut ..          the rows that are left out at set s: they share their cell under the set without its last dimension, but not that under s
@@ -17,6 +17,7 @@ use mathlib.Core.List.{List, [], _∷_}
 use Prim.Native.Nat.{ℕ, zero, suc, _+_, _-_, _*_, _^_, _≤_, _<_}
 use lib.Count.{leadingZeros}
 use lib.ListN.{length, getD, take, drop}
+use Rattle.lattice.specs.Sets.{size}
 use Rattle.rows.specs.Rows.{cut}
 use Rattle.rowsets.specs.Rowsets.{stays}
 use Rattle.engine.specs.Index.{key, arranged, columnOf}
@@ -34,6 +35,7 @@ pub record Passing (least d n : ℕ) (codes passed : List ℕ) (s : ℕ) : Type 
   pub room : length passed ≡ 32
   pub sound : (x : ℕ) → x < n → shares least (key s (cut d n codes)) n x ≡ true → stays passed x ≡ true
   pub first : s ≡ 0 → (x : ℕ) → stays passed x ≡ true
+  pub next : size s ≡ 1 → n ≢ 1 → (x : ℕ) → x < n → stays passed x ≡ true
 
 abbrev pub place : ℕ → ℕ
 place s = 31 - leadingZeros 32 s
@@ -58,4 +60,4 @@ pub record AllHold (least d n : ℕ) (codes slots sizes : List ℕ) (m : ℕ) : 
 
 pub record Filled (least d n : ℕ) (codes slots sizes slots₂ sizes₂ : List ℕ) (s : ℕ) : Type 0 where
   pub here : Holds least d n codes slots₂ sizes₂ s
-  pub others : (t : ℕ) → t ≢ s → Holds least d n codes slots sizes t → Holds least d n codes slots₂ sizes₂ t
+  pub others : (k t : ℕ) → t ≢ s → Holds k d n codes slots sizes t → Holds k d n codes slots₂ sizes₂ t

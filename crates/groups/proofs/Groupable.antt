@@ -18,6 +18,7 @@ use Rattle.cube.specs.Bounds.{countOf, Summable}
 use Rattle.rows.specs.Rows.{cut}
 use Rattle.engine.specs.Index.{key, arranged}
 use Rattle.engine.specs.Totals.{amountAt, amountsAt}
+use Rattle.engine.proofs.Columns.{table-valid}
 use Rattle.engine.proofs.Arranged.{arranged-length}
 use Rattle.engine.proofs.Counts.{arranged-summable}
 use Rattle.slots.specs.Slots.{flat, crowds, shares, packed, rowIn}
@@ -52,6 +53,7 @@ module _ {d n : ℕ} {codes : List ℕ} {sums : List ℤ} {counts : List ℕ} (r
   groupable = record {
     dims = ready .dims;
     size = ready .size;
+    valid = table-valid d n codes sums counts (ready .table);
     amounts = ready .amounts;
     tallies = ready .tallies;
     few = omega (arith, ap length e, slot-length keys n least (ready .few), flat-few keys n least (ready .few), ready .few);

@@ -1,39 +1,39 @@
--- The codes of the cell of a row under a set, as bytes, from dimension d on: those that are left to write or to compare.
-use mathlib.Core.Path.{_≡_, ap, _∙_}
+-- Codes under a mask, as bytes, from dimension d on: those that are left to write or to compare.
+use mathlib.Core.Path.{_≡_, refl, ap, _∙_}
 use mathlib.Core.Bool.{_&&_}
 use mathlib.Core.List.{List, [], _++_}
-use Prim.Native.Nat.{ℕ, _+_, _*_, _/_, _%_, _^_, _≤_, _<_}
-use native.Mathlib.Nat.{div-one}
+use Prim.Native.Nat.{ℕ, _+_, _*_, _≤_, _<_}
+use native.Mathlib.Nat.{add-zero}
 use native.Mathlib.Numerals.{add-one}
+use lib.Bits.{bitOr}
 use lib.ListN.{length, getD, drop, drop-of-length-le}
-use lib.Pow.{shr-shr}
-use lib.Seq.{drop-cons, drop-drop}
+use lib.Seq.{drop-cons, drop-drop, getD-drop}
 use Rattle.fields.specs.Words.{wordBytes, wordsBytes}
 use Rattle.fields.specs.WordsLaws.{length-wordsBytes}
 use Rattle.fields.specs.Opening.{startsWith}
 use Rattle.fields.specs.OpeningLaws.{startsWith-append}
-use Rattle.cube.specs.Codes.{shown, cell}
-use Rattle.cube.proofs.Codes.{length-cell}
+use Rattle.groups.specs.Masks.{masked}
+use Rattle.groups.proofs.Masks.{length-masked}
 
-pub shown-length : (set : ℕ) (mine : List ℕ) → length (wordsBytes (cell set mine)) ≡ 4 * length mine
-shown-length set mine = length-wordsBytes (cell set mine) ∙ ap (λ (n : ℕ). 4 * n) (length-cell set mine)
+module _ (missing mine : List ℕ) where
+  pub shown-length : length (wordsBytes (masked missing mine)) ≡ 4 * length mine
+  shown-length = length-wordsBytes (masked missing mine) ∙ ap (λ (n : ℕ). 4 * n) (length-masked missing mine)
 
-module _ (set : ℕ) (mine : List ℕ) where
   unfoldable pub shownFrom : ℕ → List ℕ
-  shownFrom d = wordsBytes (cell (set / 2 ^ d) (drop d mine))
+  shownFrom d = wordsBytes (masked (drop d missing) (drop d mine))
 
-  pub shown-all : shownFrom 0 ≡ wordsBytes (cell set mine)
+  pub shown-all : shownFrom 0 ≡ wordsBytes (masked missing mine)
   unfolding shownFrom
-  shown-all = ap (λ (s : ℕ). wordsBytes (cell s mine)) (div-one set)
+  shown-all = refl
 
   -- the word of dimension d
   abbrev pub wordOf : ℕ → List ℕ
-  wordOf d = wordBytes (shown (set / 2 ^ d % 2) (getD mine d 0))
+  wordOf d = wordBytes (bitOr (getD mine d 0) (getD missing d 0))
 
   module _ (d : ℕ) (h : d < length mine) where
     pub shown-on : shownFrom d ≡ wordOf d ++ shownFrom (d + 1)
     unfolding shownFrom wordsBytes
-    shown-on = rw (← shr-shr set d 1, add-one, drop-cons mine d 0 h)
+    shown-on = rw (← drop-drop 1 d missing, add-one, drop-cons mine d 0 h, getD-drop d missing 0 0, add-zero d)
 
     pub shown-compared : (s : List ℕ) (at : ℕ) → startsWith (drop at s) (shownFrom d) ≡ startsWith (drop at s) (wordOf d) && startsWith (drop (at + 4) s) (shownFrom (d + 1))
     shown-compared s at = rw (shown-on, startsWith-append (drop at s) (wordOf d) (shownFrom (d + 1)), drop-drop 4 at s)

@@ -10,6 +10,8 @@ use lib.ListN.{length}
 use Rattle.cube.specs.Measure.{nothing}
 use Rattle.cube.specs.Bounds.{Summable}
 use Rattle.deals.specs.Deals.{Names}
+use Rattle.rows.specs.Rows.{cut}
+use Rattle.engine.specs.Index.{Valid}
 use Rattle.engine.specs.Totals.{amountsAt}
 use Rattle.slots.specs.Slots.{rowIn}
 use Rattle.slots.specs.Summed.{summed}
@@ -18,6 +20,7 @@ use Rattle.entries.specs.Layout.{cellBytes}
 pub record Groupable (d n : ℕ) (codes : List ℕ) (sums : List ℤ) (counts slot : List ℕ) : Type 0 where
   pub dims : d ≤ 8
   pub size : n * d ≡ length codes
+  pub valid : Valid d (cut d n codes)
   pub amounts : length sums ≡ n
   pub tallies : length counts ≡ n
   pub few : length slot ≤ 1024

@@ -6,32 +6,43 @@ ghost use lib.ListN.{length, drop};
 ghost use Rattle.fields.specs.Words.{wordsBytes};
 ghost use Rattle.fields.specs.Opening.{startsWith};
 ghost use Rattle.fields.specs.Written.{Wrote};
-ghost use Rattle.cube.specs.Codes.{cell as cellOf};
 ghost use Rattle.rows.specs.Rows.{cut};
 ghost use Rattle.engine.specs.Index.{key};
 ghost use Rattle.entries.specs.Layout.{cellBytes};
 ghost use Rattle.writing.specs.Matched.{Matched};
+ghost use Rattle.groups.specs.Masks.{masked, Mask};
 ghost use Rattle.groups.specs.Groups.{Groupable, groupBytes};
 
-// Writes the codes of the cell of a row under a set, whose bit d says whether it has dimension d.
-fn put_shown(out: &mut [u8], mine: &[u32], set: u32) -> usize
+// The mask of a set: ALL in the place of each dimension that it lacks.
+fn mask_of(set: u32) -> [u32; 8]
+    ensures { λ r. ⌜ Mask set r ⌝ }
+{
+    let mut missing = [0u32; 8];
+    for d in 0..8 {
+        missing[d] = engine::shown_code(set >> d, 0);
+    }
+    missing
+}
+
+// Writes the codes of a row under a mask.
+fn put_shown(out: &mut [u8], mine: &[u32], missing: &[u32; 8]) -> usize
     requires { ⌜ (length (now mine) ≤ 8) × (4 * length (now mine) ≤ length (now out)) ⌝ }
-    ensures { λ r. ⌜ Wrote (wordsBytes (cellOf set (now (mine .entry)))) (now (out .entry)) (now (out .exit)) r ⌝ }
+    ensures { λ r. ⌜ Wrote (wordsBytes (masked (now (missing .entry)) (now (mine .entry)))) (now (out .entry)) (now (out .exit)) r ⌝ }
 {
     let mut at = 0;
     for d in 0..mine.len() {
-        let code = engine::shown_code(set >> d, mine[d]);
+        let code = mine[d] | missing[d];
         at += fields::put_word(&mut out[at..], code);
     }
     at
 }
 
-// Writes the cell of a row under a set, with a total.
-pub fn put_group(out: &mut [u8], mine: &[u32], set: u32, total: cube::Total) -> usize
+// Writes the codes of a row under a mask, with a total.
+pub fn put_group(out: &mut [u8], mine: &[u32], missing: &[u32; 8], total: cube::Total) -> usize
     requires { ⌜ (length (now mine) ≤ 8) × (4 * length (now mine) + 12 ≤ length (now out)) ⌝ }
-    ensures { λ r. ⌜ Wrote (cellBytes (record { codes = cellOf set (now (mine .entry)); total = total })) (now (out .entry)) (now (out .exit)) r ⌝ }
+    ensures { λ r. ⌜ Wrote (cellBytes (record { codes = masked (now (missing .entry)) (now (mine .entry)); total = total })) (now (out .entry)) (now (out .exit)) r ⌝ }
 {
-    let mut at = put_shown(out, mine, set);
+    let mut at = put_shown(out, mine, missing);
     let sum = total.sum;
     at += fields::put_sum(&mut out[at..], sum);
     at + fields::put_word(&mut out[at..], total.count)
@@ -52,6 +63,7 @@ pub fn put_groups(
     requires { ⌜ length (groupBytes (now sums) (now counts) (key set (cut dims rows (now codes))) (now slot)) ≤ length (now out) ⌝ }
     ensures { λ r. ⌜ Wrote (groupBytes (now (sums .entry)) (now (counts .entry)) (key set (cut dims rows (now (codes .entry)))) (now (slot .entry))) (now (out .entry)) (now (out .exit)) r ⌝ }
 {
+    let missing = mask_of(set);
     let mut at = 0;
     let mut total = cube::Total { sum: 0, count: 0 };
     for i in 0..slot.len() {
@@ -62,38 +74,37 @@ pub fn put_groups(
             continue;
         }
         let mine = rows::row_of(codes, rows, dims, row);
-        at += put_group(&mut out[at..], mine, set, total);
+        at += put_group(&mut out[at..], mine, &missing, total);
         total = cube::Total { sum: 0, count: 0 };
     }
     at
 }
 
-// Whether the codes of the cell of a row under a set stand at a byte offset. No difference ends the loop, so that several codes are compared at once.
-fn shown_is(s: &[u8], start: usize, mine: &[u32], set: u32) -> bool
+// Whether the codes of a row under a mask stand at a byte offset. No difference ends the loop, so that several codes are compared at once.
+fn shown_is(s: &[u8], start: usize, mine: &[u32], missing: &[u32; 8]) -> bool
     requires { ⌜ (length (now mine) ≤ 8) × (start + 4 * length (now mine) ≤ length (now s)) ⌝ }
-    ensures { λ r. ⌜ r ≡ startsWith (drop start (now (s .entry))) (wordsBytes (cellOf set (now (mine .entry)))) ⌝ }
+    ensures { λ r. ⌜ r ≡ startsWith (drop start (now (s .entry))) (wordsBytes (masked (now (missing .entry)) (now (mine .entry)))) ⌝ }
 {
     let mut at = start;
     let mut same = true;
     for d in 0..mine.len() {
-        let code = engine::shown_code(set >> d, mine[d]);
-        let is = fields::word_is(s, at, code);
+        let is = fields::word_is(s, at, mine[d] | missing[d]);
         same = same & is;
         at += 4;
     }
     same
 }
 
-// Whether the bytes s have the cell of a row under a set, with a total, from a place on.
-fn match_group(s: &[u8], start: usize, mine: &[u32], set: u32, total: cube::Total) -> Walk
+// Whether the bytes s have the codes of a row under a mask, with a total, from a place on.
+fn match_group(s: &[u8], start: usize, mine: &[u32], missing: &[u32; 8], total: cube::Total) -> Walk
     requires { ⌜ (length (now mine) ≤ 8) × (start ≤ length (now s)) ⌝ }
-    ensures { λ r. ⌜ Matched (now (s .entry)) start (cellBytes (record { codes = cellOf set (now (mine .entry)); total = total })) r ⌝ }
+    ensures { λ r. ⌜ Matched (now (s .entry)) start (cellBytes (record { codes = masked (now (missing .entry)) (now (mine .entry)); total = total })) r ⌝ }
 {
     let size = 4 * mine.len();
     if s.len() - start < size + 12 {
         return Walk::Stop(12);
     }
-    if !shown_is(s, start, mine, set) {
+    if !shown_is(s, start, mine, missing) {
         return Walk::Stop(12);
     }
     let at = start + size;
@@ -123,6 +134,7 @@ pub fn match_groups(
     requires { ⌜ Groupable dims rows (now codes) (now sums) (now counts) (now slot) × (start ≤ length (now s)) ⌝ }
     ensures { λ r. ⌜ Matched (now (s .entry)) start (groupBytes (now (sums .entry)) (now (counts .entry)) (key set (cut dims rows (now (codes .entry)))) (now (slot .entry))) r ⌝ }
 {
+    let missing = mask_of(set);
     let mut at = start;
     let mut total = cube::Total { sum: 0, count: 0 };
     for i in 0..slot.len() {
@@ -133,7 +145,7 @@ pub fn match_groups(
             continue;
         }
         let mine = rows::row_of(codes, rows, dims, row);
-        match match_group(s, at, mine, set, total) {
+        match match_group(s, at, mine, &missing, total) {
             Walk::Stop(n) => return Walk::Stop(n),
             Walk::At(next) => at = next,
         }

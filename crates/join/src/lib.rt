@@ -30,7 +30,7 @@ fn same_sizes(first: &[u8], second: &[u8], sizes: &mut [u32], others: &mut [u32]
     }
 }
 
-// Writes the archive of two lists of base rows, of the same sizes, as one.
+// Writes the archive of two lists of base rows, of the same sizes, as one, with a lent array for slots.
 fn join_rows(
     sizes: &[u32],
     codes1: &[u32],
@@ -39,9 +39,10 @@ fn join_rows(
     codes2: &[u32],
     sums2: &[i64],
     counts2: &[u32],
+    store: &mut [u16],
     out: &mut [u8],
 ) -> Written
-    requires { ⌜ Store (now sizes) (now codes1) (now sums1) (now counts1) × Store (now sizes) (now codes2) (now sums2) (now counts2) ⌝ }
+    requires { ⌜ Store (now sizes) (now codes1) (now sums1) (now counts1) × Store (now sizes) (now codes2) (now sums2) (now counts2) × (262144 ≤ length (now store)) ⌝ }
     ensures { λ r. ⌜ Answered (filed (now (sizes .entry)) (united totals (length (now (sizes .entry))) (rowsOf (length (now (sizes .entry))) (length (now (counts1 .entry))) (now (codes1 .entry)) (now (sums1 .entry)) (now (counts1 .entry))) (rowsOf (length (now (sizes .entry))) (length (now (counts2 .entry))) (now (codes2 .entry)) (now (sums2 .entry)) (now (counts2 .entry))))) (now (out .entry)) (now (out .exit)) r ⌝ }
 {
     if 1048576 < fees::total_of(counts1) + fees::total_of(counts2) {
@@ -67,7 +68,15 @@ fn join_rows(
         return Written::Stop(18);
     }
     let size = n * d;
-    build::fit_archive(out, sizes, &codes[..size], &sums[..n], &counts[..n], n)
+    build::fit_archive(
+        out,
+        sizes,
+        &codes[..size],
+        &sums[..n],
+        &counts[..n],
+        n,
+        store,
+    )
 }
 
 // Joins two archives that were accepted; the arrays have their base rows.
@@ -84,9 +93,10 @@ fn join_read(
     counts2: &[u32],
     dims2: u32,
     rows2: u32,
+    store: &mut [u16],
     out: &mut [u8],
 ) -> Written
-    requires { ⌜ Accepted (now first) (now codes1) (now sums1) (now counts1) dims1 rows1 × Accepted (now second) (now codes2) (now sums2) (now counts2) dims2 rows2 ⌝ }
+    requires { ⌜ Accepted (now first) (now codes1) (now sums1) (now counts1) dims1 rows1 × Accepted (now second) (now codes2) (now sums2) (now counts2) dims2 rows2 × (262144 ≤ length (now store)) ⌝ }
     ensures { λ r. ⌜ Answered (joins (now (first .entry)) (now (second .entry))) (now (out .entry)) (now (out .exit)) r ⌝ }
 {
     if dims1 != dims2 {
@@ -108,6 +118,7 @@ fn join_read(
             &codes2[..size2],
             &sums2[..m],
             &counts2[..m],
+            store,
             out,
         )
     } else {
@@ -115,7 +126,7 @@ fn join_read(
     }
 }
 
-// Reads both archives into the arrays that are lent, the first whole before the second, and joins them.
+// Reads both archives into the arrays that are lent, the first whole before the second, and joins them. One array has the slots of both checks and then those of the new archive.
 fn join_in(
     first: &[u8],
     codes1: &mut [u32; 8192],
@@ -125,18 +136,19 @@ fn join_in(
     codes2: &mut [u32; 8192],
     sums2: &mut [i64; 1024],
     counts2: &mut [u32; 1024],
+    store: &mut [u16; 262144],
     out: &mut [u8],
 ) -> Written
     ensures { λ r. ⌜ Answered (joins (now (first .entry)) (now (second .entry))) (now (out .entry)) (now (out .exit)) r ⌝ }
 {
-    match required::read_required(first, codes1, sums1, counts1) {
+    match required::read_lent(first, codes1, sums1, counts1, store) {
         ArchiveRead::Stop(n) => Written::Stop(n),
         ArchiveRead::Entries {
             dims,
             bases,
             cells: _,
         } => {
-            match required::read_required(second, codes2, sums2, counts2) {
+            match required::read_lent(second, codes2, sums2, counts2, store) {
                 ArchiveRead::Stop(n) => Written::Stop(n),
                 ArchiveRead::Entries {
                     dims: dims2,
@@ -155,6 +167,7 @@ fn join_in(
                     counts2,
                     dims2,
                     bases2,
+                    store,
                     out,
                 ),
             }
@@ -172,6 +185,7 @@ pub fn join(first: &[u8], second: &[u8], out: &mut [u8]) -> Written
     let mut codes2 = [0u32; 8192];
     let mut sums2 = [0i64; 1024];
     let mut counts2 = [0u32; 1024];
+    let mut store = [0u16; 262144];
     join_in(
         first,
         &mut codes1,
@@ -181,6 +195,7 @@ pub fn join(first: &[u8], second: &[u8], out: &mut [u8]) -> Written
         &mut codes2,
         &mut sums2,
         &mut counts2,
+        &mut store,
         out,
     )
 }

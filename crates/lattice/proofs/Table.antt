@@ -11,7 +11,7 @@ use borrow.Author.Tests.{eqb-true, ltb-true}
 use Rattle.lists.specs.Lists.{every, some, below}
 use Rattle.lists.specs.Order.{Rising}
 use Rattle.lists.proofs.Tests.{both, every-in, some-in}
-use Rattle.lists.proofs.Members.{below-of, in-at}
+use Rattle.lists.proofs.Members.{below-of, at-in, in-at}
 use Rattle.lists.proofs.Places.{pairwise-at}
 use Rattle.lists.proofs.Sorted.{rising-one, rising-cons, rising-unique}
 use Rattle.lattice.specs.Sets.{before, sets}
@@ -47,6 +47,9 @@ table-at l k e = ap (λ (t : List ℕ). getD t k 0) (table-is l e)
 pub all-sets : length (sets 8) ≡ 256
 unfolding sets ones onesIn
 all-sets = refl
+
+pub set-below : (k : ℕ) → k < 256 → getD (sets 8) k 0 < 256
+set-below k h = sets-in 8 (at-in 0 (sets 8) k (rw all-sets h))
 
 -- the set at an earlier place comes before that at a later place, and each set has a place
 pub set-rises : (k j : ℕ) → k < j → j < 256 → before (getD (sets 8) k 0) (getD (sets 8) j 0) ≡ true

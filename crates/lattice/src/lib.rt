@@ -5,7 +5,7 @@ ghost use lib.ListN.{getD};
 ghost use Rattle.lattice.specs.Sets.{size, sets, holds};
 
 // The sets of 8 dimensions in lattice order: fewer dimensions first, then the smaller number.
-const SETS: [u32; 256] = [
+const SETS: [u8; 256] = [
     0,
     1,
     2,
@@ -269,7 +269,7 @@ pub fn set_at(k: usize) -> u32
     requires { ⌜ k < 256 ⌝ }
     ensures { λ r. ⌜ r ≡ getD (sets 8) k 0 ⌝ }
 {
-    SETS[k]
+    SETS[k] as u32
 }
 
 // How many dimensions a set has.

@@ -22,12 +22,11 @@ use Rattle.entries.specs.declared.ArchiveRead.the-variants as Answer
 use Rattle.entries.proofs.Fields.{Accepted, accepted}
 use Rattle.entries.proofs.Walkable.{walk-forth}
 use Rattle.ready.proofs.Ready.{rows-front}
-use Rattle.lattice.specs.Sets.{full}
 use Rattle.lattice.proofs.Sets.{full-lt}
 use Rattle.rows.specs.Rows.{cut, rowsOf}
 use Rattle.engine.specs.Index.{key}
 use Rattle.slots.proofs.Entries.{slot-length}
-use Rattle.crowds.specs.Crowds.{AllHold}
+use Rattle.normals.specs.Grouped.{Grouped}
 use Rattle.required.specs.Read.{Read}
 use Rattle.required.specs.Sharing.{Sharing, Shares}
 use Rattle.required.proofs.Judged.{sizes-at}
@@ -104,15 +103,16 @@ stored-required s c t k h = go (walkArchive s) h
 -- ---- the rows that share a cell
 
 -- as slots tell it
-pub sharing-held : {d n : ℕ} {codes store used : List ℕ} → d ≤ 8 → n ≤ 1024 → 262144 ≤ length store → 256 ≤ length used → AllHold 2 d n codes store used (full d) → Sharing d n codes used
-sharing-held {d} {n} {codes} {store} {used} h k room sets a = record {
-  sets = sets;
+pub sharing-held : {d n : ℕ} {codes : List ℕ} {sums : List ℤ} {counts store used : List ℕ} → Grouped d n codes sums counts store used → Sharing d n codes used
+sharing-held {d} {n} {codes} {store = store} {used = used} a = record {
+  sets = a .sets;
   rows = λ s f.
-      let g = a .all s f in
-      let below : s + 1 ≤ 256 = omega (arith, f, full-lt d, pow-mono {i = d} {j = 8} h) in
+      let g = a .slots .all s f in
+      let k = a .ready .few in
+      let below : s + 1 ≤ 256 = omega (arith, f, full-lt d, pow-mono {i = d} {j = 8} (a .ready .dims)) in
       let m : (s + 1) * 1024 ≤ 256 * 1024 = mul-le-mul-right 1024 below in
       let small : s * 1024 + 1024 ≤ 262144 = omega (arith, m) in
-      sym (length-take-le (getD used s 0) (drop (s * 1024) store) (omega (arith, g .few, k, small, room, length-drop (s * 1024) store)))
+      sym (length-take-le (getD used s 0) (drop (s * 1024) store) (omega (arith, g .few, k, small, a .room, length-drop (s * 1024) store)))
       ∙ ap length (g .slot) ∙ slot-length (key s (cut d n codes)) n 2 k;
 }
 

@@ -3,21 +3,19 @@ use entries::ArchiveRead;
 use walk::Walk;
 ghost use mathlib.Core.Path.{_≡_};
 ghost use Prim.Native.Nat.{_*_, _≤_};
-ghost use lib.ListN.{length};
+ghost use lib.ListN.{length, take};
 ghost use Rattle.lists.specs.Order.{same};
-ghost use Rattle.lattice.specs.Sets.{full};
 ghost use Rattle.fields.specs.Words.{wordsAt};
 ghost use Rattle.cube.specs.Codes.{plain};
 ghost use Rattle.cube.specs.Condensed.{normals};
 ghost use Rattle.rows.specs.Rows.{cut, rowsOf};
-ghost use Rattle.crowds.specs.Crowds.{AllHold};
 ghost use Rattle.entries.specs.Layout.{archiveBytes};
 ghost use Rattle.entries.specs.Reading.{walkArchive, readArchive, archiveAnswer, Stored};
 ghost use Rattle.writing.specs.Matched.{Matched};
 ghost use Rattle.bases.specs.Listed.{Listed};
 ghost use Rattle.normals.specs.Grouped.{Grouped};
 ghost use Rattle.required.specs.Read.{Read, sections};
-ghost use Rattle.required.specs.Sharing.{Sharing, Shares};
+ghost use Rattle.required.specs.Sharing.{Shares};
 
 // Whether the bytes s have the sections that base rows require from a place on.
 fn match_sections(
@@ -68,7 +66,7 @@ fn judge(
 ) -> bool
     requires { ⌜ Read (now s) dims rows (now codes) (now sums) (now counts) × (rows * 70 ≤ length (now sets)) × (length (now lens) ≡ rows) × (262144 ≤ length (now store)) × (256 ≤ length (now used)) ⌝ }
     ensures { λ r. ⌜ r ≡ same (now (s .entry)) (archiveBytes (wordsAt (now (s .entry)) dims 8) (rowsOf dims rows (now (codes .entry)) (now (sums .entry)) (now (counts .entry)))) ⌝ }
-    ensures { λ r. ⌜ AllHold 2 dims rows (now (codes .entry)) (now (store .exit)) (now (used .exit)) (full dims) ⌝ }
+    ensures { λ r. ⌜ Grouped dims rows (now (codes .entry)) (now (sums .entry)) (now (counts .entry)) (now (store .exit)) (now (used .exit)) ⌝ }
 {
     let cells = condense::condense_rows(codes, rows, dims, store, used, sets, lens);
     let start = 8 + 4 * dims;
@@ -91,7 +89,7 @@ fn judge(
     }
 }
 
-// Whether an archive whose fields are right is the one that its base rows require; how many rows share the cells of each set goes into the buffer that is lent.
+// Whether an archive whose fields are right is the one that its base rows require; their slots go into the buffers that are lent.
 fn is_required(
     s: &[u8],
     codes: &[u32],
@@ -104,7 +102,7 @@ fn is_required(
 ) -> bool
     requires { ⌜ Read (now s) dims rows (now codes) (now sums) (now counts) × (262144 ≤ length (now store)) × (256 ≤ length (now used)) ⌝ }
     ensures { λ r. ⌜ r ≡ same (now (s .entry)) (archiveBytes (wordsAt (now (s .entry)) dims 8) (rowsOf dims rows (now (codes .entry)) (now (sums .entry)) (now (counts .entry)))) ⌝ }
-    ensures { λ r. ⌜ Sharing dims rows (now (codes .entry)) (now (used .exit)) ⌝ }
+    ensures { λ r. ⌜ Grouped dims rows (now (codes .entry)) (now (sums .entry)) (now (counts .entry)) (now (store .exit)) (now (used .exit)) ⌝ }
 {
     let mut sets = [0u8; 71680];
     let mut lens = [0u32; 1024];
@@ -122,7 +120,7 @@ fn is_required(
     )
 }
 
-// What was read of an archive whose fields are right, or stop 12. The arrays have its base rows.
+// What was read of an archive whose fields are right, or stop 12. The arrays have its base rows; their slots go into the buffers that are lent.
 fn judge_read(
     s: &[u8],
     codes: &[u32],
@@ -138,7 +136,7 @@ fn judge_read(
     requires { ⌜ (8192 ≤ length (now codes)) × (1024 ≤ length (now sums)) × (1024 ≤ length (now counts)) × Stored (walkArchive (now s)) (now codes) (now sums) (now counts) ⌝ }
     requires { ⌜ (262144 ≤ length (now store)) × (256 ≤ length (now used)) ⌝ }
     ensures { λ r. ⌜ r ≡ archiveAnswer (readArchive (now (s .entry))) ⌝ }
-    ensures { λ r. ⌜ Shares (walkArchive (now (s .entry))) (now (codes .entry)) (now (used .exit)) ⌝ }
+    ensures { λ r. ⌜ Grouped dims bases (take (bases * dims) (now (codes .entry))) (take bases (now (sums .entry))) (take bases (now (counts .entry))) (now (store .exit)) (now (used .exit)) ⌝ }
 {
     let d = dims as usize;
     let n = bases as usize;
@@ -159,7 +157,7 @@ fn judge_read(
     }
 }
 
-// The base rows of an archive whose fields are right, into the arrays that are lent, with how many of them share the cells of each set; what was read of it, or stop 12. The array for slots is lent too.
+// The base rows of an archive whose fields are right, and their slots, into the arrays that are lent; what was read of it, or stop 12.
 pub fn read_judged(
     s: &[u8],
     codes: &mut [u32; 8192],
@@ -174,7 +172,7 @@ pub fn read_judged(
     requires { ⌜ archiveAnswer (walkArchive (now s)) ≡ ArchiveRead.Entries dims bases cells ⌝ }
     ensures { λ r. ⌜ r ≡ archiveAnswer (readArchive (now (s .entry))) ⌝ }
     ensures { λ r. ⌜ Stored (readArchive (now (s .entry))) (now (codes .exit)) (now (sums .exit)) (now (counts .exit)) ⌝ }
-    ensures { λ r. ⌜ Shares (readArchive (now (s .entry))) (now (codes .exit)) (now (used .exit)) ⌝ }
+    ensures { λ r. ⌜ Grouped dims bases (take (bases * dims) (now (codes .exit))) (take bases (now (sums .exit))) (take bases (now (counts .exit))) (now (store .exit)) (now (used .exit)) ⌝ }
 {
     entries::store_rows(s, dims, bases, codes, sums, counts);
     judge_read(s, codes, sums, counts, dims, bases, cells, store, used)
@@ -213,7 +211,7 @@ pub fn check_required(s: &[u8]) -> ArchiveRead
     }
 }
 
-// The same as `read_judged`, with slots of its own.
+// The same as `read_judged`, with slots of its own: they tell how many rows share the cells of each set.
 fn judge_sharing(
     s: &[u8],
     codes: &mut [u32; 8192],
@@ -253,7 +251,27 @@ pub fn read_sharing(
     }
 }
 
-// Reads an archive with all its stops, 1 to 12; its base rows into the arrays that are lent.
+// Reads an archive with all its stops, 1 to 12; its base rows into the arrays that are lent. The array for slots is lent too.
+pub fn read_lent(
+    s: &[u8],
+    codes: &mut [u32; 8192],
+    sums: &mut [i64; 1024],
+    counts: &mut [u32; 1024],
+    store: &mut [u16; 262144],
+) -> ArchiveRead
+    ensures { λ r. ⌜ r ≡ archiveAnswer (readArchive (now (s .entry))) ⌝ }
+    ensures { λ r. ⌜ Stored (readArchive (now (s .entry))) (now (codes .exit)) (now (sums .exit)) (now (counts .exit)) ⌝ }
+{
+    let mut used = [0usize; 256];
+    match reader::check_archive(s) {
+        ArchiveRead::Stop(n) => ArchiveRead::Stop(n),
+        ArchiveRead::Entries { dims, bases, cells } => {
+            read_judged(s, codes, sums, counts, store, &mut used, dims, bases, cells)
+        }
+    }
+}
+
+// The same as `read_lent`, with slots of its own.
 pub fn read_required(
     s: &[u8],
     codes: &mut [u32; 8192],

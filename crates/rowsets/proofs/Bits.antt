@@ -6,7 +6,7 @@ use mathlib.Core.List.{List}
 use Prim.Native.Nat.{ℕ, zero, suc, _+_, _*_, _/_, _%_, _^_, _≤_, _<_, max}
 use native.Mathlib.Nat.{pow-suc, div-eq-of-lt, zero-div, one-mul}
 use native.Mathlib.Omega.{arith}
-use lib.Bits.{bitOr, or-shr, or-step}
+use lib.Bits.{bitOr, or-shr, or-step, or-add-and, and-le-l, and-le-r}
 use lib.Dec.{eqb, ltb, eqb·suc-suc}
 use lib.ListN.{length, getD, set, length-set, List·getD-eq-default}
 use lib.Pow.{pow-pos, shl-exact, shr-shr}
@@ -108,3 +108,20 @@ module _ {words others : List ℕ} (size : length words ≡ 32) where
         (λ t. let m = ltb-false k 32 t in
         List·getD-eq-default l 0 (omega (arith, j .size, m)) ∙ sym (ap₂ bitOr (List·getD-eq-default words 0 (omega (arith, size, m))) (List·getD-eq-default others 0 (omega (arith, rest, m))))) in
         has-word l x word ∙ bit-or (getD words k 0) (getD others k 0) (x % 32) ∙ sym (ap₂ _||_ (has-word words x refl) (has-word others x refl))
+
+-- ---- no row: where a word has the bits of all words before place i, and has none
+
+abbrev pub Bare : List ℕ → ℕ → ℕ → Type 0
+Bare words any i = any ≡ 0 → (k : ℕ) → k < i → getD words k 0 ≡ 0
+
+module _ (words : List ℕ) (any i : ℕ) (b : Bare words any i) where
+  pub bare-more : Bare words (bitOr any (getD words i 0)) (i + 1)
+  bare-more e k h =
+      let w = getD words i 0 in
+      let sum = or-add-and any w in
+      cases (truth (eqb k i))
+      (λ t. rw (eqb-true k i t) (omega (arith, e, sum, and-le-l any w)))
+      (λ t. let n : k ≢ i = eqb-false k i t in b (omega (arith, e, sum, and-le-r any w)) k (omega (arith, h, n)))
+
+  pub bare-done : length words ≤ i → any ≡ 0 → (x : ℕ) → has words x ≡ false
+  bare-done h e = has-none words (λ k. cases (truth (ltb k i)) (λ t. b e k (ltb-true k i t)) (λ t. List·getD-eq-default words 0 (omega (arith, h, ltb-false k i t))))

@@ -1,6 +1,6 @@
 // Sets of rows, as bits: 32 words of 32 rows.
 ghost use mathlib.Core.Path.{_≡_};
-ghost use mathlib.Core.Bool.{_||_};
+ghost use mathlib.Core.Bool.{true, false, _||_};
 ghost use Prim.Native.Nat.{ℕ, _<_};
 ghost use lib.Dec.{eqb};
 ghost use lib.ListN.{length};
@@ -32,4 +32,15 @@ pub fn join(words: &mut [u32], others: &[u32])
     for i in 0..words.len() {
         words[i] = words[i] | others[i];
     }
+}
+
+// Whether a set has no row.
+pub fn is_empty(words: &[u32]) -> bool
+    ensures { λ r. ⌜ (r ≡ true → ((x : ℕ) → hasRow (now (words .entry)) x ≡ false)) ⌝ }
+{
+    let mut any = 0u32;
+    for i in 0..words.len() {
+        any = any | words[i];
+    }
+    any == 0
 }

@@ -20,7 +20,7 @@ pack-rows x (y ∷ m) h =
     let e : rowIn x ≡ x = omega arith in
     ap (λ (z : ℕ). z ∷ map rowIn (pack y m)) e ∙ ap (λ (l : List ℕ). x ∷ l) (pack-rows y m (λ z i. h z (List·Memᴰ·tail i)))
 
-packed-rows : (rs : List Run) → ((y : ℕ) → y ∈ flat rs → y < 1024) → map rowIn (packed rs) ≡ flat rs
+pub packed-rows : (rs : List Run) → ((y : ℕ) → y ∈ flat rs → y < 1024) → map rowIn (packed rs) ≡ flat rs
 packed-rows [] h = refl
 packed-rows (r ∷ rs) h =
     map-append rowIn (pack (r .first) (r .more)) (packed rs)

@@ -1,6 +1,6 @@
 -- Runs of rows: their rows, and the rows of large groups.
 use mathlib.Core.Path.{_≡_, refl, sym, ap, subst, _∙_}
-use mathlib.Core.Bool.{Bool, false≢true}
+use mathlib.Core.Bool.{Bool, not, false≢true}
 use mathlib.Core.List.{List, [], _∷_, _++_, List·Memᴰ·head, List·Memᴰ·tail}
 use Prim.Native.Nat.{ℕ}
 use lib.Dec.{leb}
@@ -14,7 +14,7 @@ use Rattle.engine.specs.Index.{arranged}
 use Rattle.engine.specs.Runs.{Run, members, runs, attach}
 use Rattle.engine.proofs.Arranged.{alike, arranged-ordered}
 use Rattle.engine.proofs.Runs.{cellOf, runs-whole}
-use Rattle.slots.specs.Slots.{flat, large, crowds, shares}
+use Rattle.slots.specs.Slots.{flat, large, crowds, shares, loners}
 
 -- ---- the rows of runs
 
@@ -50,3 +50,9 @@ module _ (key : ℕ → List ℕ) (n least : ℕ) where
   pub crowds-flat : flat (crowds least key n) ≡ keep (shares least key n) (arranged key n)
   unfolding crowds
   crowds-flat = flat-keep (shares least key n) (large least) (runs key (arranged key n)) shares-large ∙ ap (keep (shares least key n)) (flat-runs key (arranged key n))
+
+  pub loners-flat : flat (keep (λ r. not (large least r)) (runs key (arranged key n))) ≡ loners least key n
+  unfolding loners
+  loners-flat =
+      flat-keep (λ x. not (shares least key n x)) (λ r. not (large least r)) (runs key (arranged key n)) (λ r m x i. ap not (shares-large r m x i))
+      ∙ ap (keep (λ x. not (shares least key n x))) (flat-runs key (arranged key n))

@@ -20,7 +20,7 @@ use Rattle.engine.proofs.Columns.{column-at}
 use Rattle.engine.proofs.Refined.{Refined}
 use Rattle.slots.specs.Slots.{codeIn}
 
-pub cell-none : (x y : List ℕ) → length x ≡ length y → cell 0 x ≡ cell 0 y
+cell-none : (x y : List ℕ) → length x ≡ length y → cell 0 x ≡ cell 0 y
 cell-none [] [] e = refl
 cell-none [] (b ∷ y) e = absurd (omega (arith, e))
 cell-none (a ∷ x) [] e = absurd (omega (arith, e))
@@ -56,18 +56,30 @@ last-cell (suc d) s t (a ∷ x) (b ∷ y) l f h e =
     let n = shown (t % 2) b in
     rw digit (ap (λ (r : Bool). ltb m n || (eqb m n && r)) ih ∙ sym (decided-cons m n (cell (t / 2) x) (cell (t / 2) y) (earlier (getD x d 0 ∷ []) (getD y d 0 ∷ []))))
 
+module _ (dims n : ℕ) (codes : List ℕ) (v : Valid dims (cut dims n codes)) where
+  abbrev rows : List (List ℕ)
+  rows = cut dims n codes
+
+  size : (i : ℕ) → i < n → length (rowAt rows i) ≡ dims
+  size i k = coded-length dims (rowAt rows i) (v (rowAt rows i) (at-in [] rows i (rw cut-length k)))
+
+  -- the empty set tells no rows apart
+  pub key-none : (i j : ℕ) → i < n → j < n → key 0 rows i ≡ key 0 rows j
+  unfolding key
+  key-none i j p q = cell-none (rowAt rows i) (rowAt rows j) (size i p ∙ sym (size j q))
+
 module _ (dims n d s t : ℕ) (codes : List ℕ) (v : Valid dims (cut dims n codes)) (h : d < dims) (l : t < 2 ^ d) (f : s ≡ t + 2 ^ d) where
   abbrev xs : List (List ℕ)
   xs = cut dims n codes
 
-  size : (i : ℕ) → i < n → length (rowAt xs i) ≡ dims
-  size i k = coded-length dims (rowAt xs i) (v (rowAt xs i) (at-in [] xs i (rw cut-length k)))
+  long : (i : ℕ) → i < n → length (rowAt xs i) ≡ dims
+  long = size dims n codes v
 
   by-last : (i j : ℕ) → i < n → j < n → earlier (key s xs i) (key s xs j) ≡ decided (key t xs i) (key t xs j) (earlier (codeIn (columnOf d xs) i) (codeIn (columnOf d xs) j))
   unfolding key
   by-last i j p q =
       rw (column-at d xs i (rw cut-length p), column-at d xs j (rw cut-length q))
-      (last-cell d s t (rowAt xs i) (rowAt xs j) l f (rw (size i p) h) (size i p ∙ sym (size j q)))
+      (last-cell d s t (rowAt xs i) (rowAt xs j) l f (rw (long i p) h) (long i p ∙ sym (long j q)))
 
   pub last-refined : Refined n (key t xs) (codeIn (columnOf d xs)) (key s xs)
   last-refined = record {

@@ -10,11 +10,14 @@ use borrow.Author.Tests.{eqb-true, eqb-false, le-leb, lt-leb}
 use Rattle.lists.specs.Lists.{keep, only}
 use Rattle.lists.specs.Order.{earlier, same}
 use Rattle.lists.proofs.Tests.{cases, truth}
+use Rattle.engine.specs.Index.{arranged}
 use Rattle.engine.specs.Runs.{Run, runs}
 use Rattle.engine.specs.Few.{Ordered}
+use Rattle.engine.proofs.Arranged.{arranged-ordered}
 use Rattle.engine.proofs.Runs.{runs-first, runs-one, runs-part, runs-join}
 use Rattle.engine.proofs.Dealt.{same-earlier}
-use Rattle.slots.specs.Slots.{flat, large, pack, packed, isLone, entry, slotFrom, loneFrom}
+use Rattle.slots.specs.Slots.{flat, large, crowds, loners, pack, packed, isLone, entry, slotFrom, loneFrom}
+use Rattle.slots.proofs.Groups.{loners-flat}
 
 abbrev moreOf : List Run → List ℕ
 moreOf [] = []
@@ -34,9 +37,6 @@ module _ (key : ℕ → List ℕ) where
   parts x y h = rw (same-earlier (key x) (key y), h) (cases (truth (earlier (key x) (key y))) (λ t. rw t refl) (λ t. rw t refl))
 
   module _ (least : ℕ) (low : 1 ≤ least) (high : least ≤ 2) where
-    not-two : least ≡ 1 → eqb least 2 ≡ false
-    not-two e = rw e refl
-
     lone-not : (f t : Bool) → f && t ≡ false → isLone least f t ≡ false
     lone-not f t e = rw e (cases (truth (eqb least 2)) (λ u. rw u refl) (λ u. rw u refl))
 
@@ -138,3 +138,12 @@ module _ (key : ℕ → List ℕ) where
     unfolding OuterLone InnerLone
     lone-flat [] o = sym (ap (λ (rs : List Run). flat (keep small rs)) (runs-none key))
     lone-flat (x ∷ l) o = from-lone x l o .0
+
+    -- ---- all rows in order
+
+    pub slot-arranged : (n : ℕ) → slotFrom key least true (arranged key n) ≡ packed (crowds least key n)
+    unfolding crowds
+    slot-arranged n = slot-packed (arranged key n) (arranged-ordered key n)
+
+    pub lone-arranged : (n : ℕ) → loneFrom key least true (arranged key n) ≡ loners least key n
+    lone-arranged n = lone-flat (arranged key n) (arranged-ordered key n) ∙ loners-flat key n least

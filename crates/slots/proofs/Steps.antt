@@ -2,7 +2,7 @@
 use mathlib.Core.Path.{_≡_, refl, sym, ap, subst, _∙_}
 use mathlib.Core.Bool.{Bool, true, false, not}
 use mathlib.Core.List.{List, [], _∷_, _++_, append-assoc, append-nil}
-use Prim.Native.Nat.{ℕ, _+_, _≤_, _<_}
+use Prim.Native.Nat.{ℕ, _+_, _-_, _≤_, _<_}
 use native.Mathlib.Numerals.{add-one}
 use native.Mathlib.Omega.{arith}
 use lib.Dec.{eqb}
@@ -11,7 +11,7 @@ use lib.Seq.{take-suc-set, take-set-le, drop-cons}
 use Rattle.lists.specs.Lists.{only}
 use Rattle.lists.specs.Order.{same}
 use Rattle.lists.proofs.Tests.{cases, truth}
-use Rattle.slots.specs.Slots.{codeIn, marked, isLone, staying, entry, closes, slotFrom, loneFrom}
+use Rattle.slots.specs.Slots.{codeIn, marked, isLone, isKept, staying, entry, closes, slotFrom, loneFrom}
 
 -- ---- the last row of a group
 
@@ -23,6 +23,9 @@ closes-next key l x i h = rw (drop-cons l i 0 h) refl
 
 pub same-code : (column : List ℕ) (x y : ℕ) → not (same (codeIn column x) (codeIn column y)) ≡ not (eqb (getD column x 0) (getD column y 0))
 same-code column x y = cases (truth (eqb (getD column x 0) (getD column y 0))) (λ t. rw t refl) (λ t. rw t refl)
+
+kept-not : (least : ℕ) (f t : Bool) → isKept (not (eqb least 2)) f t ≡ not (isLone least f t)
+kept-not least f t = cases (truth (eqb least 2)) (λ e. rw e refl) (λ e. rw e refl)
 
 -- ---- a slot written
 
@@ -65,17 +68,26 @@ module _ (key : ℕ → List ℕ) (least : ℕ) (order : List ℕ) where
     }
 
     -- what is written where nothing is counted does not matter
-    pub packing-more : len < length slot → alone < length lone → {t : Bool} {v len' alone' : ℕ} → t ≡ isLone least first last → v ≡ marked last x → len' ≡ staying (not t) len → alone' ≡ staying t alone
-        → Packing (set slot len v) (set lone alone x) len' alone' last (i + 1)
-    packing-more k l {t} {v} {len'} {alone'} q w f g = rw (f, g) (both-ways t q)
+    both-ways : (t : Bool) → isLone least first last ≡ t → len < length slot → alone < length lone → (v : ℕ) → v ≡ marked last x → Packing (set slot len v) (set lone alone x) (staying (not t) len) (staying t alone) last (i + 1)
+    both-ways true q k l v w =
+        let r = packing-lone q l in
+        record { kept = ap (λ (m : List ℕ). m ++ slotFrom key least last (drop (i + 1) order)) (take-set-le len slot len v (omega arith)) ∙ r .kept; left = r .left }
+    both-ways false q k l v w =
+        let r = packing-kept q k v w in
+        record { kept = r .kept; left = ap (λ (m : List ℕ). m ++ loneFrom key least last (drop (i + 1) order)) (take-set-le alone lone alone x (omega arith)) ∙ r .left }
+
+    -- the rows left out are those that do not count
+    pub packing-more : len ≤ i → alone ≡ i - len → len < length slot → alone < length lone → {v len' : ℕ} → v ≡ marked last x → len' ≡ staying (isKept (not (eqb least 2)) first last) len
+        → Packing (set slot len v) (set lone alone x) len' (i + 1 - len') last (i + 1)
+    packing-more e f k l {v} {len'} w q =
+        let t = isLone least first last in
+        let n : len' ≡ staying (not t) len = q ∙ ap (λ (b : Bool). staying b len) (kept-not least first last) in
+        subst (λ (z : ℕ). Packing (set slot len v) (set lone alone x) z (i + 1 - z) last (i + 1)) (sym n)
+        (subst (λ (z : ℕ). Packing (set slot len v) (set lone alone x) (staying (not t) len) z last (i + 1)) (left-out t e f) (both-ways t refl k l v w))
       where
-        both-ways : (t : Bool) → t ≡ isLone least first last → Packing (set slot len v) (set lone alone x) (staying (not t) len) (staying t alone) last (i + 1)
-        both-ways true q =
-            let r = packing-lone (sym q) l in
-            record { kept = ap (λ (m : List ℕ). m ++ slotFrom key least last (drop (i + 1) order)) (take-set-le len slot len v (omega arith)) ∙ r .kept; left = r .left }
-        both-ways false q =
-            let r = packing-kept (sym q) k v w in
-            record { kept = r .kept; left = ap (λ (m : List ℕ). m ++ loneFrom key least last (drop (i + 1) order)) (take-set-le alone lone alone x (omega arith)) ∙ r .left }
+        left-out : (t : Bool) → len ≤ i → alone ≡ i - len → staying t alone ≡ i + 1 - staying (not t) len
+        left-out true e f = omega (arith, e, f)
+        left-out false e f = omega (arith, e, f)
 
   module _ {slot lone : List ℕ} {len alone : ℕ} {first : Bool} {i : ℕ} (p : Packing slot lone len alone first i) (h : length order ≤ i) where
     pub packing-slot : take len slot ≡ slotFrom key least true order

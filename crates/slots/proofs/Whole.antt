@@ -1,70 +1,59 @@
 -- The groups of the empty set: all rows are one.
 use mathlib.Core.Path.{_≡_, refl, sym, ap, _∙_}
-use mathlib.Core.Bool.{true, false, not}
+use mathlib.Core.Bool.{true, false}
 use mathlib.Core.List.{List, [], _∷_, List·Memᴰ·head, List·Memᴰ·tail}
 use Prim.Native.Nat.{ℕ, _≤_, _<_}
 use lib.Dec.{ltb}
 use lib.ListN.{length, getD, List·getD-eq-default}
 use borrow.Author.Tests.{ltb-true, ltb-false}
-use Rattle.lists.specs.Lists.{_∈_, keep}
-use Rattle.lists.specs.Order.{earlier}
+use Rattle.lists.specs.Lists.{_∈_}
+use Rattle.lists.specs.Order.{earlier, same}
 use Rattle.lists.proofs.Tests.{cases, truth}
-use Rattle.lists.proofs.Members.{at-in}
-use Rattle.cube.proofs.Codes.{coded-length}
 use Rattle.deals.specs.Deals.{Zeros}
-use Rattle.rows.specs.Rows.{cut, rowAt}
-use Rattle.rows.proofs.Rows.{cut-length}
+use Rattle.rows.specs.Rows.{cut}
 use Rattle.engine.specs.Index.{key, Valid, arranged}
-use Rattle.engine.specs.Runs.{Run, runs}
 use Rattle.engine.proofs.Numbers.{numbers, numbers-in}
 use Rattle.engine.specs.Few.{Ordered}
-use Rattle.engine.proofs.Runs.{runs-same}
+use Rattle.engine.proofs.Dealt.{same-earlier}
 use Rattle.engine.proofs.Sorted.{sorted-unique, arranged-sorted}
-use Rattle.slots.specs.Slots.{flat, large, crowds, shares, loners, packed, codeIn, slotFrom, loneFrom}
-use Rattle.slots.proofs.Groups.{flat-runs, flat-keep, shares-large}
-use Rattle.slots.proofs.Last.{cell-none, not-self}
-use Rattle.slots.proofs.Marks.{slot-packed, lone-flat}
+use Rattle.slots.specs.Slots.{crowds, loners, packed, codeIn, slotFrom, loneFrom}
+use Rattle.slots.proofs.Last.{key-none, not-self}
+use Rattle.slots.proofs.Marks.{slot-arranged, lone-arranged}
+use Rattle.slots.proofs.Split.{slot-same, lone-same}
 
 -- rows of one key are in order, however they stand
 same-ordered : (keys : ℕ → List ℕ) (n : ℕ) → ((x y : ℕ) → x < n → y < n → earlier (keys x) (keys y) ≡ false) → (l : List ℕ) → ((x : ℕ) → x ∈ l → x < n) → Ordered keys l
 same-ordered keys n h [] b = tt
 same-ordered keys n h (x ∷ l) b = (λ y m. h y x (b y (List·Memᴰ·tail m)) (b x (List·Memᴰ·head refl)), same-ordered keys n h l (λ y m. b y (List·Memᴰ·tail m)))
 
-zero-at : (l : List ℕ) (x : ℕ) → Zeros l → getD l x 0 ≡ 0
+neither-same : (a b : List ℕ) → earlier a b ≡ false → earlier b a ≡ false → same a b ≡ true
+neither-same a b h k = same-earlier a b ∙ rw (h, k) refl
+
+pub zero-at : (l : List ℕ) (x : ℕ) → Zeros l → getD l x 0 ≡ 0
 zero-at l x z = cases (truth (ltb x (length l))) (λ t. z x (ltb-true x (length l) t)) (λ t. List·getD-eq-default l 0 (ltb-false x (length l) t))
 
 module _ (dims n : ℕ) (codes column : List ℕ) (v : Valid dims (cut dims n codes)) (least : ℕ) (low : 1 ≤ least) (high : least ≤ 2) (zc : Zeros column) where
   abbrev xs : List (List ℕ)
   xs = cut dims n codes
 
-  size : (i : ℕ) → i < n → length (rowAt xs i) ≡ dims
-  size i k = coded-length dims (rowAt xs i) (v (rowAt xs i) (at-in [] xs i (rw cut-length k)))
-
-  key-none : (x y : ℕ) → x < n → y < n → earlier (key 0 xs x) (key 0 xs y) ≡ false
-  unfolding key
-  key-none x y h k = not-self (key 0 xs x) (key 0 xs y) (cell-none (rowAt xs x) (rowAt xs y) (size x h ∙ sym (size y k)))
+  cell-none : (x y : ℕ) → x < n → y < n → earlier (key 0 xs x) (key 0 xs y) ≡ false
+  cell-none x y h k = not-self (key 0 xs x) (key 0 xs y) (key-none dims n codes v x y h k)
 
   code-none : (x y : ℕ) → earlier (codeIn column x) (codeIn column y) ≡ false
   code-none x y = not-self (codeIn column x) (codeIn column y) (rw (zero-at column x zc, zero-at column y zc) refl)
 
   arranged-none : arranged (key 0 xs) n ≡ numbers n
   arranged-none = sorted-unique (key 0 xs) n (arranged-sorted (key 0 xs) n)
-      record { ordered = same-ordered (key 0 xs) n key-none (numbers n) (λ x m. numbers-in n m); below = λ x m. numbers-in n m; parts = λ z h. refl }
+      record { ordered = same-ordered (key 0 xs) n cell-none (numbers n) (λ x m. numbers-in n m); below = λ x m. numbers-in n m; parts = λ z h. refl }
 
-  ordered-none : Ordered (codeIn column) (numbers n)
-  ordered-none = same-ordered (codeIn column) n (λ x y h k. code-none x y) (numbers n) (λ x m. numbers-in n m)
-
-  runs-none : runs (codeIn column) (numbers n) ≡ runs (key 0 xs) (arranged (key 0 xs) n)
-  runs-none = runs-same (codeIn column) (key 0 xs) (numbers n) (λ x y m i. code-none x y ∙ sym (key-none x y (numbers-in n m) (numbers-in n i))) ∙ ap (runs (key 0 xs)) (sym arranged-none)
+  told-none : (x y : ℕ) → x ∈ numbers n → y ∈ numbers n → same (codeIn column x) (codeIn column y) ≡ same (key 0 xs x) (key 0 xs y)
+  told-none x y i j =
+      let h = numbers-in n i in
+      let k = numbers-in n j in
+      neither-same (codeIn column x) (codeIn column y) (code-none x y) (code-none y x) ∙ sym (neither-same (key 0 xs x) (key 0 xs y) (cell-none x y h k) (cell-none y x k h))
 
   pub slot-none : slotFrom (codeIn column) least true (numbers n) ≡ packed (crowds least (key 0 xs) n)
-  unfolding crowds
-  slot-none = slot-packed (codeIn column) least low high (numbers n) ordered-none ∙ ap (λ (rs : List Run). packed (keep (large least) rs)) runs-none
+  slot-none = slot-same (codeIn column) (key 0 xs) least true (numbers n) told-none ∙ ap (slotFrom (key 0 xs) least true) (sym arranged-none) ∙ slot-arranged (key 0 xs) least low high n
 
   pub lone-none : loneFrom (codeIn column) least true (numbers n) ≡ loners least (key 0 xs) n
-  unfolding loners
-  lone-none =
-      lone-flat (codeIn column) least low high (numbers n) ordered-none
-      ∙ ap (λ (rs : List Run). flat (keep (λ r. not (large least r)) rs)) runs-none
-      ∙ flat-keep (λ x. not (shares least (key 0 xs) n x)) (λ r. not (large least r)) (runs (key 0 xs) (arranged (key 0 xs) n)) (λ r m x i. ap not (shares-large (key 0 xs) n least r m x i))
-      ∙ ap (keep (λ x. not (shares least (key 0 xs) n x))) (flat-runs (key 0 xs) (arranged (key 0 xs) n))
+  lone-none = lone-same (codeIn column) (key 0 xs) least true (numbers n) told-none ∙ ap (loneFrom (key 0 xs) least true) (sym arranged-none) ∙ lone-arranged (key 0 xs) least low high n

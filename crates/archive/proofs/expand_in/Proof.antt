@@ -2,6 +2,7 @@
 use mathlib.Core.Path.{sym, _∙_}
 use denote.Ref.{now}
 use Rattle.calls.proofs.Answers.{stopped}
+use Rattle.archive.proofs.Opened.{grouped-read}
 use Rattle.archive.proofs.Outcomes.{expand-refused}
 use borrow.Author.Needs.{needs}
 use Rattle.archive.proofs.expand_in.Statement.{statement}
@@ -9,8 +10,9 @@ use Rattle.archive.proofs.expand_in.Tie as tie
 
 expand-read-requires : tie.Need-expand-read-requires
 expand-read-requires c κs =
-    let r = c .before .before .before .before .before .before .before .before .before .before .before .read-judged .ensures in
-    (record { told = sym (r .0) ∙ c .before .before .before .before .before .before .before .before .before .dims .given .1; room = (search needs, search needs, search needs); stored = r .1 .0 }, search needs)
+    let r = c .before .before .before .before .before .before .before .before .before .before .before .before .read-judged .ensures in
+    let e = sym (r .0) ∙ c .before .before .before .before .before .before .before .before .before .before .dims .given .1 in
+    (record { told = e; room = (search needs, search needs, search needs); stored = r .1 .0 }, grouped-read (now (c .before .before .before .before .before .before .before .before .before .before .before .before .before .before .before .before .before .before .before .before .args .s)) _ _ _ (c .before .before .before .before .before .before .before .before .before .before .before .before .before .before .before .before .before .before .before .before .pre) e (r .1 .1))
 
 returns : tie.Need-returns
 returns c = stopped (now (c .before .before .before .before .before .before .before .before .before .before .before .args .out)) (expand-refused (now (c .before .before .before .before .before .before .before .before .before .before .before .args .s)) (sym (c .before .before .before .read-judged .ensures .0) ∙ c .before .n .given .1))

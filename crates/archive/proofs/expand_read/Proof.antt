@@ -1,5 +1,4 @@
 -- `archive::expand_read` meets its contract: the expansion is written where there is room.
-use mathlib.Core.Path.{sym}
 use native.Mathlib.Omega.{arith}
 use denote.Ref.{now}
 use Rattle.walk.proofs.Limits.{bytes-of}
@@ -14,24 +13,12 @@ rows-in : (c : tie.After-shared-slice-known) → (let a = c .before .args in Ope
 rows-in c = opened (bytes-of (now (c .before .args .s)) (λ i. omega (arith, c .shared-slice-known .given i))) (c .before .pre .0)
 
 mul-size : tie.Need-mul-size
-mul-size c = omega (arith, opened-small (rows-in (c .before .before .before .before)))
-
-slice-aggregate-fit-expansion : tie.Need-slice-aggregate-fit-expansion
-slice-aggregate-fit-expansion c = rows-in (c .before .before .before .before .before .before) .ready .size
-
-slice-aggregate-fit-expansion-2 : tie.Need-slice-aggregate-fit-expansion-2
-slice-aggregate-fit-expansion-2 c = sym (rows-in (c .before .before .before .before .before .before .before) .ready .amounts)
-
-slice-aggregate-fit-expansion-3 : tie.Need-slice-aggregate-fit-expansion-3
-slice-aggregate-fit-expansion-3 c = sym (rows-in (c .before .before .before .before .before .before .before .before) .ready .tallies)
-
-fit-expansion-requires : tie.Need-fit-expansion-requires
-fit-expansion-requires c κs = (rows-in (c .before .before .before .before .before .before .before .before .before) .ready, c .before .before .before .before .before .before .before .before .before .before .pre .1)
+mul-size c = omega (arith, opened-small (rows-in (c .before .before .before .before .before)))
 
 returns : tie.Need-returns
-returns c = answered-as (expand-bytes (rows-in (c .before .before .before .before .before .before .before .before .before .before .before .before .before .before))) (c .before .before .before .before .fit-expansion .ensures)
+returns c = answered-as (expand-bytes (rows-in (c .before .before .before .before .before .before .before .before .before .before .before .before .before .before .before .before .before .before))) (c .before .before .before .before .before .before .fit-expansion .ensures)
 
 pub expand-read-spec : {M : Type 1} → statement M
 expand-read-spec =
     tie.close
-    (tie.spec mul-size slice-aggregate-fit-expansion slice-aggregate-fit-expansion-2 slice-aggregate-fit-expansion-3 fit-expansion-requires (λ c. search needs) (λ c. search needs) returns)
+    (tie.spec mul-size (λ c. search needs) (λ c. search needs) (λ c. search needs) (λ c κs. search needs) (λ c. search needs) (λ c. search needs) (λ c. search needs) returns)

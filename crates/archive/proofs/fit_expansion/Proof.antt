@@ -6,12 +6,12 @@ use Rattle.archive.proofs.fit_expansion.Statement.{statement}
 use Rattle.archive.proofs.fit_expansion.Tie as tie
 
 returns : tie.Need-returns
-returns c = fitted-short refl (c .before .before .before .before .before .write-expansion .ensures) (c .before .before .before .before .out .given) (c .if1 .taken)
+returns c = fitted-short refl (c .before .before .before .before .before .before .before .write-expansion .ensures) (c .before .before .before .before .before .before .out .given) (c .if1 .taken)
 
 returns-2 : tie.Need-returns-2
-returns-2 c = fitted-done refl (c .before .before .before .before .before .write-expansion .ensures) (c .before .before .before .before .out .given) (c .if1 .left)
+returns-2 c = fitted-done refl (c .before .before .before .before .before .before .before .write-expansion .ensures) (c .before .before .before .before .before .before .out .given) (c .if1 .left)
 
 pub fit-expansion-spec : {M : Type 1} → statement M
 fit-expansion-spec =
     tie.close
-    (tie.spec (λ c κs. search needs) (λ c. search needs) (λ c. search needs) returns (λ c. search needs) (λ c. search needs) returns-2)
+    (tie.spec (λ c κs. search needs) (λ c. search needs) (λ c. search needs) (λ c. search needs) returns (λ c. search needs) (λ c. search needs) (λ c. search needs) returns-2)

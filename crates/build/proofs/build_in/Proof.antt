@@ -1,4 +1,4 @@
--- `archive::build_in` meets its contract: a table that is refused has the stop's number for an outcome, and the base rows of one that is accepted are archived.
+-- `build::build_in` meets its contract: a table that is refused has the stop's number for an outcome, and the base rows of one that is accepted are archived.
 use mathlib.Core.Path.{sym, _∙_}
 use denote.Ref.{now}
 use Rattle.calls.proofs.Answers.{stopped}

@@ -1,4 +1,4 @@
--- `archive::build_read` meets its contract: the fronts of the arrays have the base rows of the table that was read, and its sizes stand in its bytes.
+-- `build::build_read` meets its contract: the fronts of the arrays have the base rows of the table that was read, and its sizes stand in its bytes.
 use mathlib.Core.Path.{sym, subst}
 use Prim.Native.Nat.{ℕ, _+_, _*_, _≤_}
 use native.Mathlib.Omega.{arith}
@@ -43,20 +43,21 @@ slice-aggregate-write-sized-4 c = sym (read (c .before .before .before .before .
 
 write-sized-requires : tie.Need-write-sized-requires
 write-sized-requires c κs =
-    let a = c .before .before .before .before .before .before .before .before .before .args in
-    let r = read (c .before .before .before .before .before .before .before .before) in
-    subst (λ (d : ℕ). ((8 + 4 * d ≤ length (now (a .s))) × Ready d (a .rows) (take (a .rows * a .dims) (now (a .codes))) (take (a .rows) (now (a .sums))) (take (a .rows) (now (a .counts))))
+    let a = c .before .before .before .before .before .before .before .before .before .before .args in
+    let r = read (c .before .before .before .before .before .before .before .before .before) in
+    let p = subst (λ (d : ℕ). (8 + 4 * d ≤ length (now (a .s))) × Ready d (a .rows) (take (a .rows * a .dims) (now (a .codes))) (take (a .rows) (now (a .sums))) (take (a .rows) (now (a .counts)))
     × Limits (wordsAt (now (a .s)) d 8) (rowsOf d (a .rows) (take (a .rows * a .dims) (now (a .codes))) (take (a .rows) (now (a .sums))) (take (a .rows) (now (a .counts)))))
-    (slice-aggregate-write-sized (c .before .before .before .before)) ((r .headed, r .ready), r .limits)
+    (slice-aggregate-write-sized (c .before .before .before .before .before)) (r .headed, r .ready, r .limits) in
+    ((p .0, p .1, omega arith), p .2)
 
 returns : tie.Need-returns
 returns c =
-    let a = c .before .before .before .before .before .before .before .before .before .before .before .before .before .args in
-    answered-as (read (c .before .before .before .before .before .before .before .before .before .before .before .before) .built)
+    let a = c .before .before .before .before .before .before .before .before .before .before .before .before .before .before .before .args in
+    answered-as (read (c .before .before .before .before .before .before .before .before .before .before .before .before .before .before) .built)
     (subst (λ (d : ℕ). Answered (bytes (archiveBytes (wordsAt (now (a .s)) d 8) (rowsOf d (a .rows) (take (a .rows * a .dims) (now (a .codes))) (take (a .rows) (now (a .sums))) (take (a .rows) (now (a .counts))))))
-    (now (a .out)) (c .before .before .before .write-sized .last .1 .1 .1 .1 .1 .1 .0) (c .before .before .before .write-sized .result)) (sym (slice-aggregate-write-sized (c .before .before .before .before .before .before .before .before))) (c .before .before .before .write-sized .ensures))
+    (now (a .out)) (c .before .before .before .before .write-sized .last .1 .1 .1 .1 .1 .1 .1 .0) (c .before .before .before .before .write-sized .result)) (sym (slice-aggregate-write-sized (c .before .before .before .before .before .before .before .before .before .before))) (c .before .before .before .before .write-sized .ensures))
 
 pub build-read-spec : {M : Type 1} → statement M
 build-read-spec =
     tie.close
-    (tie.spec mul-size array-borrow-prefix-sizes slice-aggregate-write-sized slice-aggregate-write-sized-2 slice-aggregate-write-sized-3 slice-aggregate-write-sized-4 write-sized-requires (λ c. search needs) returns)
+    (tie.spec mul-size array-borrow-prefix-sizes slice-aggregate-write-sized slice-aggregate-write-sized-2 slice-aggregate-write-sized-3 slice-aggregate-write-sized-4 (λ c. search needs) write-sized-requires (λ c. search needs) returns)

@@ -6,12 +6,12 @@ use Rattle.build.proofs.fit_archive.Statement.{statement}
 use Rattle.build.proofs.fit_archive.Tie as tie
 
 returns : tie.Need-returns
-returns c = fitted-short refl (c .before .before .before .write-archive .ensures) (c .before .before .out .given) (c .if1 .taken)
+returns c = fitted-short refl (c .before .before .before .before .before .write-archive .ensures) (c .before .before .before .before .out .given) (c .if1 .taken)
 
 returns-2 : tie.Need-returns-2
-returns-2 c = fitted-done refl (c .before .before .before .write-archive .ensures) (c .before .before .out .given) (c .if1 .left)
+returns-2 c = fitted-done refl (c .before .before .before .before .before .write-archive .ensures) (c .before .before .before .before .out .given) (c .if1 .left)
 
 pub fit-archive-spec : {M : Type 1} → statement M
 fit-archive-spec =
     tie.close
-    (tie.spec (λ c κs. search needs) (λ c. search needs) returns (λ c. search needs) returns-2)
+    (tie.spec (λ c κs. search needs) (λ c. search needs) (λ c. search needs) returns (λ c. search needs) (λ c. search needs) returns-2)

@@ -26,7 +26,7 @@ loop-holds : tie.Need-loop-holds Inv-loop μ-loop
 loop-holds c =
     let a = c .before .before .before .before .before .before .args in
     let r = c .before .before .clear .ensures in
-    (omega arith, r .0 ∙ c .before .before .before .before .before .before .pre .2, λ x. cleared-none (c .before .before .clear .last .0) r x ∙ sym (passes-start (now (a .alone)) (a .set) x))
+    (omega arith, r .0 ∙ c .before .before .before .before .before .before .pre .2, λ x. cleared-none (c .before .before .clear .last .0) (r .1) x ∙ sym (passes-start (now (a .alone)) (a .set) x))
 
 -- whether the set has the dimension
 tested : (c : tie.After-holds-set Inv-loop μ-loop) → c .holds-set .result ≡ holds 32 (c .before .before .before .before .before .before .before .before .before .before .args .set) (2 ^ c .before .before .before .loop .d)

@@ -12,12 +12,12 @@ use Rattle.walk.specs.declared.Walk.the-variants.{Stop, At}
 use Rattle.fields.specs.Words.{wordsBytes}
 use Rattle.fields.specs.Twos.{sumBytes}
 use Rattle.fields.specs.Opening.{startsWith}
-use Rattle.cube.specs.Codes.{cell}
-use Rattle.cube.proofs.Codes.{length-cell}
 use Rattle.entries.specs.Layout.{cellBytes}
 use Rattle.entries.proofs.Lengths.{cell-length}
 use Rattle.writing.specs.Matched.{Matched}
 use Rattle.writing.specs.MatchedLaws.{matched-on, matched-none, matched-short, matched-told, matched-stop, matched-then}
+use Rattle.groups.specs.Masks.{masked}
+use Rattle.groups.proofs.Masks.{length-masked}
 use Rattle.groups.proofs.Shown.{shown-length}
 use borrow.Author.Needs.{needs}
 use Rattle.groups.proofs.match_group.Statement.{statement}
@@ -26,21 +26,21 @@ use Rattle.groups.proofs.match_group.Tie as tie
 returns : tie.Need-returns
 returns c =
     let a = c .before .before .before .args in
-    matched-short (c .before .before .before .pre .1) (omega (arith, c .if1 .taken, cell-length (length (now (a .mine))) (record { codes = cell (a .set) (now (a .mine)); total = a .total }) (length-cell (a .set) (now (a .mine)))))
+    matched-short (c .before .before .before .pre .1) (omega (arith, c .if1 .taken, cell-length (length (now (a .mine))) (record { codes = masked (now (a .missing)) (now (a .mine)); total = a .total }) (length-masked (now (a .missing)) (now (a .mine)))))
 
 returns-2 : tie.Need-returns-2
 unfolding cellBytes
 returns-2 c =
     let a = c .before .before .before .before .before .args in
-    matched-stop {xs = wordsBytes (cell (a .set) (now (a .mine)))} _ (matched-none (c .before .before .before .before .before .pre .1) (sym (c .before .shown-is .ensures) ∙ not-true _ (c .if2 .taken)))
+    matched-stop {xs = wordsBytes (masked (now (a .missing)) (now (a .mine)))} _ (matched-none (c .before .before .before .before .before .pre .1) (sym (c .before .shown-is .ensures) ∙ not-true _ (c .if2 .taken)))
 
 -- the codes stand there
 codes : (c : tie.After-struct-told) → let a = c .before .before .before .before .before .before .args in
-    Matched (now (a .s)) (a .start) (wordsBytes (cell (a .set) (now (a .mine)))) (At (a .start + 4 * length (now (a .mine))))
+    Matched (now (a .s)) (a .start) (wordsBytes (masked (now (a .missing)) (now (a .mine)))) (At (a .start + 4 * length (now (a .mine))))
 codes c =
     let a = c .before .before .before .before .before .before .args in
-    let xs = wordsBytes (cell (a .set) (now (a .mine))) in
-    matched-told (ap (λ (n : ℕ). At (a .start + n)) (shown-length (a .set) (now (a .mine)))) (matched-on {xs = xs} (c .before .before .before .before .before .before .pre .1) (sym (c .before .before .shown-is .ensures) ∙ not-false _ (c .before .if2 .left)))
+    let xs = wordsBytes (masked (now (a .missing)) (now (a .mine))) in
+    matched-told (ap (λ (n : ℕ). At (a .start + n)) (shown-length (now (a .missing)) (now (a .mine)))) (matched-on {xs = xs} (c .before .before .before .before .before .before .pre .1) (sym (c .before .before .shown-is .ensures) ∙ not-false _ (c .before .if2 .left)))
 
 -- what the test of the sum tells
 sum : (c : tie.After-sum-is) → let a = c .before .before .before .before .before .before .before .args in

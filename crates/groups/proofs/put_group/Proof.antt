@@ -16,7 +16,7 @@ use Rattle.groups.proofs.put_group.Tie as tie
 
 -- how many bytes the codes take
 codes : (c : tie.After-put-shown) → c .put-shown .result ≡ 4 * length (now (c .before .before .before .before .args .mine))
-codes c = let a = c .before .before .before .before .args in c .put-shown .ensures .count ∙ shown-length (a .set) (now (a .mine))
+codes c = let a = c .before .before .before .before .args in c .put-shown .ensures .count ∙ shown-length (now (a .missing)) (now (a .mine))
 
 sub-put-sum : tie.Need-sub-put-sum
 sub-put-sum c = omega (arith, codes (c .before .before .before), c .before .before .before .before .before .before .before .pre .1)

@@ -1,49 +1,45 @@
 -- `groups::put_shown` meets its contract. The invariant: the words from dimension d on are left to write.
-use mathlib.Core.Path.{ap}
 use mathlib.Core.List.{_++_}
 use Prim.Native.Nat.{_+_, _-_, _≤_}
 use native.Mathlib.Omega.{arith}
 use denote.Ref.{now}
 use lib.ListN.{length, length-take, length-drop}
-use Rattle.fields.specs.Words.{wordBytes, wordsBytes}
-use Rattle.cube.specs.Codes.{cell}
+use Rattle.fields.specs.Words.{wordsBytes}
 use Rattle.writing.specs.Writing.{Writing}
-use Rattle.writing.specs.WritingLaws.{writing-none, writing-more, writing-room, writing-done, wrote-as}
+use Rattle.writing.specs.WritingLaws.{writing-none, writing-more, writing-room, writing-done}
+use Rattle.groups.specs.Masks.{masked}
 use Rattle.groups.proofs.Shown.{shownFrom, wordOf, shown-length, shown-all, shown-on, shown-none}
 use borrow.Author.Needs.{needs}
 use Rattle.groups.proofs.put_shown.Statement.{statement}
 use Rattle.groups.proofs.put_shown.Tie as tie
 
 abbrev Inv-loop : tie.InvT-loop
-Inv-loop out₀ mine set at₀ d₀ d-end out at d = (d ≤ length mine) × Writing (wordsBytes (cell set mine)) (shownFrom set mine d) out₀ out at
+Inv-loop out₀ mine missing at₀ d₀ d-end out at d = (d ≤ length mine) × Writing (wordsBytes (masked missing mine)) (shownFrom missing mine d) out₀ out at
 
 abbrev μ-loop : tie.MeasureT-loop
-μ-loop out₀ mine set at₀ d₀ d-end out at d = length mine - d
+μ-loop out₀ mine missing at₀ d₀ d-end out at d = length mine - d
 
 loop-holds : tie.Need-loop-holds Inv-loop μ-loop
 loop-holds c =
     let a = c .before .before .args in
-    (search needs, rw (shown-all (a .set) (now (a .mine))) (writing-none _ _))
+    (search needs, rw (shown-all (now (a .missing)) (now (a .mine))) (writing-none _ _))
 
 -- the word of dimension d is next
 next : (c : tie.In-loop Inv-loop μ-loop) → let a = c .before .before .before .before .args in
     let l = c .before .loop in
-    Writing (wordsBytes (cell (a .set) (now (a .mine)))) (wordOf (a .set) (now (a .mine)) (l .d) ++ shownFrom (a .set) (now (a .mine)) (l .d + 1)) (now (a .out)) (l .out) (l .at)
+    Writing (wordsBytes (masked (now (a .missing)) (now (a .mine)))) (wordOf (now (a .missing)) (now (a .mine)) (l .d) ++ shownFrom (now (a .missing)) (now (a .mine)) (l .d + 1)) (now (a .out)) (l .out) (l .at)
 next c =
     let a = c .before .before .before .before .args in
-    rw (shown-on (a .set) (now (a .mine)) (c .before .loop .d) (c .loop-test .taken)) at (c .before .loop .inv .1)
+    rw (shown-on (now (a .missing)) (now (a .mine)) (c .before .loop .d) (c .loop-test .taken)) at (c .before .loop .inv .1)
 
 -- there is room for it
 room : (c : tie.In-loop Inv-loop μ-loop) → c .before .loop .at + 4 ≤ length (c .before .loop .out)
 room c =
     let a = c .before .before .before .before .args in
-    writing-room (wordOf (a .set) (now (a .mine)) (c .before .loop .d)) _ (next c) (omega (arith, shown-length (a .set) (now (a .mine)), c .before .before .before .before .pre .1))
+    writing-room (wordOf (now (a .missing)) (now (a .mine)) (c .before .loop .d)) _ (next c) (omega (arith, shown-length (now (a .missing)) (now (a .mine)), c .before .before .before .before .pre .1))
 
-cast-shown-code : tie.Need-cast-shown-code Inv-loop μ-loop
-cast-shown-code c = omega (arith, c .loop-test .taken, c .before .before .before .before .pre .0)
-
-shr-shown-code : tie.Need-shr-shown-code Inv-loop μ-loop
-shr-shown-code c = omega (arith, c .loop-test .taken, c .before .before .before .before .pre .0)
+element-copy-out-code : tie.Need-element-copy-out-code Inv-loop μ-loop
+element-copy-out-code c = omega (arith, c .before .loop-test .taken, c .before .before .before .before .before .pre .0)
 
 sub-put-word : tie.Need-sub-put-word Inv-loop μ-loop
 sub-put-word c = omega (arith, room (c .before .before))
@@ -61,8 +57,8 @@ loop-again : tie.Need-loop-again Inv-loop μ-loop
 loop-again c =
     let a = c .before .before .before .before .before .before .before .before .before .before .args in
     let l = c .before .before .before .before .before .before .before .loop in
-    let word = wordOf (a .set) (now (a .mine)) (l .d) in
-    (search needs, writing-more word _ (next (c .before .before .before .before .before .before)) (wrote-as (ap wordBytes (c .before .before .before .before .shown-code .ensures)) (c .before .before .put-word .ensures)))
+    let word = wordOf (now (a .missing)) (now (a .mine)) (l .d) in
+    (search needs, writing-more word _ (next (c .before .before .before .before .before .before)) (c .before .before .put-word .ensures))
 
 same-length : tie.Need-same-length Inv-loop μ-loop
 same-length c = c .before .loop .inv .1 .wrote .same
@@ -70,9 +66,9 @@ same-length c = c .before .loop .inv .1 .wrote .same
 returns : tie.Need-returns Inv-loop μ-loop
 returns c =
     let a = c .before .before .before .before .args in
-    writing-done (rw (shown-none (a .set) (now (a .mine)) (c .loop-test .left)) at (c .before .loop .inv .1))
+    writing-done (rw (shown-none (now (a .missing)) (now (a .mine)) (c .loop-test .left)) at (c .before .loop .inv .1))
 
 pub put-shown-spec : {M : Type 1} → statement M
 put-shown-spec =
     tie.close
-    (tie.spec Inv-loop μ-loop loop-holds cast-shown-code shr-shown-code (λ c. search needs) (λ c. search needs) (λ c κs. search needs) sub-put-word part-put-word-start (λ c. search needs) put-word-requires add-at (λ c. search needs) (λ c. search needs) loop-again same-length returns)
+    (tie.spec Inv-loop μ-loop loop-holds (λ c. search needs) (λ c. search needs) (λ c. search needs) element-copy-out-code sub-put-word part-put-word-start (λ c. search needs) put-word-requires add-at (λ c. search needs) (λ c. search needs) loop-again same-length returns)

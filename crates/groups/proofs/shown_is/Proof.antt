@@ -1,39 +1,36 @@
 -- `groups::shown_is` meets its contract. The invariant: whether all words stand there is whether those before dimension d do, and those from it on.
 use mathlib.Core.Path.{_≡_, sym, ap, _∙_}
 use mathlib.Core.Bool.{Bool, _&&_, and-assoc, and-true}
-use Prim.Native.Nat.{ℕ, _+_, _*_, _-_, _≤_}
+use Prim.Native.Nat.{_+_, _*_, _-_, _≤_}
 use native.Mathlib.Omega.{arith}
 use denote.Ref.{now}
 use lib.ListN.{length, drop}
-use Rattle.fields.specs.Words.{wordBytes, wordsBytes}
+use Rattle.fields.specs.Words.{wordsBytes}
 use Rattle.fields.specs.Opening.{startsWith}
-use Rattle.cube.specs.Codes.{cell}
+use Rattle.groups.specs.Masks.{masked}
 use Rattle.groups.proofs.Shown.{shownFrom, shown-all, shown-compared, shown-none}
 use borrow.Author.Needs.{needs}
 use Rattle.groups.proofs.shown_is.Statement.{statement}
 use Rattle.groups.proofs.shown_is.Tie as tie
 
 abbrev Inv-loop : tie.InvT-loop
-Inv-loop s start mine set at₀ same₀ d₀ d-end at same d =
-    (d ≤ length mine) × (at ≡ start + 4 * d) × (startsWith (drop start s) (wordsBytes (cell set mine)) ≡ same && startsWith (drop at s) (shownFrom set mine d))
+Inv-loop s start mine missing at₀ same₀ d₀ d-end at same d =
+    (d ≤ length mine) × (at ≡ start + 4 * d) × (startsWith (drop start s) (wordsBytes (masked missing mine)) ≡ same && startsWith (drop at s) (shownFrom missing mine d))
 
 abbrev μ-loop : tie.MeasureT-loop
-μ-loop s start mine set at₀ same₀ d₀ d-end at same d = length mine - d
+μ-loop s start mine missing at₀ same₀ d₀ d-end at same d = length mine - d
 
 loop-holds : tie.Need-loop-holds Inv-loop μ-loop
 loop-holds c =
     let a = c .before .before .args in
-    (search needs, omega arith, ap (startsWith (drop (a .start) (now (a .s)))) (sym (shown-all (a .set) (now (a .mine)))))
+    (search needs, omega arith, ap (startsWith (drop (a .start) (now (a .s)))) (sym (shown-all (now (a .missing)) (now (a .mine)))))
 
 -- the word of dimension d ends within the bytes
 room : (c : tie.In-loop Inv-loop μ-loop) → c .before .loop .at + 4 ≤ length (now (c .before .before .before .before .args .s))
 room c = omega (arith, c .before .loop .inv .1, c .loop-test .taken, c .before .before .before .before .pre .1)
 
-cast-shown-code : tie.Need-cast-shown-code Inv-loop μ-loop
-cast-shown-code c = omega (arith, c .loop-test .taken, c .before .before .before .before .pre .0)
-
-shr-shown-code : tie.Need-shr-shown-code Inv-loop μ-loop
-shr-shown-code c = omega (arith, c .loop-test .taken, c .before .before .before .before .pre .0)
+element-copy-out-word-is : tie.Need-element-copy-out-word-is Inv-loop μ-loop
+element-copy-out-word-is c = omega (arith, c .before .loop-test .taken, c .before .before .before .before .before .pre .0)
 
 word-is-requires : tie.Need-word-is-requires Inv-loop μ-loop
 word-is-requires c κs = room (c .before .before)
@@ -45,13 +42,12 @@ loop-again : tie.Need-loop-again Inv-loop μ-loop
 loop-again c =
     let a = c .before .before .before .before .before .before .before .args in
     let l = c .before .before .before .before .loop in
-    let rest = startsWith (drop (l .at + 4) (now (a .s))) (shownFrom (a .set) (now (a .mine)) (l .d + 1)) in
-    let is = c .word-is .ensures ∙ ap (λ (w : ℕ). startsWith (drop (l .at) (now (a .s))) (wordBytes w)) (c .before .shown-code .ensures) in (
+    let rest = startsWith (drop (l .at + 4) (now (a .s))) (shownFrom (now (a .missing)) (now (a .mine)) (l .d + 1)) in (
       search needs,
       omega (arith, l .inv .1),
       l .inv .2
-          ∙ ap (λ (b : Bool). l .same && b) (shown-compared (a .set) (now (a .mine)) (l .d) (c .before .before .before .loop-test .taken) (now (a .s)) (l .at))
-          ∙ ap (λ (b : Bool). l .same && (b && rest)) (sym is)
+          ∙ ap (λ (b : Bool). l .same && b) (shown-compared (now (a .missing)) (now (a .mine)) (l .d) (c .before .before .before .loop-test .taken) (now (a .s)) (l .at))
+          ∙ ap (λ (b : Bool). l .same && (b && rest)) (sym (c .word-is .ensures))
           ∙ sym (and-assoc (l .same) (c .word-is .result) rest),
     )
 
@@ -59,9 +55,9 @@ returns : tie.Need-returns Inv-loop μ-loop
 returns c =
     let a = c .before .before .before .before .args in
     let l = c .before .loop in
-    sym (rw (shown-none (a .set) (now (a .mine)) (c .loop-test .left), and-true) at (l .inv .2))
+    sym (rw (shown-none (now (a .missing)) (now (a .mine)) (c .loop-test .left), and-true) at (l .inv .2))
 
 pub shown-is-spec : {M : Type 1} → statement M
 shown-is-spec =
     tie.close
-    (tie.spec Inv-loop μ-loop loop-holds cast-shown-code shr-shown-code (λ c. search needs) (λ c. search needs) (λ c κs. search needs) word-is-requires add-at (λ c. search needs) (λ c. search needs) loop-again returns)
+    (tie.spec Inv-loop μ-loop loop-holds (λ c. search needs) (λ c. search needs) (λ c. search needs) element-copy-out-word-is word-is-requires add-at (λ c. search needs) (λ c. search needs) loop-again returns)

@@ -1,4 +1,4 @@
--- `required::is_required` meets its contract: buffers of its own are lent, and the slots tell how many rows share a cell.
+-- `required::is_required` meets its contract: buffers of its own are lent.
 use mathlib.Core.Path.{sym}
 use Prim.Native.Nat.{_≤_}
 use native.Mathlib.Omega.{arith}
@@ -7,7 +7,6 @@ use lib.Seq.{length-take-le}
 use Rattle.ready.specs.Ready.{Ready}
 use Rattle.walk.proofs.Limits.{bytes-of}
 use Rattle.required.proofs.Judged.{read-ready}
-use Rattle.required.proofs.Reading.{sharing-held}
 use borrow.Author.Needs.{needs}
 use Rattle.required.proofs.is_required.Statement.{statement}
 use Rattle.required.proofs.is_required.Tie as tie
@@ -25,11 +24,7 @@ judge-requires : tie.Need-judge-requires
 judge-requires c κs = let p = c .before .before .before .before .before .before .before .before .before .pre in (p .0, omega (arith, ready (c .before .before .before .before .before .before .before .before) .few), sym (slice-aggregate-judge-2 (c .before .before)), p .1, p .2)
 
 returns : tie.Need-returns
-returns c =
-    let e = c .before .before .before .before .before .before .judge .ensures in
-    let p = c .before .before .before .before .before .before .before .before .before .before .before .before .before .before .before .before .pre in
-    let r = ready (c .before .before .before .before .before .before .before .before .before .before .before .before .before .before .before) in
-    (e .0, sharing-held (r .dims) (r .few) (omega (arith, c .before .before .before .before .before .before .judge .kept .1 .1 .1 .1 .1 .1 .1 .1 .0, p .1)) (omega (arith, c .before .used .given, p .2)) (e .1))
+returns c = c .before .before .before .before .before .before .judge .ensures
 
 pub is-required-spec : {M : Type 1} → statement M
 is-required-spec =

@@ -3,6 +3,7 @@ use native.Mathlib.Omega.{arith}
 use denote.Ref.{now}
 use Rattle.ready.specs.Ready.{Ready}
 use Rattle.ready.proofs.Ready.{ready-base}
+use Rattle.normals.specs.Grouped.{Grouped}
 use Rattle.writing.specs.MatchedLaws.{matched-told}
 use Rattle.walk.specs.Limits.{Bytes}
 use Rattle.walk.proofs.Limits.{bytes-of}
@@ -23,6 +24,10 @@ condense-rows-requires c κs =
     let r = ready (c .before .before .before .before .before .before .before .before .before .before) in
     ((r .few, r .dims, r .size, ready-base r), (p .3, p .4, p .1, p .2))
 
+-- the slots, filled
+grouped : (c : tie.After-condense-rows) → (let a = c .before .before .before .before .before .before .before .before .before .before .before .before .args in Grouped (a .dims) (a .rows) (now (a .codes)) (now (a .sums)) (now (a .counts)) (c .condense-rows .last .1 .1 .1 .0) (c .condense-rows .last .1 .1 .1 .1 .0))
+grouped c = let p = c .before .before .before .before .before .before .before .before .before .before .before .before .pre in let k = c .condense-rows .kept in record { ready = ready (c .before .before .before .before .before .before .before .before .before .before .before); room = omega (arith, p .3, k .1 .1 .1 .0); sets = omega (arith, p .4, k .1 .1 .1 .1 .0); slots = c .condense-rows .ensures .0 }
+
 mul-start : tie.Need-mul-start
 mul-start c = omega (arith, ready (c .before .before .before .before .before .before .before .before .before .before .before .before .before .before .before .before .before .before .before) .dims)
 
@@ -41,22 +46,17 @@ match-sections-requires c κs =
           short = l .1 .0 .1;
           lists = l .1 .0 .0;
         },
-        record {
-          ready = ready (c .before .before .before .before .before .before .before .before .before .before .before .before .before .before .before .before .before .before .before .before .before .before .before);
-          room = omega (arith, p .3, c .before .before .before .before .before .before .before .before .before .before .before .store .given);
-          sets = omega (arith, p .4, c .before .before .before .before .before .before .before .before .before .used .given);
-          slots = l .0;
-        },
+        grouped (c .before .before .before .before .before .before .before .before .before .before .before .before),
         omega (arith, read-start (are-bytes (c .before .before .before .before .before .before .before .before .before .before .before .before .before .before .before .before .before .before .before .before .before .before .before)) (p .0)),
       ),
       l .1 .1,
     )
 
 returns : tie.Need-returns
-returns c = (other-of (are-bytes (c .before .before .before .before .before .before .before .before .before .before .before .before .before .before .before .before .before .before .before .before .before .before .before .before .before .before)) (c .before .before .before .before .before .before .before .before .before .before .before .before .before .before .before .before .before .before .before .before .before .before .before .before .before .before .before .pre .0) (matched-told (c .enum-told .given .1) (c .before .before .match-sections .ensures)), c .before .before .before .before .before .before .before .before .before .before .before .before .before .before .before .condense-rows .ensures .0)
+returns c = (other-of (are-bytes (c .before .before .before .before .before .before .before .before .before .before .before .before .before .before .before .before .before .before .before .before .before .before .before .before .before .before)) (c .before .before .before .before .before .before .before .before .before .before .before .before .before .before .before .before .before .before .before .before .before .before .before .before .before .before .before .pre .0) (matched-told (c .enum-told .given .1) (c .before .before .match-sections .ensures)), grouped (c .before .before .before .before .before .before .before .before .before .before .before .before .before .before .before))
 
 returns-2 : tie.Need-returns-2
-returns-2 c = (judged-of (are-bytes (c .before .before .before .before .before .before .before .before .before .before .before .before .before .before .before .before .before .before .before .before .before .before .before .before .before .before .before)) (c .before .before .before .before .before .before .before .before .before .before .before .before .before .before .before .before .before .before .before .before .before .before .before .before .before .before .before .before .pre .0) (matched-told (c .before .end .given .1) (c .before .before .before .match-sections .ensures)), c .before .before .before .before .before .before .before .before .before .before .before .before .before .before .before .before .condense-rows .ensures .0)
+returns-2 c = (judged-of (are-bytes (c .before .before .before .before .before .before .before .before .before .before .before .before .before .before .before .before .before .before .before .before .before .before .before .before .before .before .before)) (c .before .before .before .before .before .before .before .before .before .before .before .before .before .before .before .before .before .before .before .before .before .before .before .before .before .before .before .before .pre .0) (matched-told (c .before .end .given .1) (c .before .before .before .match-sections .ensures)), grouped (c .before .before .before .before .before .before .before .before .before .before .before .before .before .before .before .before))
 
 sub-result : tie.Need-sub-result
 sub-result c = omega (arith, matched-told (c .before .end .given .1) (c .before .before .before .match-sections .ensures) .meets .2)

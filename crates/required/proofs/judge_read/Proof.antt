@@ -5,10 +5,9 @@ use native.Mathlib.Omega.{arith}
 use denote.Ref.{now}
 use lib.ListN.{length, take}
 use Rattle.walk.specs.Limits.{Bytes}
-use Rattle.entries.specs.Reading.{walkArchive}
 use Rattle.required.specs.Read.{Read}
 use Rattle.walk.proofs.Limits.{bytes-of}
-use Rattle.required.proofs.Reading.{read-small, read-of, passed-required, stopped-required, shares-told}
+use Rattle.required.proofs.Reading.{read-small, read-of, passed-required, stopped-required}
 use borrow.Author.Needs.{needs}
 use Rattle.required.proofs.judge_read.Statement.{statement}
 use Rattle.required.proofs.judge_read.Tie as tie
@@ -40,16 +39,14 @@ is-required-requires c κs = let p = c .before .before .before .before .before .
 returns : tie.Need-returns
 returns c =
     let e = c .before .before .before .before .before .is-required .ensures in
-    let a = c .before .before .before .before .before .before .before .before .before .before .before .before .before .before .before .before .args in
     let p = c .before .before .before .before .before .before .before .before .before .before .before .before .before .before .before .before .pre .0 in
-    (passed-required p (read (c .before .before .before .before .before .before .before .before .before .before .before .before .before .before .before)) (sym (c .if1 .taken) ∙ e .0), shares-told (walkArchive (now (a .s))) (now (a .codes)) _ p (e .1))
+    (passed-required p (read (c .before .before .before .before .before .before .before .before .before .before .before .before .before .before .before)) (sym (c .if1 .taken) ∙ e .0), e .1)
 
 returns-2 : tie.Need-returns-2
 returns-2 c =
     let e = c .before .before .before .before .before .is-required .ensures in
-    let a = c .before .before .before .before .before .before .before .before .before .before .before .before .before .before .before .before .args in
     let p = c .before .before .before .before .before .before .before .before .before .before .before .before .before .before .before .before .pre .0 in
-    (stopped-required p (read (c .before .before .before .before .before .before .before .before .before .before .before .before .before .before .before)) (sym (c .if1 .left) ∙ e .0), shares-told (walkArchive (now (a .s))) (now (a .codes)) _ p (e .1))
+    (stopped-required p (read (c .before .before .before .before .before .before .before .before .before .before .before .before .before .before .before)) (sym (c .if1 .left) ∙ e .0), e .1)
 
 pub judge-read-spec : {M : Type 1} → statement M
 judge-read-spec =

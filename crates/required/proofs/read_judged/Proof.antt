@@ -1,7 +1,7 @@
 -- `required::read_judged` meets its contract: the rows are stored, then judged.
 use mathlib.Core.Path.{sym}
 use denote.Ref.{now}
-use Rattle.required.proofs.Reading.{stored-required, shares-required}
+use Rattle.required.proofs.Reading.{stored-required}
 use borrow.Author.Needs.{needs}
 use Rattle.required.proofs.read_judged.Statement.{statement}
 use Rattle.required.proofs.read_judged.Tie as tie
@@ -15,7 +15,7 @@ store-rows-requires c κs = ((_, c .before .before .before .before .pre), (searc
 returns : tie.Need-returns
 returns c =
     let s = now (c .before .before .before .before .before .before .before .before .before .before .before .before .before .before .args .s) in
-    (c .judge-read .ensures .0, (stored-required s _ _ _ (c .before .before .before .before .before .before .before .before .before .store-rows .ensures), shares-required s _ _ (c .judge-read .ensures .1)))
+    (c .judge-read .ensures .0, (stored-required s _ _ _ (c .before .before .before .before .before .before .before .before .before .store-rows .ensures), c .judge-read .ensures .1))
 
 pub read-judged-spec : {M : Type 1} → statement M
 read-judged-spec =
