@@ -59,7 +59,7 @@ extern "C" {
 #define CUBE_ALL UINT32_C(65535)
 
 /* Stack that is enough for a call, in bytes: measured in the compiled library, not proved. */
-#define CUBE_STACK 1572864
+#define CUBE_STACK 1048576
 
 /* Stops: whether an answer is one, and which one it is if so. */
 #define CUBE_STOP_BIT (UINT64_C(1) << 63)

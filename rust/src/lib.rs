@@ -56,4 +56,4 @@ pub use stop::Stop;
 pub use table::{Table, TableError};
 
 /// Stack that is enough for a call, in bytes: measured in the compiled library, not proved.
-pub const STACK: usize = 1_572_864;
+pub const STACK: usize = 1_048_576;
