@@ -1,5 +1,5 @@
 // An archive read from its bytes by a reader, which steps along the archive's fields and remembers only its place.
-// The functions on a slice and a place (crate `sections`) do the work. Those over `Reader` take it apart and call them.
+// The functions on a slice and a place (crate `archive_sections`) do the work. Those over `Reader` take it apart and call them.
 use archive_entries::ArchiveRead;
 use fields_walk::Walk;
 ghost use mathlib.Core.Path.{_≡_};

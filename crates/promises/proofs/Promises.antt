@@ -1,7 +1,8 @@
--- The front page: the user's demands 2 and 3 on bytes, and what the change requests ask to be shown. Demand 1 is the contracts of the calls (src/lib.rt of crates build, archive,
--- keys, fee_call and join), each an equation with its definition in specs/ of crate calls, keys, fee_call or join. Beside this page: Room.antt (outputs that are always enough), Numbers.antt (the number that another language
--- gets tells a stop from a success), Empty.antt (an archive without base rows), Keys.antt (which codes fix which), Fees.antt (what is written for a fee), Joins.antt (two archives into one), Examples.antt (the worked examples of document 01).
--- Pages of other crates: cube, proofs/Promises.antt (the same demands on rows, without bytes); smalls, proofs/Promises.antt (C-23: all the small tables).
+-- The front page: the user's demands 2 and 3 on bytes, and what the change requests ask to be shown. Demand 1 is the contracts of the calls (src/lib.rt of crates call_build, call_ask,
+-- call_keys, call_fee and call_join), each an equation with its definition in specs/ of crate call_answers, call_keys, call_fee or call_join. Beside this page: Room.antt (outputs that are always enough), Numbers.antt (the
+-- number that another language gets tells a stop from a success), Empty.antt (an archive without base rows), Keys.antt (which codes fix which), Fees.antt (what is written for a fee), Joins.antt (two archives into one),
+-- Examples.antt (the worked examples of document 01).
+-- Pages of other crates: cube, proofs/Promises.antt (the same demands on rows, without bytes); small_model, proofs/Promises.antt (C-23: all the small tables).
 use mathlib.Core.Path.{_≡_, refl, sym, ap, ap₂, subst, _∙_}
 use mathlib.Core.Logic.{_↔_}
 use mathlib.Core.Bool.{true, false, not, _&&_}

@@ -15,4 +15,4 @@ pub bases-spec : {M : Type 1} → stated.statement M
 unfolding code.routine
 bases-spec 𝓤 H 𝓜 𝓖 𝓡 =
     thin R.the-row Base R′.mir g.name (λ x u is. EL.lawful R.the-type R′.the-laws 𝓤 H (𝓖 .A) (givenOf 𝓤 H 𝓜 𝓖) tt .typed x _ is .0) 𝓤 H 𝓜 𝓖 𝓡
-    name code.env (code.unfolded 𝓤 H 𝓜 𝓡) g.routine code.calls-sections·bases-at (g-thm.met 𝓤 H 𝓜 𝓖 𝓡)
+    name code.env (code.unfolded 𝓤 H 𝓜 𝓡) g.routine code.calls-archive-sections·bases-at (g-thm.met 𝓤 H 𝓜 𝓖 𝓡)

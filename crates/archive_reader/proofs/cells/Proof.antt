@@ -15,4 +15,4 @@ pub cells-spec : {M : Type 1} → stated.statement M
 unfolding code.routine
 cells-spec 𝓤 H 𝓜 𝓖 𝓡 =
     thin R.the-row Cell R′.mir g.name (λ x u is. EL.lawful R.the-type R′.the-laws 𝓤 H (𝓖 .A) (givenOf 𝓤 H 𝓜 𝓖) tt .typed x _ is .0) 𝓤 H 𝓜 𝓖 𝓡
-    name code.env (code.unfolded 𝓤 H 𝓜 𝓡) g.routine code.calls-sections·cells-at (g-thm.met 𝓤 H 𝓜 𝓖 𝓡)
+    name code.env (code.unfolded 𝓤 H 𝓜 𝓡) g.routine code.calls-archive-sections·cells-at (g-thm.met 𝓤 H 𝓜 𝓖 𝓡)

@@ -146,10 +146,10 @@ check-archive-spec 𝓤 H 𝓜 𝓖 𝓡 =
     let W : Given 𝓤 H (𝓖 .A) = givenOf 𝓤 H 𝓜 𝓖 in
     met-by 𝓤 H 𝓜 𝓖 𝓡 check.ended stayed (check.clauses 𝓤 H (𝓖 .A) (𝓜 .mem) (𝓡 .run)) (goes-none-slice 𝓤 H (𝓖 .A) W 1 (0 ∷ []) tt (plain (λ _. u8)) yes, tt) name code.function code.env (code.unfolded 𝓤 H 𝓜 𝓡)
     (λ fm. walks 𝓤 H (𝓖 .A) W (𝓜 .mem) (𝓡 .run) (tables 𝓤 H 𝓜 𝓡 code.env .C) (tables 𝓤 H 𝓜 𝓡 code.env .Λ) fm
-    (cited 𝓤 H (Rd.Start 𝓤 H (𝓖 .A) (𝓜 .mem) (𝓡 .run)) 𝓜 𝓡 code.env start-def.name start-def.routine code.calls-reader·start (start-thm.met 𝓤 H 𝓜 𝓖 𝓡))
-    (cited 𝓤 H (Rd.Moved 𝓤 H (𝓖 .A) (𝓜 .mem) (𝓡 .run)) 𝓜 𝓡 code.env moved-def.name moved-def.routine code.calls-reader·moved (moved-thm.met 𝓤 H 𝓜 𝓖 𝓡))
-    (cited 𝓤 H (Rd.Read 𝓤 H (𝓖 .A) u32 Word) 𝓜 𝓡 code.env word-def.name word-def.routine code.calls-reader·word (word-thm.met 𝓤 H 𝓜 𝓖 𝓡))
-    (cited 𝓤 H (Rd.Read 𝓤 H (𝓖 .A) S.the-row Head) 𝓜 𝓡 code.env header-def.name header-def.routine code.calls-reader·header (header-thm.met 𝓤 H 𝓜 𝓖 𝓡))
-    (cited 𝓤 H (Rd.Read 𝓤 H (𝓖 .A) S.the-row Base) 𝓜 𝓡 code.env bases-def.name bases-def.routine code.calls-reader·bases (bases-thm.met 𝓤 H 𝓜 𝓖 𝓡))
-    (cited 𝓤 H (Rd.Read 𝓤 H (𝓖 .A) S.the-row Cell) 𝓜 𝓡 code.env cells-def.name cells-def.routine code.calls-reader·cells (cells-thm.met 𝓤 H 𝓜 𝓖 𝓡))
-    (cited 𝓤 H (Rd.Read 𝓤 H (𝓖 .A) S.the-row Close) 𝓜 𝓡 code.env close-def.name close-def.routine code.calls-reader·close (close-thm.met 𝓤 H 𝓜 𝓖 𝓡)))
+    (cited 𝓤 H (Rd.Start 𝓤 H (𝓖 .A) (𝓜 .mem) (𝓡 .run)) 𝓜 𝓡 code.env start-def.name start-def.routine code.calls-archive-reader·start (start-thm.met 𝓤 H 𝓜 𝓖 𝓡))
+    (cited 𝓤 H (Rd.Moved 𝓤 H (𝓖 .A) (𝓜 .mem) (𝓡 .run)) 𝓜 𝓡 code.env moved-def.name moved-def.routine code.calls-archive-reader·moved (moved-thm.met 𝓤 H 𝓜 𝓖 𝓡))
+    (cited 𝓤 H (Rd.Read 𝓤 H (𝓖 .A) u32 Word) 𝓜 𝓡 code.env word-def.name word-def.routine code.calls-archive-reader·word (word-thm.met 𝓤 H 𝓜 𝓖 𝓡))
+    (cited 𝓤 H (Rd.Read 𝓤 H (𝓖 .A) S.the-row Head) 𝓜 𝓡 code.env header-def.name header-def.routine code.calls-archive-reader·header (header-thm.met 𝓤 H 𝓜 𝓖 𝓡))
+    (cited 𝓤 H (Rd.Read 𝓤 H (𝓖 .A) S.the-row Base) 𝓜 𝓡 code.env bases-def.name bases-def.routine code.calls-archive-reader·bases (bases-thm.met 𝓤 H 𝓜 𝓖 𝓡))
+    (cited 𝓤 H (Rd.Read 𝓤 H (𝓖 .A) S.the-row Cell) 𝓜 𝓡 code.env cells-def.name cells-def.routine code.calls-archive-reader·cells (cells-thm.met 𝓤 H 𝓜 𝓖 𝓡))
+    (cited 𝓤 H (Rd.Read 𝓤 H (𝓖 .A) S.the-row Close) 𝓜 𝓡 code.env close-def.name close-def.routine code.calls-archive-reader·close (close-thm.met 𝓤 H 𝓜 𝓖 𝓡)))

@@ -15,4 +15,4 @@ pub word-spec : {M : Type 1} → stated.statement M
 unfolding code.routine
 word-spec 𝓤 H 𝓜 𝓖 𝓡 =
     thin u32 Word (tyInt w32) g.name (λ x u is. uint-lawful 𝓤 H (𝓖 .A) (givenOf 𝓤 H 𝓜 𝓖) w32 .typed x _ is .0) 𝓤 H 𝓜 𝓖 𝓡
-    name code.env (code.unfolded 𝓤 H 𝓜 𝓡) g.routine code.calls-sections·word-there (g-thm.met 𝓤 H 𝓜 𝓖 𝓡)
+    name code.env (code.unfolded 𝓤 H 𝓜 𝓡) g.routine code.calls-archive-sections·word-there (g-thm.met 𝓤 H 𝓜 𝓖 𝓡)
