@@ -1,4 +1,4 @@
 // The builder: a table to its archive.
 fn main() {
-    pipes::run_builder();
+    program_pipes::run_builder();
 }

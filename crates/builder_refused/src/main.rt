@@ -1,4 +1,4 @@
 // The builder on an input that it refuses.
 fn main() {
-    pipes::run_builder();
+    program_pipes::run_builder();
 }

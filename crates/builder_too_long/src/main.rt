@@ -1,4 +1,4 @@
 // The builder on an input that it finds too long.
 fn main() {
-    pipes::run_builder();
+    program_pipes::run_builder();
 }

@@ -1,17 +1,17 @@
 // The calls for other languages: each answers one number, 2^63 plus a stop's number where it stops.
-use calls::Checked;
-use calls::Found;
-use calls::Written;
-use keys::Fixed;
+use call_answers::Checked;
+use call_answers::Found;
+use call_answers::Written;
+use call_keys::Fixed;
 ghost use mathlib.Core.Path.{_≡_};
 ghost use lib.ListN.{length};
-ghost use Rattle.calls.specs.Answers.{within, answerOf, leftOf};
-ghost use Rattle.calls.specs.Calls.{builds, checks, listsCuboid, expands, looksUp};
-ghost use Rattle.calls.specs.Numbers.{writtenNumber, checkedNumber, foundNumber, sumLeft, countLeft, entryLeft};
-ghost use Rattle.keys.specs.Calls.{listsKeys, tellsFixed};
-ghost use Rattle.keys.specs.Numbers.{fixedNumber};
-ghost use Rattle.fee_call.specs.Fees.{sharesFee};
-ghost use Rattle.join.specs.Joins.{joins};
+ghost use Rattle.call_answers.specs.Answers.{within, answerOf, leftOf};
+ghost use Rattle.call_answers.specs.Calls.{builds, checks, listsCuboid, expands, looksUp};
+ghost use Rattle.call_answers.specs.Numbers.{writtenNumber, checkedNumber, foundNumber, sumLeft, countLeft, entryLeft};
+ghost use Rattle.call_keys.specs.Calls.{listsKeys, tellsFixed};
+ghost use Rattle.call_keys.specs.Numbers.{fixedNumber};
+ghost use Rattle.call_fee.specs.Fees.{sharesFee};
+ghost use Rattle.call_join.specs.Joins.{joins};
 
 // The number of a call that writes an output.
 fn number(answer: Written) -> u64
@@ -29,7 +29,7 @@ pub extern "C" fn cube_build(table: &[u8], out: &mut [u8]) -> u64
     ensures { λ r. ⌜ r ≡ writtenNumber (answerOf (within (length (now (out .entry))) (builds (now (table .entry))))) ⌝ }
     ensures { λ _. ⌜ now (out .exit) ≡ leftOf (within (length (now (out .entry))) (builds (now (table .entry)))) (now (out .entry)) ⌝ }
 {
-    number(build::build(table, out))
+    number(call_build::build(table, out))
 }
 
 // Checks an archive: the base count plus 2^32 times the normal count.
@@ -37,7 +37,7 @@ pub extern "C" fn cube_build(table: &[u8], out: &mut [u8]) -> u64
 pub extern "C" fn cube_check(archive: &[u8]) -> u64
     ensures { λ r. ⌜ r ≡ checkedNumber (checks (now (archive .entry))) ⌝ }
 {
-    match archive::check(archive) {
+    match call_ask::check(archive) {
         Checked::Entries { bases, cells } => bases as u64 + 4294967296 * (cells as u64),
         Checked::Stop(n) => 0x8000_0000_0000_0000 + n as u64,
     }
@@ -56,7 +56,7 @@ pub extern "C" fn cube_look_up(
     ensures { λ _. ⌜ now (sum .exit) ≡ sumLeft (looksUp (now (archive .entry)) (now (question .entry))) (now (sum .entry)) ⌝ }
     ensures { λ _. ⌜ (now (count .exit) ≡ countLeft (looksUp (now (archive .entry)) (now (question .entry))) (now (count .entry))) × (now (entry .exit) ≡ entryLeft (looksUp (now (archive .entry)) (now (question .entry))) (now (entry .entry))) ⌝ }
 {
-    match archive::look_up(archive, question) {
+    match call_ask::look_up(archive, question) {
         Found::Cell {
             sum: s,
             count: n,
@@ -78,7 +78,7 @@ pub extern "C" fn cube_list_cuboid(archive: &[u8], set: u32, out: &mut [u8]) -> 
     ensures { λ r. ⌜ r ≡ writtenNumber (answerOf (within (length (now (out .entry))) (listsCuboid (now (archive .entry)) set))) ⌝ }
     ensures { λ _. ⌜ now (out .exit) ≡ leftOf (within (length (now (out .entry))) (listsCuboid (now (archive .entry)) set)) (now (out .entry)) ⌝ }
 {
-    number(archive::list_cuboid(archive, set, out))
+    number(call_ask::list_cuboid(archive, set, out))
 }
 
 // Expands an archive to the complete cube: the length written.
@@ -87,7 +87,7 @@ pub extern "C" fn cube_expand(archive: &[u8], out: &mut [u8]) -> u64
     ensures { λ r. ⌜ r ≡ writtenNumber (answerOf (within (length (now (out .entry))) (expands (now (archive .entry))))) ⌝ }
     ensures { λ _. ⌜ now (out .exit) ≡ leftOf (within (length (now (out .entry))) (expands (now (archive .entry)))) (now (out .entry)) ⌝ }
 {
-    number(archive::expand(archive, out))
+    number(call_ask::expand(archive, out))
 }
 
 // Lists the smallest keys of an archive: the length written.
@@ -96,7 +96,7 @@ pub extern "C" fn cube_smallest_keys(archive: &[u8], out: &mut [u8]) -> u64
     ensures { λ r. ⌜ r ≡ writtenNumber (answerOf (within (length (now (out .entry))) (listsKeys (now (archive .entry))))) ⌝ }
     ensures { λ _. ⌜ now (out .exit) ≡ leftOf (within (length (now (out .entry))) (listsKeys (now (archive .entry)))) (now (out .entry)) ⌝ }
 {
-    number(keys::smallest_keys(archive, out))
+    number(call_keys::smallest_keys(archive, out))
 }
 
 // Whether a set fixes a dimension: 1 for yes, 0 for no.
@@ -104,7 +104,7 @@ pub extern "C" fn cube_smallest_keys(archive: &[u8], out: &mut [u8]) -> u64
 pub extern "C" fn cube_fixes(archive: &[u8], set: u32, dimension: u32) -> u64
     ensures { λ r. ⌜ r ≡ fixedNumber (tellsFixed (now (archive .entry)) set dimension) ⌝ }
 {
-    match keys::fixes(archive, set, dimension) {
+    match call_keys::fixes(archive, set, dimension) {
         Fixed::Yes => 1,
         Fixed::No => 0,
         Fixed::Stop(n) => 0x8000_0000_0000_0000 + n as u64,
@@ -117,7 +117,7 @@ pub extern "C" fn cube_share_fee(archive: &[u8], fee: u32, set: u32, out: &mut [
     ensures { λ r. ⌜ r ≡ writtenNumber (answerOf (within (length (now (out .entry))) (sharesFee (now (archive .entry)) fee set))) ⌝ }
     ensures { λ _. ⌜ now (out .exit) ≡ leftOf (within (length (now (out .entry))) (sharesFee (now (archive .entry)) fee set)) (now (out .entry)) ⌝ }
 {
-    number(fee_call::share_fee(archive, fee, set, out))
+    number(call_fee::share_fee(archive, fee, set, out))
 }
 
 // Joins two archives: the length written.
@@ -126,5 +126,5 @@ pub extern "C" fn cube_join(first: &[u8], second: &[u8], out: &mut [u8]) -> u64
     ensures { λ r. ⌜ r ≡ writtenNumber (answerOf (within (length (now (out .entry))) (joins (now (first .entry)) (now (second .entry))))) ⌝ }
     ensures { λ _. ⌜ now (out .exit) ≡ leftOf (within (length (now (out .entry))) (joins (now (first .entry)) (now (second .entry)))) (now (out .entry)) ⌝ }
 {
-    number(join::join(first, second, out))
+    number(call_join::join(first, second, out))
 }

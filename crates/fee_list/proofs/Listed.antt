@@ -8,10 +8,10 @@ use lib.ListN.{length}
 use borrow.Author.Tests.{lt-ltb}
 use Rattle.lists.specs.Lists.{sum}
 use Rattle.fields.specs.Words.{words, areWords}
-use Rattle.fields.specs.ReadBack.{words-read}
-use Rattle.fees.specs.Shares.{shares}
-use Rattle.fees.proofs.Proportions.{shares-length, shares-sum}
-use Rattle.writing.specs.ListBytes.{listBytes, list-length}
+use Rattle.fields_check.specs.ReadBack.{words-read}
+use Rattle.fee_shares.specs.Shares.{shares}
+use Rattle.fee_shares.proofs.Proportions.{shares-length, shares-sum}
+use Rattle.archive_cells.specs.ListBytes.{listBytes, list-length}
 use Rattle.fee_list.specs.Listed.{feeBytes}
 
 pub fee-is : {l : List ℕ} (fee : ℕ) (ws : List ℕ) → l ≡ shares fee ws → feeBytes fee ws ≡ listBytes l

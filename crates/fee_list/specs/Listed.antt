@@ -3,8 +3,8 @@
 --   feeBytes fee ws   what is listed for a fee and the cells' counts
 use mathlib.Core.List.{List}
 use Prim.Native.Nat.{ℕ}
-use Rattle.fees.specs.Shares.{shares}
-use Rattle.writing.specs.ListBytes.{listBytes}
+use Rattle.fee_shares.specs.Shares.{shares}
+use Rattle.archive_cells.specs.ListBytes.{listBytes}
 
 unfoldable pub feeBytes : ℕ → List ℕ → List ℕ
 feeBytes fee ws = listBytes (shares fee ws)

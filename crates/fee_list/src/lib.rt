@@ -12,8 +12,8 @@ fn put_shares(out: &mut [u8], fee: u64, counts: &[u32], shares: &mut [u32]) -> u
     requires { ⌜ (length (now shares) ≡ length (now counts)) × (length (feeBytes fee (now counts)) ≤ length (now out)) ⌝ }
     ensures { λ r. ⌜ Wrote (feeBytes fee (now (counts .entry))) (now (out .entry)) (now (out .exit)) r ⌝ }
 {
-    fees::share_fee(fee, counts, shares);
-    writing::put_list(out, shares)
+    fee_shares::share_fee(fee, counts, shares);
+    archive_cells::put_list(out, shares)
 }
 
 // Shares a fee by the counts of a cuboid's cells: the number of cells, then each cell's cents.

@@ -1,4 +1,3 @@
 -- Laws that serve several functions.
 pub mod Machine
-pub mod Summed
 pub mod Stands

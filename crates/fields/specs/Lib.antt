@@ -1,5 +1,4 @@
--- The definitions that the contracts cite, one idea a file: `Words`, `Twos`, `Opening`, `Check`, `Written`. Each `..Laws` has what callers use of them.
--- `ReadBack` shows for each field that what is written is read back.
+-- The definitions that the contracts cite, one idea a file: `Words`, `Twos`, `Opening`, `Written`. Each `..Laws` has what callers use of them.
 pub mod Written
 pub mod WrittenLaws
 pub mod Words
@@ -8,7 +7,3 @@ pub mod Twos
 pub mod TwosLaws
 pub mod Opening
 pub mod OpeningLaws
-pub mod Check
-pub mod CheckLaws
-pub mod ReadBack
-pub mod Examples

@@ -1,4 +1,4 @@
 // The lister: an archive to its text.
 fn main() {
-    pipes::run_lister();
+    program_pipes::run_lister();
 }

@@ -1,4 +1,4 @@
 // The lister on an input that it refuses.
 fn main() {
-    pipes::run_lister();
+    program_pipes::run_lister();
 }

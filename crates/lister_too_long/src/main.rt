@@ -1,4 +1,4 @@
 // The lister on an input that it finds too long.
 fn main() {
-    pipes::run_lister();
+    program_pipes::run_lister();
 }

@@ -9,8 +9,8 @@ use lib.Dec.{ltb}
 use lib.IntN.{pos}
 use lib.ListN.{length, replicate, length-map}
 use Rattle.lists.proofs.Tests.{cases, truth}
-use Rattle.walk.specs.Parsed.{got}
-use Rattle.walk.specs.Limits.{Bytes}
+use Rattle.fields_walk.specs.Parsed.{got}
+use Rattle.fields_walk.specs.Limits.{Bytes}
 use Rattle.cube.specs.declared.Total.{Total}
 use Rattle.cube.specs.Measure.{sums, Row, codesOf}
 use Rattle.cube.specs.Codes.{ALL, plain}
@@ -19,14 +19,14 @@ use Rattle.cube.specs.Condensed.{lookup, normals, ours}
 use Rattle.cube.proofs.Codes.{plain-laws}
 use Rattle.cube.proofs.Empty.{normals-none}
 use Rattle.cube.proofs.Promises.{empty-answer}
-use Rattle.entries.specs.Layout.{Held, required, archiveBytes, Limits}
-use Rattle.entries.specs.Reading.{readArchive, rowsIn}
-use Rattle.entries.proofs.Accepted.{archive-forth}
-use Rattle.entries.proofs.Lengths.{archive-length}
-use Rattle.questions.specs.Questions.{asks}
-use Rattle.calls.specs.declared.Checked.the-variants as Check
-use Rattle.calls.specs.declared.Found.the-variants as Find
-use Rattle.calls.specs.Calls.{counted, checks, told, looksUp}
+use Rattle.archive_entries.specs.Layout.{Held, required, archiveBytes, Limits}
+use Rattle.archive_entries.specs.Reading.{readArchive, rowsIn}
+use Rattle.archive_entries.proofs.Accepted.{archive-forth}
+use Rattle.archive_entries.proofs.Lengths.{archive-length}
+use Rattle.call_questions.specs.Questions.{asks}
+use Rattle.call_answers.specs.declared.Checked.the-variants as Check
+use Rattle.call_answers.specs.declared.Found.the-variants as Find
+use Rattle.call_answers.specs.Calls.{counted, checks, told, looksUp}
 use Rattle.promises.proofs.Promises.{looked, no-record-just-if}
 
 asks-all : (zs : List ℕ) → asks zs (replicate (length zs) ALL) ≡ true

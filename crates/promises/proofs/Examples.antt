@@ -7,10 +7,10 @@ use lib.Count.{ones, onesIn}
 use lib.ListN.{length}
 use Rattle.fields.specs.Words.{wordAt, words, wordsBytes}
 use Rattle.fields.specs.Twos.{readingAt, sumAt}
-use Rattle.fields.specs.Check.{checkOf}
+use Rattle.fields_check.specs.Check.{checkOf}
 use Rattle.lattice.specs.Sets.{sets}
-use Rattle.walk.specs.Parsed.{Parsed, stop, got, many}
-use Rattle.walk.specs.Fields.{room, word, sum, reading, field, codes, header, close}
+use Rattle.fields_walk.specs.Parsed.{Parsed, stop, got, many}
+use Rattle.fields_walk.specs.Fields.{room, word, sum, reading, field, codes, header, close}
 use Rattle.cube.specs.declared.Total.{Total}
 use Rattle.cube.specs.Measure.{Row}
 use Rattle.cube.specs.Bounds.{canMake}
@@ -21,23 +21,23 @@ use Rattle.cube.specs.Table.{folded}
 use Rattle.cube.proofs.Examples.{Said, Example, examples}
 use Rattle.table.specs.Layout.{tableBytes}
 use Rattle.table.specs.Reading.{row, body, readTable}
-use Rattle.entries.specs.Layout.{Held, cellBytes, baseBytes, section, layout, required, archiveBytes}
-use Rattle.entries.specs.Reading.{rising, fair, amount, list, entry, entries, bases, cell, cells, walkArchive, readArchive}
-use Rattle.cuboids.specs.Cuboids.{cuboidBytes, expansionBytes}
-use Rattle.calls.specs.declared.Checked.the-variants as Check
-use Rattle.calls.specs.declared.Found.{Found}
-use Rattle.calls.specs.declared.Found.the-variants as Find
-use Rattle.calls.specs.Answers.{Outcome, stop as stopped, bytes, within}
-use Rattle.writing.specs.ListBytes.{listBytes}
+use Rattle.archive_entries.specs.Layout.{Held, cellBytes, baseBytes, section, layout, required, archiveBytes}
+use Rattle.archive_entries.specs.Reading.{rising, fair, amount, list, entry, entries, bases, cell, cells, walkArchive, readArchive}
+use Rattle.call_cuboids.specs.Cuboids.{cuboidBytes, expansionBytes}
+use Rattle.call_answers.specs.declared.Checked.the-variants as Check
+use Rattle.call_answers.specs.declared.Found.{Found}
+use Rattle.call_answers.specs.declared.Found.the-variants as Find
+use Rattle.call_answers.specs.Answers.{Outcome, stop as stopped, bytes, within}
+use Rattle.archive_cells.specs.ListBytes.{listBytes}
 use Rattle.cube.specs.Keys.{key, leastKeys, fixes}
-use Rattle.keys.specs.declared.Fixed.the-variants.{Yes, No, Stop}
-use Rattle.keys.specs.Calls.{listsKeys, tellsFixed}
-use Rattle.calls.specs.Calls.{builds, checks, listsCuboid, expands, entriesIn, told, looksUp}
-use Rattle.fees.specs.Shares.{left, shares}
+use Rattle.call_keys.specs.declared.Fixed.the-variants.{Yes, No, Stop}
+use Rattle.call_keys.specs.Calls.{listsKeys, tellsFixed}
+use Rattle.call_answers.specs.Calls.{builds, checks, listsCuboid, expands, entriesIn, told, looksUp}
+use Rattle.fee_shares.specs.Shares.{left, shares}
 use Rattle.fee_list.specs.Listed.{feeBytes}
-use Rattle.fee_call.specs.Fees.{weights, sharesFee}
-use Rattle.merge.specs.United.{united}
-use Rattle.join.specs.Joins.{joins}
+use Rattle.call_fee.specs.Fees.{weights, sharesFee}
+use Rattle.rows_merge.specs.United.{united}
+use Rattle.call_join.specs.Joins.{joins}
 
 -- what an example says of the bytes: the archive's length and check word, its entries, how long its expansion is, and answers to questions; a refusal is none of these
 pub record Told : Type 0 where

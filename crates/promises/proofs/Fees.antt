@@ -9,24 +9,24 @@ use borrow.Author.Tests.{lt-ltb, le-leb}
 use Rattle.lists.specs.Lists.{sum}
 use Rattle.fields.specs.Words.{words}
 use Rattle.lattice.proofs.Sets.{sets-of}
-use Rattle.walk.specs.Parsed.{got}
-use Rattle.walk.specs.Limits.{Bytes}
+use Rattle.fields_walk.specs.Parsed.{got}
+use Rattle.fields_walk.specs.Limits.{Bytes}
 use Rattle.cube.specs.Measure.{sums}
 use Rattle.cube.specs.Bounds.{countOf}
 use Rattle.cube.specs.Codes.{plain}
 use Rattle.cube.specs.Cube.{cells}
-use Rattle.entries.specs.Layout.{Held}
-use Rattle.entries.specs.Reading.{readArchive, rowsIn}
-use Rattle.entries.proofs.Limits.{limits-table}
-use Rattle.entries.proofs.Accepted.{archive-forth}
-use Rattle.calls.specs.Answers.{bytes}
-use Rattle.calls.specs.Calls.{dims}
-use Rattle.fees.specs.Shares.{shares, apart, sumℤ, off}
-use Rattle.fees.proofs.Promises as share
+use Rattle.archive_entries.specs.Layout.{Held}
+use Rattle.archive_entries.specs.Reading.{readArchive, rowsIn}
+use Rattle.archive_entries.proofs.Limits.{limits-table}
+use Rattle.archive_entries.proofs.Accepted.{archive-forth}
+use Rattle.call_answers.specs.Answers.{bytes}
+use Rattle.call_answers.specs.Calls.{dims}
+use Rattle.fee_shares.specs.Shares.{shares, apart, sumℤ, off}
+use Rattle.fee_shares.proofs.Promises as share
 use Rattle.fee_list.specs.Listed.{feeBytes}
 use Rattle.fee_list.proofs.Listed.{fee-read}
-use Rattle.fee_call.specs.Fees.{weights, sharesFee}
-use Rattle.fee_call.proofs.Counts.{weights-total, counts-some}
+use Rattle.call_fee.specs.Fees.{weights, sharesFee}
+use Rattle.call_fee.proofs.Counts.{weights-total, counts-some}
 use Rattle.promises.proofs.Room.{weights-few}
 
 module _ (s : List ℕ) (a : Held) (b : Bytes s) (e : readArchive s ≡ got a []) (n : 0 < length (a .bases)) {fee set : ℕ} (k : fee ≤ 1000000000) (h : set < 2 ^ dims a) where

@@ -5,24 +5,24 @@ use mathlib.Core.Bool.{true}
 use mathlib.Core.List.{List, [], _++_}
 use Prim.Native.Nat.{ℕ, _+_}
 use Rattle.lists.specs.Lists.{_∈_}
-use Rattle.walk.specs.Parsed.{got}
-use Rattle.walk.specs.Limits.{Bytes}
+use Rattle.fields_walk.specs.Parsed.{got}
+use Rattle.fields_walk.specs.Limits.{Bytes}
 use Rattle.cube.specs.declared.Total.{Total}
 use Rattle.cube.specs.Measure.{plus, sums, Row, totalAt, codesOf}
 use Rattle.cube.specs.Bounds.{countOf}
 use Rattle.cube.specs.Codes.{falls, plain}
 use Rattle.cube.specs.Cube.{blank, Exists, total, complete}
 use Rattle.cube.proofs.Sums.{sums-add}
-use Rattle.merge.specs.United.{united, merged}
-use Rattle.merge.proofs.United as uniting
+use Rattle.rows_merge.specs.United.{united, merged}
+use Rattle.rows_merge.proofs.United as uniting
 use Rattle.table.specs.Layout.{Records}
 use Rattle.table.specs.Reading.{readTable}
-use Rattle.entries.specs.Layout.{Held, Limits, required}
-use Rattle.entries.specs.Reading.{readArchive, rowsIn}
-use Rattle.calls.specs.Answers.{stop, bytes}
-use Rattle.calls.specs.Calls.{dims, builds}
-use Rattle.join.specs.Joins.{filed, joins, doubled}
-use Rattle.join.proofs.Joins as joining
+use Rattle.archive_entries.specs.Layout.{Held, Limits, required}
+use Rattle.archive_entries.specs.Reading.{readArchive, rowsIn}
+use Rattle.call_answers.specs.Answers.{stop, bytes}
+use Rattle.call_answers.specs.Calls.{dims, builds}
+use Rattle.call_join.specs.Joins.{filed, joins, doubled}
+use Rattle.call_join.proofs.Joins as joining
 
 -- A result has two accepted archives.
 pub join-both : (s t : List ℕ) {x : List ℕ} → Bytes s → Bytes t → joins s t ≡ bytes x → (a : Held) × (b : Held) × (readArchive s ≡ got a []) × (readArchive t ≡ got b [])

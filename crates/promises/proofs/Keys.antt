@@ -9,19 +9,19 @@ use Rattle.lists.specs.Lists.{_∈_}
 use Rattle.lists.specs.Order.{Rising}
 use Rattle.lattice.specs.Sets.{before, full, sets, holds}
 use Rattle.lattice.proofs.Sets.{sets-of}
-use Rattle.walk.specs.Parsed.{got}
-use Rattle.walk.specs.Limits.{Bytes}
+use Rattle.fields_walk.specs.Parsed.{got}
+use Rattle.fields_walk.specs.Limits.{Bytes}
 use Rattle.cube.specs.Measure.{codesOf}
 use Rattle.cube.specs.Codes.{agree, plain}
 use Rattle.cube.specs.Keys.{key, leastKeys, dimension}
 use Rattle.cube.proofs.Promises as theory
-use Rattle.entries.specs.Layout.{Held}
-use Rattle.entries.specs.Reading.{readArchive, rowsIn}
-use Rattle.writing.specs.ListBytes.{listBytes}
-use Rattle.calls.specs.Answers.{bytes}
-use Rattle.keys.specs.declared.Fixed.the-variants.{Yes}
-use Rattle.keys.specs.Calls.{listsKeys, tellsFixed}
-use Rattle.keys.proofs.Promises as keyed
+use Rattle.archive_entries.specs.Layout.{Held}
+use Rattle.archive_entries.specs.Reading.{readArchive, rowsIn}
+use Rattle.archive_cells.specs.ListBytes.{listBytes}
+use Rattle.call_answers.specs.Answers.{bytes}
+use Rattle.call_keys.specs.declared.Fixed.the-variants.{Yes}
+use Rattle.call_keys.specs.Calls.{listsKeys, tellsFixed}
+use Rattle.call_keys.proofs.Promises as keyed
 use Rattle.promises.proofs.Promises.{rows-base}
 
 module _ (s : List ℕ) (a : Held) (b : Bytes s) (e : readArchive s ≡ got a []) where

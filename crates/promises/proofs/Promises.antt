@@ -1,7 +1,8 @@
--- The front page: the user's demands 2 and 3 on bytes, and what the change requests ask to be shown. Demand 1 is the contracts of the calls (src/lib.rt of crates build, archive,
--- keys, fee_call and join), each an equation with its definition in specs/ of crate calls, keys, fee_call or join. Beside this page: Room.antt (outputs that are always enough), Numbers.antt (the number that another language
--- gets tells a stop from a success), Empty.antt (an archive without base rows), Keys.antt (which codes fix which), Fees.antt (what is written for a fee), Joins.antt (two archives into one), Examples.antt (the worked examples of document 01).
--- Pages of other crates: cube, proofs/Promises.antt (the same demands on rows, without bytes); smalls, proofs/Promises.antt (C-23: all the small tables).
+-- The front page: the user's demands 2 and 3 on bytes, and what the change requests ask to be shown. Demand 1 is the contracts of the calls (src/lib.rt of crates call_build, call_ask,
+-- call_keys, call_fee and call_join), each an equation with its definition in specs/ of crate call_answers, call_keys, call_fee or call_join. Beside this page: Room.antt (outputs that are always enough), Numbers.antt (the
+-- number that another language gets tells a stop from a success), Empty.antt (an archive without base rows), Keys.antt (which codes fix which), Fees.antt (what is written for a fee), Joins.antt (two archives into one),
+-- Examples.antt (the worked examples of document 01).
+-- Pages of other crates: cube, proofs/Promises.antt (the same demands on rows, without bytes); small_model, proofs/Promises.antt (C-23: all the small tables).
 use mathlib.Core.Path.{_≡_, refl, sym, ap, ap₂, subst, _∙_}
 use mathlib.Core.Logic.{_↔_}
 use mathlib.Core.Bool.{true, false, not, _&&_}
@@ -12,11 +13,11 @@ use lib.ListN.{length, take, drop, length-append, length-map, getElem?}
 use borrow.Author.Tests.{lt-ltb}
 use Rattle.lists.specs.Lists.{_∈_}
 use Rattle.lists.proofs.Members.{flat-same}
-use Rattle.fields.specs.Check.{checkSum, checkOf}
-use Rattle.fields.specs.CheckLaws.{checkSum-append, check-cut}
+use Rattle.fields_check.specs.Check.{checkSum, checkOf}
+use Rattle.fields_check.specs.CheckLaws.{checkSum-append, check-cut}
 use Rattle.lattice.specs.Sets.{sets, holds}
-use Rattle.walk.specs.Parsed.{got}
-use Rattle.walk.specs.Limits.{Bytes}
+use Rattle.fields_walk.specs.Parsed.{got}
+use Rattle.fields_walk.specs.Limits.{Bytes}
 use Rattle.cube.specs.declared.Total.{Total}
 use Rattle.cube.specs.Measure.{sums, Row, codesOf}
 use Rattle.cube.specs.Codes.{Coded, agree, set-of, plain}
@@ -33,29 +34,29 @@ use Rattle.rows.specs.Rows.{cut}
 use Rattle.rows.specs.Compare.{compared, named, has, FirstDifference, added, Longer}
 use Rattle.rows.proofs.Parting as parting
 use Rattle.rows.proofs.Longer as carrying
-use Rattle.engine.specs.Index.{key, Indexed}
-use Rattle.engine.specs.Runs.{runs, again}
-use Rattle.engine.proofs.Longer as grouping
-use Rattle.smalls.specs.Tally.{entries}
+use Rattle.rows_order.specs.Index.{key, Indexed}
+use Rattle.rows_runs.specs.Runs.{runs, again}
+use Rattle.rows_runs.proofs.Longer as grouping
+use Rattle.small_model.specs.Tally.{entries}
 use Rattle.table.specs.Layout.{Records, TableLimits}
 use Rattle.table.specs.Reading.{readTable, baseRows}
 use Rattle.table.specs.Rearranged.{Rearranged}
 use Rattle.table.proofs.Accepted.{table-forth}
 use Rattle.table.proofs.Reordering.{reordered, base-reordered}
 use Rattle.table.proofs.Rearranging.{rearranged-accepted}
-use Rattle.entries.specs.Layout.{Based, based, Held, section, cellBytes, required, archiveBytes}
-use Rattle.entries.specs.Reading.{readArchive, rowsIn}
-use Rattle.entries.proofs.Accepted.{required-rows, required-sizes, archive-back, archive-forth}
-use Rattle.entries.proofs.Limits.{limits-base}
-use Rattle.questions.specs.Questions.{asks}
-use Rattle.cuboids.specs.Cuboids.{cuboidBytes, expansionBytes}
-use Rattle.calls.specs.declared.Checked.the-variants as Check
-use Rattle.calls.specs.declared.Found.the-variants as Find
-use Rattle.calls.specs.declared.Written.{Written}
-use Rattle.calls.specs.Answers.{Outcome, bytes, within, answerOf, leftOf, Answered}
-use Rattle.calls.specs.Calls.{outcome, archived, builds, counted, checks, cuboidOf, listsCuboid, expanded, expands, entriesIn, told, looksUp}
-use Rattle.calls.proofs.Entries.{entries-required}
-use Rattle.build.proofs.Folded.{table-rows, folded-within}
+use Rattle.archive_entries.specs.Layout.{Based, based, Held, section, cellBytes, required, archiveBytes}
+use Rattle.archive_entries.specs.Reading.{readArchive, rowsIn}
+use Rattle.archive_entries.proofs.Accepted.{required-rows, required-sizes, archive-back, archive-forth}
+use Rattle.archive_entries.proofs.Limits.{limits-base}
+use Rattle.call_questions.specs.Questions.{asks}
+use Rattle.call_cuboids.specs.Cuboids.{cuboidBytes, expansionBytes}
+use Rattle.call_answers.specs.declared.Checked.the-variants as Check
+use Rattle.call_answers.specs.declared.Found.the-variants as Find
+use Rattle.call_answers.specs.declared.Written.{Written}
+use Rattle.call_answers.specs.Answers.{Outcome, bytes, within, answerOf, leftOf, Answered}
+use Rattle.call_answers.specs.Calls.{outcome, archived, builds, counted, checks, cuboidOf, listsCuboid, expanded, expands, entriesIn, told, looksUp}
+use Rattle.call_answers.proofs.Entries.{entries-required}
+use Rattle.call_build.proofs.Folded.{table-rows, folded-within}
 use Rattle.promises.specs.Alone.{Alone}
 
 told-none : (r : Answer Total) → told r ≡ Find.NoRecord → r ≡ no-record

@@ -12,8 +12,8 @@ use Rattle.lists.proofs.Tests.{cases, truth}
 use Rattle.lists.proofs.Members.{flat-length}
 use Rattle.lattice.specs.Sets.{sets}
 use Rattle.lattice.proofs.Sets.{sets-length}
-use Rattle.walk.specs.Parsed.{got}
-use Rattle.walk.specs.Limits.{Bytes}
+use Rattle.fields_walk.specs.Parsed.{got}
+use Rattle.fields_walk.specs.Limits.{Bytes}
 use Rattle.cube.specs.declared.Total.{Total}
 use Rattle.cube.specs.Measure.{Row, sums, codesOf}
 use Rattle.cube.specs.Codes.{plain}
@@ -21,32 +21,32 @@ use Rattle.cube.specs.Cube.{blank, existing, filled, cells}
 use Rattle.cube.specs.Condensed.{listed, common}
 use Rattle.cube.specs.Table.{Table as Rows}
 use Rattle.cube.proofs.Existing.{existing-few}
-use Rattle.ready.specs.Blank.{blanks}
-use Rattle.ready.proofs.Blank.{normals-count}
+use Rattle.rows_ready.specs.Blank.{blanks}
+use Rattle.rows_ready.proofs.Blank.{normals-count}
 use Rattle.cube.proofs.Folding.{folded-few}
 use Rattle.cube.proofs.Counting.{plain-counts}
 use Rattle.table.specs.Layout.{Records, TableLimits}
 use Rattle.table.specs.Reading.{readTable, baseRows}
 use Rattle.table.proofs.Accepted.{table-forth}
-use Rattle.entries.specs.Layout.{Held, required, archiveBytes, Limits}
-use Rattle.entries.specs.Reading.{readArchive, rowsIn}
-use Rattle.entries.proofs.Accepted.{archive-forth}
-use Rattle.entries.proofs.Limits.{limits-table, limits-base}
-use Rattle.entries.proofs.Lengths.{sets-listed, archive-length}
-use Rattle.cuboids.specs.Cuboids.{cuboidBytes, expansionBytes}
-use Rattle.cuboids.proofs.Lengths.{cuboid-length}
-use Rattle.calls.specs.Answers.{Outcome, stop as stopped, bytes, within}
-use Rattle.calls.specs.Calls.{builds, dims, listsCuboid, expands}
-use Rattle.build.proofs.Folded.{folded-within}
-use Rattle.keys.specs.Calls.{listsKeys}
-use Rattle.keys.proofs.Promises.{keys-listed, keys-short}
+use Rattle.archive_entries.specs.Layout.{Held, required, archiveBytes, Limits}
+use Rattle.archive_entries.specs.Reading.{readArchive, rowsIn}
+use Rattle.archive_entries.proofs.Accepted.{archive-forth}
+use Rattle.archive_entries.proofs.Limits.{limits-table, limits-base}
+use Rattle.archive_entries.proofs.Lengths.{sets-listed, archive-length}
+use Rattle.call_cuboids.specs.Cuboids.{cuboidBytes, expansionBytes}
+use Rattle.call_cuboids.proofs.Lengths.{cuboid-length}
+use Rattle.call_answers.specs.Answers.{Outcome, stop as stopped, bytes, within}
+use Rattle.call_answers.specs.Calls.{builds, dims, listsCuboid, expands}
+use Rattle.call_build.proofs.Folded.{folded-within}
+use Rattle.call_keys.specs.Calls.{listsKeys}
+use Rattle.call_keys.proofs.Promises.{keys-listed, keys-short}
 use Rattle.fee_list.specs.Listed.{feeBytes}
 use Rattle.fee_list.proofs.Listed.{fee-length}
-use Rattle.fee_call.specs.Fees.{countIn, weights, sharesFee}
-use Rattle.merge.specs.United.{united}
-use Rattle.merge.proofs.United.{united-few}
-use Rattle.join.specs.Joins.{joins}
-use Rattle.join.proofs.Joins.{joined-bytes, joined-limits}
+use Rattle.call_fee.specs.Fees.{countIn, weights, sharesFee}
+use Rattle.rows_merge.specs.United.{united}
+use Rattle.rows_merge.proofs.United.{united-few}
+use Rattle.call_join.specs.Joins.{joins}
+use Rattle.call_join.proofs.Joins.{joined-bytes, joined-limits}
 use Rattle.promises.specs.Room.{atLeast1, cuboidRoom, expansionRoom, archiveRoom, keysRoom, feeRoom}
 use Rattle.promises.proofs.Promises.{built}
 

@@ -4,7 +4,7 @@
 use mathlib.Core.Path.{_≡_}
 use mathlib.Core.Logic.{_↔_}
 use Prim.Native.Nat.{ℕ}
-use Rattle.calls.specs.Numbers.{stopNumber}
+use Rattle.call_answers.specs.Numbers.{stopNumber}
 
 abbrev pub Decodes : {A : Type 0} → (A → ℕ) → (ℕ → A) → A → Type 0
 Decodes number stop a = (k : ℕ) → (number a ≡ stopNumber k) ↔ (a ≡ stop k)

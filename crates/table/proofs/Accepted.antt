@@ -8,14 +8,14 @@ use lib.IntN.{ℤ}
 use lib.ListN.{length}
 use Rattle.lists.specs.Lists.{_∈_}
 use Rattle.fields.specs.Words.{wordBytes}
-use Rattle.walk.specs.Parsed.{Parsed, got, andThen, many}
-use Rattle.walk.specs.Fields.{field, header, headerBytes}
-use Rattle.walk.specs.Limits.{Bytes}
-use Rattle.walk.proofs.Steps.{then-assoc, then-made}
-use Rattle.walk.proofs.Codec.{Codec, codec-as, pair, codec-made, codec-pair, codec-count}
-use Rattle.walk.proofs.Many.{many-codec}
-use Rattle.walk.proofs.Codecs.{reading-codec, field-codec, codes-codec}
-use Rattle.walk.proofs.Ends.{header-codec, sizes-words, closing, closed, closed-back, closed-forth}
+use Rattle.fields_walk.specs.Parsed.{Parsed, got, andThen, many}
+use Rattle.fields_walk.specs.Fields.{field, header, headerBytes}
+use Rattle.fields_walk.specs.Limits.{Bytes}
+use Rattle.fields_walk.proofs.Steps.{then-assoc, then-made}
+use Rattle.fields_walk.proofs.Codec.{Codec, codec-as, pair, codec-made, codec-pair, codec-count}
+use Rattle.fields_walk.proofs.Many.{many-codec}
+use Rattle.fields_walk.proofs.Codecs.{reading-codec, field-codec, codes-codec}
+use Rattle.fields_walk.proofs.Ends.{header-codec, sizes-words, closing, closed, closed-back, closed-forth}
 use Rattle.cube.specs.declared.Total.{Total}
 use Rattle.cube.specs.Measure.{Row}
 use Rattle.table.specs.Layout.{FACT, Records, rowBytes, tableBytes, Reads, TableLimits}

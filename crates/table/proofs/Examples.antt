@@ -8,9 +8,9 @@ use Rattle.lists.specs.Lists.{_∈_}
 use Rattle.lists.proofs.Tests.{cases}
 use Rattle.fields.specs.Words.{wordAt, words, wordsBytes}
 use Rattle.fields.specs.Twos.{readingAt}
-use Rattle.fields.specs.Check.{checkOf}
-use Rattle.walk.specs.Parsed.{stop, got, many}
-use Rattle.walk.specs.Fields.{room, word, reading, field, codes, header, close}
+use Rattle.fields_check.specs.Check.{checkOf}
+use Rattle.fields_walk.specs.Parsed.{stop, got, many}
+use Rattle.fields_walk.specs.Fields.{room, word, reading, field, codes, header, close}
 use Rattle.cube.specs.declared.Total.{Total}
 use Rattle.cube.specs.Measure.{Row}
 use Rattle.table.specs.Layout.{Records, rowBytes, tableBytes}

@@ -7,9 +7,9 @@ use lib.ListN.{length, length-append}
 use Rattle.fields.specs.Words.{wordBytes, wordsBytes}
 use Rattle.fields.specs.WordsLaws.{length-wordsBytes}
 use Rattle.fields.specs.Twos.{readingBytes}
-use Rattle.fields.specs.Check.{checkOf}
-use Rattle.walk.specs.Fields.{headerBytes}
-use Rattle.walk.proofs.Lengths.{length-flat, length-header, length-below}
+use Rattle.fields_check.specs.Check.{checkOf}
+use Rattle.fields_walk.specs.Fields.{headerBytes}
+use Rattle.fields_walk.proofs.Lengths.{length-flat, length-header, length-below}
 use Rattle.cube.specs.declared.Total.{Total}
 use Rattle.cube.specs.Measure.{Row}
 use Rattle.table.specs.Layout.{FACT, Records, rowBytes, tableBytes, TableLimits}

@@ -9,10 +9,10 @@ use Rattle.lists.proofs.Parts.{front-same, back-same, joined-map, parts-same}
 use Rattle.lists.proofs.Permutations.{perm-back, perm-map}
 use Rattle.lists.proofs.Pigeonhole.{perm-length}
 use Rattle.fields.specs.Words.{wordBytes}
-use Rattle.fields.specs.Check.{checkOf}
-use Rattle.walk.specs.Parsed.{got}
-use Rattle.walk.specs.Limits.{Bytes}
-use Rattle.walk.proofs.Lengths.{length-below}
+use Rattle.fields_check.specs.Check.{checkOf}
+use Rattle.fields_walk.specs.Parsed.{got}
+use Rattle.fields_walk.specs.Limits.{Bytes}
+use Rattle.fields_walk.proofs.Lengths.{length-below}
 use Rattle.cube.specs.declared.Total.{Total}
 use Rattle.cube.specs.Measure.{Row}
 use Rattle.table.specs.Layout.{Records, rowBytes, tableBytes, TableLimits}

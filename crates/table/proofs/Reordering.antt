@@ -9,10 +9,10 @@ use Rattle.lists.proofs.Pigeonhole.{perm-length}
 use Rattle.fields.specs.Words.{words, wordBytes, wordsBytes}
 use Rattle.fields.specs.WordsLaws.{length-wordsBytes, words-append}
 use Rattle.fields.specs.Twos.{readingBytes}
-use Rattle.fields.specs.Check.{wordsSum, checkOf}
-use Rattle.fields.specs.CheckLaws.{sum-append}
-use Rattle.walk.specs.Fields.{headerBytes}
-use Rattle.walk.proofs.Lengths.{length-header}
+use Rattle.fields_check.specs.Check.{wordsSum, checkOf}
+use Rattle.fields_check.specs.CheckLaws.{sum-append}
+use Rattle.fields_walk.specs.Fields.{headerBytes}
+use Rattle.fields_walk.proofs.Lengths.{length-header}
 use Rattle.cube.specs.declared.Total.{Total}
 use Rattle.cube.specs.Measure.{Row, sums}
 use Rattle.cube.proofs.Sums.{sums-add}

@@ -8,15 +8,15 @@ use lib.ListN.{length, drop}
 use lib.Signed.{mag}
 use Rattle.lists.specs.Lists.{_∈_}
 use Rattle.fields.specs.Words.{wordAt, wordsAt}
-use Rattle.walk.specs.Parsed.{stop, got, many}
-use Rattle.walk.specs.Fields.{header}
-use Rattle.walk.specs.Limits.{Bytes}
-use Rattle.walk.proofs.Steps.{through-pair}
-use Rattle.walk.proofs.Found.{Finds, finds-to, finds-none, finds-then, finds-many, finds-field, finds-reading, finds-codes}
-use Rattle.walk.proofs.Places.{header-read}
-use Rattle.walk.proofs.Codec.{pair}
-use Rattle.walk.proofs.Ends.{closed-got}
-use Rattle.walk.proofs.Limits.{below-coded}
+use Rattle.fields_walk.specs.Parsed.{stop, got, many}
+use Rattle.fields_walk.specs.Fields.{header}
+use Rattle.fields_walk.specs.Limits.{Bytes}
+use Rattle.fields_walk.proofs.Steps.{through-pair}
+use Rattle.fields_walk.proofs.Found.{Finds, finds-to, finds-none, finds-then, finds-many, finds-field, finds-reading, finds-codes}
+use Rattle.fields_walk.proofs.Places.{header-read}
+use Rattle.fields_walk.proofs.Codec.{pair}
+use Rattle.fields_walk.proofs.Ends.{closed-got}
+use Rattle.fields_walk.proofs.Limits.{below-coded}
 use Rattle.cube.specs.declared.Total.{Total}
 use Rattle.cube.specs.Measure.{sums, Row}
 use Rattle.cube.specs.Bounds.{countOf, Summable}

@@ -14,9 +14,9 @@ use lib.Signed.{mag}
 use Rattle.lists.specs.Lists.{_∈_}
 use Rattle.fields.specs.Words.{wordBytes, wordsBytes}
 use Rattle.fields.specs.Twos.{readingBytes}
-use Rattle.fields.specs.Check.{checked}
-use Rattle.walk.specs.Fields.{headerBytes}
-use Rattle.walk.specs.Limits.{Sized, Below}
+use Rattle.fields_check.specs.Check.{checked}
+use Rattle.fields_walk.specs.Fields.{headerBytes}
+use Rattle.fields_walk.specs.Limits.{Sized, Below}
 use Rattle.cube.specs.declared.Total.{Total}
 use Rattle.cube.specs.Measure.{Row}
 

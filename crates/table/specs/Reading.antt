@@ -17,8 +17,8 @@ use lib.IntN.{ℤ}
 use lib.ListN.{length}
 use Rattle.fields.specs.Words.{wordsAt}
 use Rattle.fields.specs.Twos.{readingAt}
-use Rattle.walk.specs.Parsed.{Parsed, stop, got, andThen, many}
-use Rattle.walk.specs.Fields.{reading, field, codes, header, close}
+use Rattle.fields_walk.specs.Parsed.{Parsed, stop, got, andThen, many}
+use Rattle.fields_walk.specs.Fields.{reading, field, codes, header, close}
 use Rattle.cube.specs.declared.Total.{Total}
 use Rattle.cube.specs.Measure.{sums, Row}
 use Rattle.cube.specs.Bounds.{Summable}

@@ -1,11 +1,11 @@
 // A table read from its bytes: its stops, and its base rows.
-use walk::Walk;
+use fields_walk::Walk;
 ghost use mathlib.Core.Path.{_≡_};
 ghost use Prim.Native.Nat.{_+_, _*_, _≤_};
 ghost use lib.ListN.{length, drop};
 ghost use Rattle.fields.specs.Words.{wordsAt};
-ghost use Rattle.walk.specs.Parsed.{many};
-ghost use Rattle.walk.specs.Walked.{Walked};
+ghost use Rattle.fields_walk.specs.Parsed.{many};
+ghost use Rattle.fields_walk.specs.Walked.{Walked};
 ghost use Rattle.cube.specs.Measure.{sums as measure};
 ghost use Rattle.cube.specs.Bounds.{Summable};
 ghost use Rattle.cube.specs.Table.{Table, folded};
@@ -23,9 +23,9 @@ fn check_row(s: &[u8], sizes: &[u32], at: usize) -> Walk
     requires { ⌜ at ≤ length (now s) ⌝ }
     ensures { λ r. ⌜ Walked (now (s .entry)) (row (now (sizes .entry)) (drop at (now (s .entry)))) r ⌝ }
 {
-    match walk::check_codes(s, sizes, at) {
+    match fields_walk::check_codes(s, sizes, at) {
         Walk::Stop(n) => Walk::Stop(n),
-        Walk::At(next) => walk::check_room(s, 4, next),
+        Walk::At(next) => fields_walk::check_room(s, 4, next),
     }
 }
 
@@ -51,11 +51,11 @@ fn check_body(s: &[u8], sizes: &[u32], at: usize) -> Walk
     requires { ⌜ at ≤ length (now s) ⌝ }
     ensures { λ r. ⌜ Walked (now (s .entry)) (body (now (s .entry)) (now (sizes .entry)) (drop at (now (s .entry)))) r ⌝ }
 {
-    match walk::check_field(s, 0, 1025, 5, at) {
+    match fields_walk::check_field(s, 0, 1025, 5, at) {
         Walk::Stop(n) => Walk::Stop(n),
         Walk::At(next) => match check_rows(s, sizes, fields::word_at(s, at), next) {
             Walk::Stop(n) => Walk::Stop(n),
-            Walk::At(end) => walk::check_close(s, end),
+            Walk::At(end) => fields_walk::check_close(s, end),
         },
     }
 }
@@ -73,7 +73,7 @@ fn check_sized(s: &[u8], sizes: &mut [u32], at: usize) -> Walk
 fn check_table(s: &[u8]) -> Walk
     ensures { λ r. ⌜ Walked (now (s .entry)) (readTable (now (s .entry))) r ⌝ }
 {
-    match walk::check_header(s, b"FACT") {
+    match fields_walk::check_header(s, b"FACT") {
         Walk::Stop(n) => Walk::Stop(n),
         Walk::At(at) => {
             let dims = fields::word_at(s, 4) as usize;
@@ -129,7 +129,7 @@ fn fold_rows(
 {
     store_rows(s, dims, count, start, own, amounts, tallies);
     let full = lattice::sets_of(dims as u32) - 1;
-    engine::group_rows(
+    rows_runs::group_rows(
         own,
         amounts,
         tallies,

@@ -1,6 +1,6 @@
 -- `cube_archive::cube_check` meets its contract: the call's answer as a number.
 use mathlib.Core.Path.{sym, ap, _∙_}
-use Rattle.calls.specs.Numbers.{checkedNumber}
+use Rattle.call_answers.specs.Numbers.{checkedNumber}
 use borrow.Author.Needs.{needs}
 use Rattle.cube_archive.proofs.cube_check.Statement.{statement}
 use Rattle.cube_archive.proofs.cube_check.Tie as tie

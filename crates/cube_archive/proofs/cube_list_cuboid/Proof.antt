@@ -1,6 +1,6 @@
 -- `cube_archive::cube_list_cuboid` meets its contract: the call's answer as a number, and its output.
 use mathlib.Core.Path.{ap, _∙_}
-use Rattle.calls.specs.Numbers.{writtenNumber}
+use Rattle.call_answers.specs.Numbers.{writtenNumber}
 use borrow.Author.Needs.{needs}
 use Rattle.cube_archive.proofs.cube_list_cuboid.Statement.{statement}
 use Rattle.cube_archive.proofs.cube_list_cuboid.Tie as tie

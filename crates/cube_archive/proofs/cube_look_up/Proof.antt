@@ -3,7 +3,7 @@ use mathlib.Core.Path.{sym, ap, _∙_}
 use denote.Ref.{now}
 use mir.Syntax.{w64}
 use mir.Facts.{toZ-ofZ}
-use Rattle.calls.specs.Numbers.{foundNumber, sumLeft, countLeft, entryLeft}
+use Rattle.call_answers.specs.Numbers.{foundNumber, sumLeft, countLeft, entryLeft}
 use borrow.Author.Needs.{needs}
 use Rattle.cube_archive.proofs.cube_look_up.Statement.{statement}
 use Rattle.cube_archive.proofs.cube_look_up.Tie as tie

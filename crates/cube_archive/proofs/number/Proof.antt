@@ -1,6 +1,6 @@
 -- `cube_archive::number` meets its contract: a case each.
 use mathlib.Core.Path.{sym, ap}
-use Rattle.calls.specs.Numbers.{writtenNumber}
+use Rattle.call_answers.specs.Numbers.{writtenNumber}
 use borrow.Author.Needs.{needs}
 use Rattle.cube_archive.proofs.number.Statement.{statement}
 use Rattle.cube_archive.proofs.number.Tie as tie

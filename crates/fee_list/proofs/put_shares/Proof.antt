@@ -3,7 +3,7 @@ use mathlib.Core.Path.{ap}
 use native.Mathlib.Omega.{arith}
 use denote.Ref.{now}
 use lib.ListN.{length}
-use Rattle.fees.proofs.Proportions.{shares-length}
+use Rattle.fee_shares.proofs.Proportions.{shares-length}
 use Rattle.fee_list.proofs.Listed.{fee-is, fee-length}
 use borrow.Author.Needs.{needs}
 use Rattle.fee_list.proofs.put_shares.Statement.{statement}

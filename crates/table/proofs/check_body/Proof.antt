@@ -4,8 +4,8 @@ use Prim.Native.Nat.{ℕ}
 use borrow.Author.Needs.{needs}
 use denote.Ref.{now}
 use lib.ListN.{drop}
-use Rattle.walk.proofs.Steps.{seen, walked-as, walked-map, then-on, then-off}
-use Rattle.walk.proofs.Fields.{field-at}
+use Rattle.fields_walk.proofs.Steps.{seen, walked-as, walked-map, then-on, then-off}
+use Rattle.fields_walk.proofs.Fields.{field-at}
 use Rattle.table.specs.Reading.{body}
 use Rattle.table.proofs.Accepted.{rowed, counted}
 use Rattle.table.proofs.check_body.Statement.{statement}

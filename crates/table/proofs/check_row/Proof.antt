@@ -5,9 +5,9 @@ use mathlib.Core.List.{List}
 use Prim.Native.Nat.{ℕ}
 use lib.ListN.{drop}
 use Rattle.fields.specs.Twos.{readingAt}
-use Rattle.walk.specs.Parsed.{Parsed, got, andThen}
-use Rattle.walk.specs.Fields.{reading}
-use Rattle.walk.proofs.Steps.{seen, walked-as, walked-map, then-on, then-off}
+use Rattle.fields_walk.specs.Parsed.{Parsed, got, andThen}
+use Rattle.fields_walk.specs.Fields.{reading}
+use Rattle.fields_walk.proofs.Steps.{seen, walked-as, walked-map, then-on, then-off}
 use Rattle.cube.specs.declared.Total.{Total}
 use Rattle.cube.specs.Measure.{Row}
 use Rattle.table.specs.Reading.{row}

@@ -5,9 +5,9 @@ use native.Mathlib.Nat.{sub-zero}
 use borrow.Author.Needs.{needs}
 use denote.Ref.{now}
 use lib.ListN.{length, drop}
-use Rattle.walk.specs.Parsed.{many}
-use Rattle.walk.proofs.Steps.{seen}
-use Rattle.walk.proofs.Loops.{Follows, follows-self, many-on, many-off, many-done}
+use Rattle.fields_walk.specs.Parsed.{many}
+use Rattle.fields_walk.proofs.Steps.{seen}
+use Rattle.fields_walk.proofs.Loops.{Follows, follows-self, many-on, many-off, many-done}
 use Rattle.table.specs.Reading.{row}
 use Rattle.table.proofs.check_rows.Statement.{statement}
 use Rattle.table.proofs.check_rows.Tie as tie

@@ -5,7 +5,7 @@ use denote.Ref.{now}
 use mathlib.Core.List.{List}
 use Prim.Native.Nat.{ℕ}
 use lib.ListN.{drop}
-use Rattle.walk.proofs.Steps.{walked-as}
+use Rattle.fields_walk.proofs.Steps.{walked-as}
 use Rattle.table.specs.Reading.{body}
 use Rattle.table.proofs.check_sized.Statement.{statement}
 use Rattle.table.proofs.check_sized.Tie as tie

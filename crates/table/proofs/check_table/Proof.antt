@@ -7,8 +7,8 @@ use borrow.Author.Needs.{needs}
 use denote.Ref.{now}
 use lib.ListN.{drop, length-take}
 use Rattle.fields.specs.Words.{wordsAt}
-use Rattle.walk.proofs.Steps.{seen, walked-as, then-on, then-off}
-use Rattle.walk.proofs.Places.{Header, header-read}
+use Rattle.fields_walk.proofs.Steps.{seen, walked-as, then-on, then-off}
+use Rattle.fields_walk.proofs.Places.{Header, header-read}
 use Rattle.table.specs.Layout.{FACT}
 use Rattle.table.specs.Reading.{body, readTable}
 use Rattle.table.proofs.check_table.Statement.{statement}

@@ -7,8 +7,8 @@ use denote.Ref.{now}
 use lib.ListN.{length}
 use Rattle.lists.proofs.Members.{in-at}
 use Rattle.fields.specs.Words.{wordAt}
-use Rattle.walk.specs.Limits.{Bytes}
-use Rattle.walk.proofs.Steps.{seen}
+use Rattle.fields_walk.specs.Limits.{Bytes}
+use Rattle.fields_walk.proofs.Steps.{seen}
 use Rattle.table.specs.Reading.{Rowed}
 use Rattle.table.proofs.Rows.{Placed, placed, rowed-table, read-answer, stop-answer}
 use Rattle.table.proofs.read_table.Statement.{statement}

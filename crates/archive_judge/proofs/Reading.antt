@@ -1,0 +1,143 @@
+-- What the walk over an archive read, and what stop 12 makes of it.
+use mathlib.Core.Path.{_≡_, sym, ap, ap₂, subst, _∙_}
+use mathlib.Core.Bool.{true, false, false≢true}
+use mathlib.Core.List.{List, []}
+use Prim.Native.Nat.{ℕ, _+_, _*_, _≤_}
+use native.Mathlib.Nat.{mul-le-mul, mul-le-mul-right}
+use native.Mathlib.Omega.{arith}
+use lib.IntN.{ℤ}
+use lib.ListN.{length, take, drop, getD, length-drop}
+use lib.Pow.{pow-mono}
+use lib.Seq.{length-take-le}
+use Rattle.lists.specs.Order.{same}
+use Rattle.lists.proofs.Tests.{cases, truth}
+use Rattle.fields.specs.Words.{wordsAt}
+use Rattle.fields_walk.specs.Parsed.{Parsed, stop, got, andThen}
+use Rattle.fields_walk.specs.Limits.{Bytes}
+use Rattle.cube.specs.declared.Total.{Total}
+use Rattle.cube.specs.Measure.{Row}
+use Rattle.archive_entries.specs.Layout.{Held, archiveBytes}
+use Rattle.archive_entries.specs.Reading.{walkArchive, judged, readArchive, rowsIn, archiveAnswer, Stored}
+use Rattle.archive_entries.specs.declared.ArchiveRead.the-variants as Answer
+use Rattle.archive_entries.proofs.Fields.{Accepted, accepted}
+use Rattle.archive_entries.proofs.Walkable.{walk-forth}
+use Rattle.rows_ready.proofs.Ready.{rows-front}
+use Rattle.lattice.proofs.Sets.{full-lt}
+use Rattle.rows.specs.Rows.{cut, rowsOf}
+use Rattle.rows_order.specs.Index.{key}
+use Rattle.rows_slots.proofs.Entries.{slot-length}
+use Rattle.archive_normals.specs.Grouped.{Grouped}
+use Rattle.archive_judge.specs.Read.{Read}
+use Rattle.archive_judge.specs.Sharing.{Sharing, Shares}
+use Rattle.archive_judge.proofs.Judged.{sizes-at}
+
+stored-walked : (p : Parsed Held) {a : Held} {rest : List ℕ} (c : List ℕ) (t : List ℤ) (k : List ℕ) → p ≡ got a rest → Stored p c t k → rowsOf (length (a .sizes)) (length (a .bases)) c t k ≡ rowsIn a
+stored-walked p c t k e h = subst (λ (q : Parsed Held). Stored q c t k) e h
+
+module _ {s : List ℕ} {d n m : ℕ} (b : Bytes s) (e : archiveAnswer (walkArchive s) ≡ Answer.Entries d n m) where
+  abbrev walk : Accepted s d n
+  walk = accepted s d n e
+
+  walked : walkArchive s ≡ got (walk .held) []
+  walked = walk .walked ∙ ap (got (walk .held)) (walk-forth s (walk .held) (walk .rest) b (walk .walked) .2)
+
+  pub read-small : n * d ≤ 8192
+  read-small = let k = mul-le-mul (walk .few-bases) (walk .few) in omega (arith, k)
+
+  module _ (codes : List ℕ) (sums : List ℤ) (counts : List ℕ) (room : (8192 ≤ length codes) × (1024 ≤ length sums) × (1024 ≤ length counts))
+      (h : Stored (walkArchive s) codes sums counts) where
+    pub read-size : n * d ≤ length codes
+    read-size = omega (arith, read-small, room .0)
+
+    pub read-amounts : n ≤ length sums
+    read-amounts = omega (arith, walk .few-bases, room .1)
+
+    pub read-tallies : n ≤ length counts
+    read-tallies = omega (arith, walk .few-bases, room .2)
+
+    -- the rows that were read, in parts of the arrays that they fill
+    pub read-of : Read s d n (take (n * d) codes) (take n sums) (take n counts)
+    read-of = record {
+      held = walk .held;
+      walked = walked;
+      dims = walk .dims;
+      size = sym (length-take-le (n * d) codes read-size);
+      amounts = length-take-le n sums read-amounts;
+      tallies = length-take-le n counts read-tallies;
+      rows = rows-front d n codes sums counts
+          ∙ ap₂ (λ (i j : ℕ). rowsOf i j codes sums counts) (sym (walk .dims)) (sym (walk .count)) ∙ stored-walked (walkArchive s) codes sums counts (walk .walked) h;
+    }
+
+-- ---- stop 12
+
+module _ {s : List ℕ} {d n m : ℕ} {codes : List ℕ} {sums : List ℤ} {counts : List ℕ} (e : archiveAnswer (walkArchive s) ≡ Answer.Entries d n m) (r : Read s d n codes sums counts) where
+  due : same s (archiveBytes (wordsAt s d 8) (rowsOf d n codes sums counts)) ≡ same s (archiveBytes (r .held .sizes) (rowsIn (r .held)))
+  due =
+      ap₂ (λ (zs : List ℕ) (rows : List (Row Total)). same s (archiveBytes zs rows)) (sym (sizes-at s (r .walked) ∙ ap (λ (k : ℕ). wordsAt s k 8) (r .dims))) (r .rows)
+
+  pub passed-required : true ≡ same s (archiveBytes (wordsAt s d 8) (rowsOf d n codes sums counts)) → Answer.Entries d n m ≡ archiveAnswer (readArchive s)
+  unfolding readArchive
+  passed-required h = let g = sym (h ∙ due) in sym e ∙ rw (r .walked, g)
+
+  pub stopped-required : false ≡ same s (archiveBytes (wordsAt s d 8) (rowsOf d n codes sums counts)) → Answer.Stop 12 ≡ archiveAnswer (readArchive s)
+  unfolding readArchive
+  stopped-required h = let g = sym (h ∙ due) in rw (r .walked, g)
+
+pub stop-required : (s : List ℕ) {n : ℕ} → archiveAnswer (walkArchive s) ≡ Answer.Stop n → Answer.Stop n ≡ archiveAnswer (readArchive s)
+unfolding readArchive
+stop-required s {n} e = go (walkArchive s) e
+  where
+    go : (p : Parsed Held) → archiveAnswer p ≡ Answer.Stop n → Answer.Stop n ≡ archiveAnswer (andThen p (judged s))
+    go (stop k) f = sym f
+    go (got a rest) f = let z : false ≡ true = cc in absurd (false≢true z)
+
+-- the rows stay stored
+pub stored-required : (s c : List ℕ) (t : List ℤ) (k : List ℕ) → Stored (walkArchive s) c t k → Stored (readArchive s) c t k
+unfolding readArchive
+stored-required s c t k h = go (walkArchive s) h
+  where
+    go : (p : Parsed Held) → Stored p c t k → Stored (andThen p (judged s)) c t k
+    go (stop n) f = tt
+    go (got a rest) f = cases (truth (same s (archiveBytes (a .sizes) (rowsIn a)))) (λ e. rw e f) (λ e. rw e tt)
+
+-- ---- the rows that share a cell
+
+-- as slots tell it
+pub sharing-held : {d n : ℕ} {codes : List ℕ} {sums : List ℤ} {counts store used : List ℕ} → Grouped d n codes sums counts store used → Sharing d n codes used
+sharing-held {d} {n} {codes} {store = store} {used = used} a = record {
+  sets = a .sets;
+  rows = λ s f.
+      let g = a .slots .all s f in
+      let k = a .ready .few in
+      let below : s + 1 ≤ 256 = omega (arith, f, full-lt d, pow-mono {i = d} {j = 8} (a .ready .dims)) in
+      let m : (s + 1) * 1024 ≤ 256 * 1024 = mul-le-mul-right 1024 below in
+      let small : s * 1024 + 1024 ≤ 262144 = omega (arith, m) in
+      sym (length-take-le (getD used s 0) (drop (s * 1024) store) (omega (arith, g .few, k, small, a .room, length-drop (s * 1024) store)))
+      ∙ ap length (g .slot) ∙ slot-length (key s (cut d n codes)) n 2 k;
+}
+
+-- as an answer tells the archive's numbers
+pub shares-told : (p : Parsed Held) {d n m : ℕ} (codes used : List ℕ) → archiveAnswer p ≡ Answer.Entries d n m → Sharing d n (take (n * d) codes) used → Shares p codes used
+shares-told (stop k) codes used e h = tt
+shares-told (got a rest) {d} {n} codes used e h =
+    let f : length (a .sizes) ≡ d = cc e in
+    let g : length (a .bases) ≡ n = cc e in
+    rw (f, g) h
+
+-- they stay when the archive is judged
+pub shares-required : (s codes used : List ℕ) → Shares (walkArchive s) codes used → Shares (readArchive s) codes used
+unfolding readArchive
+shares-required s codes used h = go (walkArchive s) h
+  where
+    go : (p : Parsed Held) → Shares p codes used → Shares (andThen p (judged s)) codes used
+    go (stop n) f = tt
+    go (got a rest) f = cases (truth (same s (archiveBytes (a .sizes) (rowsIn a)))) (λ e. rw e f) (λ e. rw e tt)
+
+-- nothing is asked where the walk stopped
+pub shares-stop : (s : List ℕ) {n : ℕ} (codes used : List ℕ) → archiveAnswer (walkArchive s) ≡ Answer.Stop n → Shares (readArchive s) codes used
+unfolding readArchive
+shares-stop s {n} codes used e = go (walkArchive s) e
+  where
+    go : (p : Parsed Held) → archiveAnswer p ≡ Answer.Stop n → Shares (andThen p (judged s)) codes used
+    go (stop k) f = tt
+    go (got a rest) f = let z : false ≡ true = cc in absurd (false≢true z)

@@ -1,0 +1,91 @@
+-- The normal entries are those of the sets one after the other, and how long they are.
+use mathlib.Core.Path.{_≡_, refl, sym, ap, _∙_}
+use mathlib.Core.List.{List, [], _∷_, _++_, map, flatMap, map-append, append-nil}
+use Prim.Native.Nat.{ℕ, zero, suc, _+_, _*_, _≤_}
+use native.Mathlib.Omega.{arith}
+use lib.IntN.{pos}
+use lib.ListN.{length, take, replicate, length-replicate}
+use lib.Seq.{take-all}
+use Rattle.lists.proofs.Members.{flat-append}
+use Rattle.lattice.specs.Sets.{full}
+use Rattle.lattice.proofs.Turns.{from-full}
+use Rattle.cube.specs.declared.Total.{Total}
+use Rattle.cube.specs.Measure.{nothing, Row, sums as measure, codesOf}
+use Rattle.cube.specs.Codes.{ALL, plain}
+use Rattle.cube.specs.Cube.{blank, filled}
+use Rattle.cube.specs.Condensed.{proper, shared, common, normals}
+use Rattle.rows.specs.Rows.{rowsOf}
+use Rattle.archive_entries.specs.Layout.{cellBytes}
+use Rattle.archive_entries.proofs.Lengths.{cell-length}
+use Rattle.rows_ready.specs.Blank.{blanks, blankRows}
+use Rattle.rows_ready.proofs.Blank.{blank-rows}
+use Rattle.rows_condense.specs.Shared.{sharedRows, normalRows}
+use Rattle.archive_cells.proofs.Turns.{turns}
+use Rattle.archive_normals.specs.Normals.{sharedBytes, commonBytes, blankBytes, normalBytes}
+
+-- ---- set by set
+
+sets-flat : (d : ℕ) (rows : List (Row Total)) (ss : List ℕ)
+    → flatMap cellBytes (map (filled (plain d) measure rows) (flatMap (shared (plain d) (codesOf rows)) ss)) ≡ flatMap (sharedBytes d rows) ss
+unfolding flatMap sharedBytes sharedRows
+sets-flat d rows [] = refl
+sets-flat d rows (s ∷ ss) =
+    let cells = shared (plain d) (codesOf rows) in
+    let fill = filled (plain d) measure rows in
+    ap (flatMap cellBytes) (map-append fill (cells s) (flatMap cells ss))
+    ∙ flat-append cellBytes (map fill (cells s)) (map fill (flatMap cells ss))
+    ∙ ap (λ (k : List ℕ). flatMap cellBytes (map fill (cells s)) ++ k) (sets-flat d rows ss)
+
+pub turns-start : (d : ℕ) (rows : List (Row Total)) → d ≤ 8 → turns (sharedBytes d rows) (full d) 0 ≡ commonBytes d rows
+unfolding turns commonBytes common proper
+turns-start d rows h = ap (flatMap (sharedBytes d rows)) (from-full d h) ∙ sym (sets-flat d rows (proper (plain d)))
+
+-- the normal entries: that of an empty table, then those of the sets
+pub normal-parts : (d : ℕ) (rows : List (Row Total)) → blankBytes d (length rows) ++ commonBytes d rows ≡ normalBytes d rows
+unfolding blankBytes commonBytes normalBytes normalRows normals
+normal-parts d rows =
+    let fill = filled (plain d) measure rows in
+    ap (λ (l : List (Row Total)). flatMap cellBytes l ++ flatMap cellBytes (map fill (common (plain d) (codesOf rows)))) (sym (blank-rows d rows))
+    ∙ sym (flat-append cellBytes (map fill (blank (plain d) (codesOf rows))) (map fill (common (plain d) (codesOf rows))))
+    ∙ ap (flatMap cellBytes) (sym (map-append fill (blank (plain d) (codesOf rows)) (common (plain d) (codesOf rows))))
+
+-- ---- the entry of an empty table
+
+abbrev alls : List ℕ
+alls = ALL ∷ ALL ∷ ALL ∷ ALL ∷ ALL ∷ ALL ∷ ALL ∷ ALL ∷ []
+
+-- one cell of at most 8 codes, or none
+pub blanks-size : (d n : ℕ) → d ≤ 8 → (blanks n ≤ 1) × (blanks n * d ≤ 8)
+blanks-size d zero h = omega arith
+blanks-size d (suc n) h = omega arith
+
+take-replicate : (d n : ℕ) → d ≤ n → take d (replicate n ALL) ≡ replicate d ALL
+take-replicate zero n h = refl
+take-replicate (suc d) zero h = absurd (omega arith)
+take-replicate (suc d) (suc n) h = ap (λ (l : List ℕ). ALL ∷ l) (take-replicate d n (omega arith))
+
+take-alls : (d : ℕ) → d ≤ 8 → take d alls ≡ replicate d ALL
+take-alls d h = take-replicate d 8 h
+
+pub blank-stored : (d n : ℕ) → d ≤ 8 → rowsOf d (blanks n) (take (blanks n * d) alls) (take (blanks n) (pos 0 ∷ [])) (take (blanks n) (0 ∷ [])) ≡ blankRows d n
+unfolding rowsOf
+blank-stored d zero h =
+    let e : 1 * d ≡ d = omega arith in
+    ap (λ (x : List ℕ). record { codes = x; total = nothing } ∷ []) (rw e (ap (take d) (take-alls d h) ∙ take-all d (replicate d ALL) (omega (arith, length-replicate d ALL))) ∙ refl)
+blank-stored d (suc n) h = refl
+
+pub blank-long : (d n : ℕ) → length (blankBytes d n) ≡ blanks n * (4 * d + 12)
+unfolding blankBytes flatMap
+blank-long d zero = simp append-nil (omega (arith, cell-length d (record { codes = replicate d ALL; total = nothing }) (length-replicate d ALL)))
+blank-long d (suc n) = omega arith
+
+-- where there are rows it has none
+pub blank-none : (d n : ℕ) → (n ≡ 0 → ⊥) → blankBytes d n ≡ []
+unfolding blankBytes flatMap
+blank-none d zero h = absurd (h refl)
+blank-none d (suc n) h = refl
+
+pub blank-one : (d n : ℕ) → d ≤ 8 → n ≡ 0 → cellBytes (record { codes = take d alls; total = nothing }) ≡ blankBytes d n
+unfolding blankBytes flatMap
+blank-one d zero h e = ap (λ (x : List ℕ). cellBytes (record { codes = x; total = nothing })) (take-alls d h) ∙ sym (append-nil (cellBytes (record { codes = replicate d ALL; total = nothing })))
+blank-one d (suc n) h e = absurd (omega (arith, e))

@@ -1,0 +1,85 @@
+-- An accepted archive: the base rows that its arrays hold are ready, and its bytes and entries are those that they require.
+use mathlib.Core.Path.{_≡_, refl, sym, ap, subst, _∙_}
+use mathlib.Core.Bool.{true, false, false≢true}
+use mathlib.Core.List.{List, []}
+use Prim.Native.Nat.{ℕ, _*_, _≤_}
+use native.Mathlib.Nat.{mul-le-mul}
+use native.Mathlib.Omega.{arith}
+use lib.IntN.{ℤ}
+use lib.ListN.{length, take}
+use Rattle.fields_walk.specs.Parsed.{Parsed, stop, got}
+use Rattle.fields_walk.specs.Limits.{Bytes}
+use Rattle.rows.specs.Rows.{rowsOf}
+use Rattle.archive_entries.specs.Layout.{Held, required, archiveBytes}
+use Rattle.archive_entries.specs.Reading.{walkArchive, readArchive, rowsIn, archiveAnswer, Stored}
+use Rattle.archive_entries.specs.declared.ArchiveRead.the-variants as Read
+use Rattle.archive_entries.proofs.Accepted.{read-forth, archive-forth}
+use Rattle.fields.specs.Words.{wordsAt}
+use Rattle.rows_ready.specs.Ready.{Ready}
+use Rattle.archive_normals.specs.Grouped.{Grouped}
+use Rattle.archive_judge.proofs.Judged.{sizes-at, read-ready}
+use Rattle.archive_judge.proofs.Reading.{read-of}
+use Rattle.call_ask.specs.Accepts.{Accepts}
+
+pub record Opened (s : List ℕ) (d n m : ℕ) (codes : List ℕ) (sums : List ℤ) (counts : List ℕ) : Type 0 where
+  pub are : Bytes s
+  pub held : Held
+  pub read : readArchive s ≡ got held []
+  pub sizes : held .sizes ≡ wordsAt s d 8
+  pub dims : length (held .sizes) ≡ d
+  pub bases : length (held .bases) ≡ n
+  pub cells : length (held .cells) ≡ m
+  pub ready : Ready d n codes sums counts
+  pub rows : rowsOf d n codes sums counts ≡ rowsIn held
+
+-- the fronts of the arrays
+abbrev pub OpenedIn : (s : List ℕ) (d n m : ℕ) (codes : List ℕ) (sums : List ℤ) (counts : List ℕ) → Type 0
+OpenedIn s d n m codes sums counts = Opened s d n m (take (n * d) codes) (take n sums) (take n counts)
+
+told : (p : Parsed Held) {d n m : ℕ} → archiveAnswer p ≡ Read.Entries d n m
+    → (a : Held) × (rest : List ℕ) × (p ≡ got a rest) × (length (a .sizes) ≡ d) × (length (a .bases) ≡ n) × (length (a .cells) ≡ m)
+told (stop k) e = let z : false ≡ true = cc in absurd (false≢true z)
+told (got a rest) e = (a, rest, refl, cc e, cc e, cc e)
+
+-- the slots of the rows that the walk told of are those of the rows that were read
+pub grouped-read : (s : List ℕ) {d n m i j k : ℕ} (codes : List ℕ) (sums : List ℤ) (counts : List ℕ) {store used : List ℕ} → archiveAnswer (walkArchive s) ≡ Read.Entries d n m → archiveAnswer (readArchive s) ≡ Read.Entries i j k
+    → Grouped d n (take (n * d) codes) (take n sums) (take n counts) store used → Grouped i j (take (j * i) codes) (take j sums) (take j counts) store used
+grouped-read s {d} {n} {m} {i} {j} {k} codes sums counts e f g =
+    let t = told (readArchive s) f in
+    let h : Read.Entries d n m ≡ Read.Entries i j k = sym e ∙ ap archiveAnswer (read-forth s (t .2) .0 ∙ sym (t .2)) ∙ f in
+    let dims : d ≡ i = cc h in
+    let rows : n ≡ j = cc h in
+    rw (← dims, ← rows) g
+
+pub opened : {s codes : List ℕ} {sums : List ℤ} {counts : List ℕ} {d n m : ℕ} → Bytes s → Accepts s codes sums counts d n m → OpenedIn s d n m codes sums counts
+opened {s} {codes} {sums} {counts} {d} {n} {m} b x =
+    let t = told (readArchive s) (x .told) in
+    let a = t .0 in
+    let walked = read-forth s (t .2) .0 in
+    let same-read : readArchive s ≡ walkArchive s = t .2 ∙ sym walked in
+    let stored : Stored (walkArchive s) codes sums counts = subst (λ (p : Parsed Held). Stored p codes sums counts) same-read (x .stored) in
+    let r = read-of b (ap archiveAnswer (sym same-read) ∙ x .told) codes sums counts (x .room) stored in
+    let e : got a (t .1) ≡ got (r .held) [] = sym walked ∙ r .walked in
+    let same-held : r .held ≡ a = cc e in
+    let done : t .1 ≡ [] = cc e in
+    record {
+      are = b;
+      held = a;
+      read = t .2 ∙ ap (got a) done;
+      sizes = sizes-at s (walked ∙ ap (got a) done) ∙ ap (λ (k : ℕ). wordsAt s k 8) (t .3);
+      dims = t .3;
+      bases = t .4;
+      cells = t .5;
+      ready = read-ready b r;
+      rows = r .rows ∙ ap rowsIn same-held;
+    }
+
+module _ {s : List ℕ} {d n m : ℕ} {codes : List ℕ} {sums : List ℤ} {counts : List ℕ} (o : Opened s d n m codes sums counts) where
+  pub opened-small : n * d ≤ 8192
+  opened-small = let k = mul-le-mul (o .ready .few) (o .ready .dims) in omega (arith, k)
+
+  pub opened-bytes : s ≡ archiveBytes (o .held .sizes) (rowsOf d n codes sums counts)
+  opened-bytes = archive-forth s (o .held) [] (o .are) (o .read) .1 ∙ ap (archiveBytes (o .held .sizes)) (sym (o .rows))
+
+  pub opened-held : o .held ≡ required (o .held .sizes) (rowsOf d n codes sums counts)
+  opened-held = archive-forth s (o .held) [] (o .are) (o .read) .2 ∙ ap (required (o .held .sizes)) (sym (o .rows))

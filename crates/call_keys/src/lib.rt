@@ -1,0 +1,274 @@
+// Which codes fix which, from an archive: the smallest keys, and whether a set fixes a dimension.
+// Both calls answer for whatever bytes they are lent. The one that writes looks at the output last, and leaves every byte of it alone when it stops.
+use archive_entries::ArchiveRead;
+use call_answers::Written;
+ghost use mathlib.Core.Path.{_≡_};
+ghost use Prim.Native.Nat.{_*_, _^_, _≤_, _<_};
+ghost use lib.ListN.{length, take};
+ghost use Rattle.lists.specs.Lists.{some};
+ghost use Rattle.lattice.specs.Sets.{holds};
+ghost use Rattle.cube.specs.Codes.{agree, plain};
+ghost use Rattle.cube.specs.Keys.{fixes as fixing};
+ghost use Rattle.rows_order.specs.Index.{Valid};
+ghost use Rattle.archive_entries.specs.Reading.{readArchive};
+ghost use Rattle.archive_judge.specs.Sharing.{Shares};
+ghost use Rattle.rows.specs.Rows.{cut, rowAt};
+ghost use Rattle.archive_cells.specs.ListBytes.{listBytes};
+ghost use Rattle.call_answers.specs.Answers.{bytes, Answered};
+ghost use Rattle.call_ask.specs.Accepts.{Accepts};
+ghost use Rattle.call_keys.specs.Laid.{Laid, follows};
+ghost use Rattle.call_keys.specs.Bare.{bare, leastBare};
+ghost use Rattle.call_keys.specs.Calls.{listsKeys, tellsFixed};
+
+// What the question whether a set fixes a dimension answers: yes, no, or a stop's number.
+pub enum Fixed {
+    Yes,
+    No,
+    Stop(u32),
+}
+
+// Whether two rows agree on a set.
+fn agrees(mine: &[u32], other: &[u32], set: u32) -> bool
+    requires { ⌜ length (now mine) ≡ length (now other) ⌝ }
+    ensures { λ r. ⌜ r ≡ agree set (now (mine .entry)) (now (other .entry)) ⌝ }
+{
+    match rows::compare(mine, other, set) {
+        rows::Order::Before(_) => false,
+        rows::Order::Equal => true,
+        rows::Order::After(_) => false,
+    }
+}
+
+// Whether rows i and j agree on a set of `fixed` dimensions if they agree on a set.
+fn pair_fixes(
+    codes: &[u32],
+    rows: usize,
+    dims: usize,
+    set: u32,
+    fixed: u32,
+    i: usize,
+    j: usize,
+) -> bool
+    requires { ⌜ (rows * dims ≡ length (now codes)) × (i < rows) × (j < rows) ⌝ }
+    ensures { λ r. ⌜ r ≡ follows set fixed (rowAt (cut dims rows (now (codes .entry))) i) (rowAt (cut dims rows (now (codes .entry))) j) ⌝ }
+{
+    let mine = rows::row_of(codes, rows, dims, i);
+    let other = rows::row_of(codes, rows, dims, j);
+    if !agrees(mine, other, set) {
+        return true;
+    }
+    agrees(mine, other, fixed)
+}
+
+// Whether rows that agree on a set agree on a set of `fixed` dimensions. In the order of the set, which the index takes, rows that agree on it stand side by side,
+// so neighbours tell.
+fn neighbours_fix(
+    codes: &[u32],
+    rows: usize,
+    dims: usize,
+    set: u32,
+    fixed: u32,
+    index: &mut [u32],
+) -> bool
+    requires { ⌜ (rows * dims ≡ length (now codes)) × (length (now index) ≡ rows) × (rows ≤ 1024) × Valid dims (cut dims rows (now codes)) ⌝ }
+    ensures { λ r. ⌜ r ≡ fixing (plain dims) (cut dims rows (now (codes .entry))) set fixed ⌝ }
+{
+    rows_order::order_rows(codes, rows, dims, set, index);
+    for k in 1..rows {
+        let i = index[k - 1] as usize;
+        let j = index[k] as usize;
+        if !pair_fixes(codes, rows, dims, set, fixed, i, j) {
+            return false;
+        }
+    }
+    true
+}
+
+// Whether rows that agree on a set agree on a set of `fixed` dimensions.
+fn rows_fix(codes: &[u32], rows: usize, dims: usize, set: u32, fixed: u32) -> bool
+    requires { ⌜ Laid dims rows (now codes) ⌝ }
+    ensures { λ r. ⌜ r ≡ fixing (plain dims) (cut dims rows (now (codes .entry))) set fixed ⌝ }
+{
+    let mut index = [0u32; 1024];
+    neighbours_fix(codes, rows, dims, set, fixed, &mut index[..rows])
+}
+
+// Whether no cell of a set is shared.
+fn is_bare(dims: usize, used: &[usize], set: u32) -> bool
+    requires { ⌜ (dims ≤ 8) × (256 ≤ length (now used)) × (set < 2 ^ dims) ⌝ }
+    ensures { λ r. ⌜ r ≡ bare dims (now (used .entry)) set ⌝ }
+{
+    if set == lattice::sets_of(dims as u32) - 1 {
+        return true;
+    }
+    used[set as usize] == 0
+}
+
+// Whether a set holds one that is listed.
+fn holds_listed(set: u32, list: &[u32]) -> bool
+    ensures { λ r. ⌜ r ≡ some (holds 32 set) (now (list .entry)) ⌝ }
+{
+    for i in 0..list.len() {
+        if lattice::holds_set(set, list[i]) {
+            return true;
+        }
+    }
+    false
+}
+
+// The smallest sets of which no cell is shared, over the front of a lent list. Returns how many there are.
+fn list_bare(dims: usize, used: &[usize], list: &mut [u32]) -> usize
+    requires { ⌜ (dims ≤ 8) × (256 ≤ length (now used)) × (length (leastBare dims (now used)) ≤ 70) × (70 ≤ length (now list)) ⌝ }
+    ensures { λ r. ⌜ (take r (now (list .exit)) ≡ leastBare dims (now (used .entry))) × (r ≤ 70) ⌝ }
+{
+    let all = lattice::sets_of(dims as u32);
+    let mut n = 0;
+    for k in 0..256 {
+        let set = lattice::set_at(k);
+        if all <= set {
+            continue;
+        }
+        if holds_listed(set, &list[..n]) {
+            continue;
+        }
+        if !is_bare(dims, used, set) {
+            continue;
+        }
+        list[n] = set;
+        n += 1;
+    }
+    n
+}
+
+// Writes a list where there is room for it.
+fn fit_list(out: &mut [u8], list: &[u32]) -> Written
+    requires { ⌜ length (now list) ≤ 70 ⌝ }
+    ensures { λ r. ⌜ Answered (bytes (listBytes (now (list .entry)))) (now (out .entry)) (now (out .exit)) r ⌝ }
+{
+    if out.len() < 4 + 4 * list.len() {
+        return Written::Stop(15);
+    }
+    Written::Length(archive_cells::put_list(out, list))
+}
+
+// Lists the smallest sets of which no cell is shared.
+fn fit_bare(out: &mut [u8], dims: usize, used: &[usize]) -> Written
+    requires { ⌜ (dims ≤ 8) × (256 ≤ length (now used)) × (length (leastBare dims (now used)) ≤ 70) ⌝ }
+    ensures { λ r. ⌜ Answered (bytes (listBytes (leastBare dims (now (used .entry))))) (now (out .entry)) (now (out .exit)) r ⌝ }
+{
+    let mut list = [0u32; 70];
+    let n = list_bare(dims, used, &mut list);
+    fit_list(out, &list[..n])
+}
+
+// Lists the smallest keys of an archive that was accepted: the smallest sets of which its base rows share no cell.
+fn keys_read(
+    s: &[u8],
+    codes: &[u32],
+    sums: &[i64],
+    counts: &[u32],
+    dims: u32,
+    bases: u32,
+    cells: u32,
+    used: &[usize],
+    out: &mut [u8],
+) -> Written
+    requires { ⌜ Accepts (now s) (now codes) (now sums) (now counts) dims bases cells × Shares (readArchive (now s)) (now codes) (now used) ⌝ }
+    ensures { λ r. ⌜ Answered (listsKeys (now (s .entry))) (now (out .entry)) (now (out .exit)) r ⌝ }
+{
+    fit_bare(out, dims as usize, used)
+}
+
+// Reads an archive into the arrays that are lent, and lists its smallest keys.
+fn keys_in(
+    s: &[u8],
+    codes: &mut [u32; 8192],
+    sums: &mut [i64; 1024],
+    counts: &mut [u32; 1024],
+    used: &mut [usize; 256],
+    out: &mut [u8],
+) -> Written
+    ensures { λ r. ⌜ Answered (listsKeys (now (s .entry))) (now (out .entry)) (now (out .exit)) r ⌝ }
+{
+    match archive_judge::read_sharing(s, codes, sums, counts, used) {
+        ArchiveRead::Stop(n) => Written::Stop(n),
+        ArchiveRead::Entries { dims, bases, cells } => {
+            keys_read(s, codes, sums, counts, dims, bases, cells, used, out)
+        }
+    }
+}
+
+// Lists the smallest keys of an archive: how many there are, then their set numbers in lattice order.
+pub fn smallest_keys(archive: &[u8], out: &mut [u8]) -> Written
+    ensures { λ r. ⌜ Answered (listsKeys (now (archive .entry))) (now (out .entry)) (now (out .exit)) r ⌝ }
+{
+    let mut codes = [0u32; 8192];
+    let mut sums = [0i64; 1024];
+    let mut counts = [0u32; 1024];
+    let mut used = [0usize; 256];
+    keys_in(archive, &mut codes, &mut sums, &mut counts, &mut used, out)
+}
+
+// Tells whether a set fixes a dimension in an archive that was accepted.
+fn fixes_read(
+    s: &[u8],
+    codes: &[u32],
+    sums: &[i64],
+    counts: &[u32],
+    dims: u32,
+    bases: u32,
+    cells: u32,
+    set: u32,
+    dimension: u32,
+) -> Fixed
+    requires { ⌜ Accepts (now s) (now codes) (now sums) (now counts) dims bases cells ⌝ }
+    ensures { λ r. ⌜ r ≡ tellsFixed (now (s .entry)) set dimension ⌝ }
+{
+    if lattice::sets_of(dims) <= set {
+        return Fixed::Stop(14);
+    }
+    if dimension == 0 {
+        return Fixed::Stop(16);
+    }
+    if dims < dimension {
+        return Fixed::Stop(16);
+    }
+    let d = dims as usize;
+    let n = bases as usize;
+    let size = n * d;
+    let fixed = lattice::sets_of(dimension - 1);
+    if rows_fix(&codes[..size], n, d, set, fixed) {
+        Fixed::Yes
+    } else {
+        Fixed::No
+    }
+}
+
+// Reads an archive into the arrays that are lent, and tells whether a set fixes a dimension.
+fn fixes_in(
+    s: &[u8],
+    codes: &mut [u32; 8192],
+    sums: &mut [i64; 1024],
+    counts: &mut [u32; 1024],
+    set: u32,
+    dimension: u32,
+) -> Fixed
+    ensures { λ r. ⌜ r ≡ tellsFixed (now (s .entry)) set dimension ⌝ }
+{
+    match archive_judge::read_required(s, codes, sums, counts) {
+        ArchiveRead::Stop(n) => Fixed::Stop(n),
+        ArchiveRead::Entries { dims, bases, cells } => {
+            fixes_read(s, codes, sums, counts, dims, bases, cells, set, dimension)
+        }
+    }
+}
+
+// Whether a set fixes a dimension, counted from 1: base rows that agree on the set agree on the dimension too.
+pub fn fixes(archive: &[u8], set: u32, dimension: u32) -> Fixed
+    ensures { λ r. ⌜ r ≡ tellsFixed (now (archive .entry)) set dimension ⌝ }
+{
+    let mut codes = [0u32; 8192];
+    let mut sums = [0i64; 1024];
+    let mut counts = [0u32; 1024];
+    fixes_in(archive, &mut codes, &mut sums, &mut counts, set, dimension)
+}

@@ -1,0 +1,184 @@
+// Questions to an archive: whether one fits, and the entry that stands for its cell.
+ghost use mathlib.Core.Path.{_≡_};
+ghost use Prim.Native.Nat.{_+_, _*_, _≤_};
+ghost use lib.ListN.{length};
+ghost use Rattle.lists.specs.Order.{earlier};
+ghost use Rattle.lists.specs.Search.{Between};
+ghost use Rattle.fields.specs.Words.{wordsAt};
+ghost use Rattle.cube.specs.Measure.{sums as measure};
+ghost use Rattle.cube.specs.Codes.{falls, set-of, keys, plain};
+ghost use Rattle.cube.specs.Condensed.{ours, lookup};
+ghost use Rattle.rows.specs.Rows.{cut, rowsOf};
+ghost use Rattle.rows_ready.specs.Ready.{Ready};
+ghost use Rattle.call_questions.specs.Questions.{asks, looked, rowless, First, entryBefore, NormalsAt};
+
+// What a question is answered by: no entry, or the sum and the count that an entry carries, and its number.
+pub enum Look {
+    NoRecord,
+    Cell { sum: i64, count: u32, entry: u32 },
+}
+
+// Whether a question has a code below its size, or ALL, for each dimension; the sizes stand in the archive.
+pub fn fits(s: &[u8], dims: usize, question: &[u32]) -> bool
+    requires { ⌜ 8 + 4 * dims ≤ length (now s) ⌝ }
+    ensures { λ r. ⌜ r ≡ asks (wordsAt (now (s .entry)) dims 8) (now (question .entry)) ⌝ }
+{
+    if question.len() != dims {
+        return false;
+    }
+    for d in 0..dims {
+        let code = question[d];
+        let size = fields::word_at(s, 8 + 4 * d);
+        if code >= size && code != 65535 {
+            return false;
+        }
+    }
+    true
+}
+
+// Whether a row falls in a cell.
+fn falls_in(cell: &[u32], mine: &[u32]) -> bool
+    requires { ⌜ length (now cell) ≡ length (now mine) ⌝ }
+    ensures { λ r. ⌜ r ≡ falls (now (cell .entry)) (now (mine .entry)) ⌝ }
+{
+    for d in 0..cell.len() {
+        let code = cell[d];
+        if code != 65535 && code != mine[d] {
+            return false;
+        }
+    }
+    true
+}
+
+// The set of a cell: the dimensions that are not ALL.
+fn set_of(cell: &[u32]) -> u32
+    requires { ⌜ length (now cell) ≤ 8 ⌝ }
+    ensures { λ r. ⌜ r ≡ set-of (now (cell .entry)) ⌝ }
+{
+    let mut set = 0;
+    let mut d = cell.len();
+    while d > 0 {
+        d -= 1;
+        set = 2 * set;
+        if cell[d] != 65535 {
+            set += 1;
+        }
+    }
+    set
+}
+
+// The first row that falls in a cell, or how many rows there are.
+fn first_row(codes: &[u32], rows: usize, dims: usize, cell: &[u32]) -> usize
+    requires { ⌜ (rows * dims ≡ length (now codes)) × (length (now cell) ≡ dims) ⌝ }
+    ensures { λ r. ⌜ First (now (cell .entry)) (cut dims rows (now (codes .entry))) r ⌝ }
+{
+    for i in 0..rows {
+        if falls_in(cell, rows::row_of(codes, rows, dims, i)) {
+            return i;
+        }
+    }
+    rows
+}
+
+// Whether a cell is listed before another: fewer dimensions first, then the smaller set number, then the codes; 255 is the set of all dimensions.
+fn cell_before(mine: &[u32], cell: &[u32]) -> bool
+    requires { ⌜ (length (now mine) ≡ length (now cell)) × (length (now cell) ≤ 8) ⌝ }
+    ensures { λ r. ⌜ r ≡ earlier (keys (now (mine .entry))) (keys (now (cell .entry))) ⌝ }
+{
+    let set = set_of(mine);
+    let other = set_of(cell);
+    let size = lattice::size_of_set(set);
+    let other_size = lattice::size_of_set(other);
+    if size != other_size {
+        return size < other_size;
+    }
+    if set != other {
+        return set < other;
+    }
+    match rows::compare(mine, cell, 255) {
+        rows::Order::Before(_) => true,
+        rows::Order::Equal => false,
+        rows::Order::After(_) => false,
+    }
+}
+
+// Whether the entry at a place is listed before a cell.
+fn entry_before(s: &[u8], at: usize, cell: &[u32]) -> bool
+    requires { ⌜ (length (now cell) ≤ 8) × (at + 4 * length (now cell) ≤ length (now s)) ⌝ }
+    ensures { λ r. ⌜ r ≡ earlier (keys (wordsAt (now (s .entry)) (length (now (cell .entry))) at)) (keys (now (cell .entry))) ⌝ }
+{
+    let dims = cell.len();
+    let mut mine = [0u32; 8];
+    fields::read_words(s, at, &mut mine[..dims]);
+    cell_before(&mine[..dims], cell)
+}
+
+// The place of a cell among n entries from a place on, by halving: the entry straight before it is listed before the cell, and the entry at it is not.
+fn find_cell(s: &[u8], at: usize, n: usize, cell: &[u32]) -> usize
+    requires { ⌜ (length (now cell) ≤ 8) × (at + n * (4 * length (now cell) + 12) ≤ length (now s)) ⌝ }
+    ensures { λ r. ⌜ Between (entryBefore (now (s .entry)) at (now (cell .entry))) n r r ⌝ }
+{
+    let width = 4 * cell.len() + 12;
+    let mut low = 0;
+    let mut high = n;
+    while low < high {
+        let mid = low + (high - low) / 2;
+        if entry_before(s, at + mid * width, cell) {
+            low = mid + 1;
+        } else {
+            high = mid;
+        }
+    }
+    low
+}
+
+// The answer for a cell that no row falls in: an empty table has all ALL, and its entry is the first.
+fn without_rows(rows: usize, cell: &[u32]) -> Look
+    requires { ⌜ length (now cell) ≤ 8 ⌝ }
+    ensures { λ r. ⌜ r ≡ looked (rowless (length (now (cell .entry))) rows (now (cell .entry))) ⌝ }
+{
+    if rows != 0 {
+        return Look::NoRecord;
+    }
+    if set_of(cell) != 0 {
+        return Look::NoRecord;
+    }
+    let sum = 0;
+    let count = 0;
+    let entry = 0;
+    Look::Cell { sum, count, entry }
+}
+
+// The entry that stands for a cell: that of the one row that falls in it, or else the normal entry at the cell. The n normal entries stand in the bytes s from a place on.
+pub fn answer(
+    s: &[u8],
+    at: usize,
+    n: usize,
+    codes: &[u32],
+    sums: &[i64],
+    counts: &[u32],
+    rows: usize,
+    dims: usize,
+    cell: &[u32],
+) -> Look
+    requires { ⌜ Ready dims rows (now codes) (now sums) (now counts) × (length (now cell) ≡ dims) ⌝ }
+    requires { ⌜ NormalsAt (now s) at n dims (rowsOf dims rows (now codes) (now sums) (now counts)) ⌝ }
+    ensures { λ r. ⌜ r ≡ looked (lookup (plain dims) (now (cell .entry)) (ours (plain dims) measure (rowsOf dims rows (now (codes .entry)) (now (sums .entry)) (now (counts .entry))))) ⌝ }
+{
+    let i = first_row(codes, rows, dims, cell);
+    if i == rows {
+        return without_rows(rows, cell);
+    }
+    if rows::is_single(codes, rows, dims, i, set_of(cell)) {
+        let sum = sums[i];
+        let count = counts[i];
+        let entry = i as u32;
+        return Look::Cell { sum, count, entry };
+    }
+    let k = find_cell(s, at, n, cell);
+    let place = at + k * (4 * dims + 12) + 4 * dims;
+    let sum = fields::sum_at(s, place);
+    let count = fields::word_at(s, place + 8);
+    let entry = (rows + k) as u32;
+    Look::Cell { sum, count, entry }
+}

@@ -1,0 +1,198 @@
+// Base rows condensed: the groups that they form under each set, and our list of each row.
+ghost use mathlib.Core.Path.{_≡_};
+ghost use mathlib.Core.Bool.{_||_};
+ghost use mathlib.Core.List.{[], _∷_, _++_};
+ghost use Prim.Native.Nat.{ℕ, _*_, _^_, _≤_, _<_};
+ghost use lib.Dec.{eqb};
+ghost use lib.ListN.{length, getD, set as put};
+ghost use Rattle.lists.specs.Lists.{some, keep};
+ghost use Rattle.lattice.specs.Sets.{full};
+ghost use Rattle.cube.specs.Codes.{plain};
+ghost use Rattle.cube.specs.Condensed.{normals, Base};
+ghost use Rattle.rows.specs.Rows.{cut};
+ghost use Rattle.rows_bits.specs.Rowsets.{has as hasRow};
+ghost use Rattle.rows_deals.specs.Deals.{Names};
+ghost use Rattle.rows_order.specs.Index.{key, Valid};
+ghost use Rattle.rows_slots.specs.Slots.{crowds, packed};
+ghost use Rattle.rows_crowds.specs.Crowds.{Columns, shorter, leftOut, Holds, AllHold, Filled, ends};
+ghost use Rattle.rows_condense.specs.Lists.{listsOf, Short, Fit, noted, ourLists};
+ghost use Rattle.rows_condense.specs.Alone.{wordsOf, passes, isNew, Lower, Stored, Told};
+
+// The list of a row.
+pub fn list_of<'a>(sets: &'a [u8], lens: &[u32], rows: usize, row: usize) -> &'a [u8]
+    requires { ⌜ (rows * 70 ≤ length (now sets)) × (length (now lens) ≡ rows) × (row < rows) × Short rows (now lens) ⌝ }
+    ensures { λ r. ⌜ now r ≡ getD (listsOf rows (now (sets .entry)) (now (lens .entry))) row [] ⌝ }
+{
+    let from = row * 70;
+    let to = from + lens[row] as usize;
+    &sets[from..to]
+}
+
+// Puts a set behind the list of a row.
+fn note_at(sets: &mut [u8], lens: &mut [u32], rows: usize, row: usize, set: u8)
+    requires { ⌜ (rows * 70 ≤ length (now sets)) × (length (now lens) ≡ rows) × (row < rows) × Short rows (now lens) × (getD (now lens) row 0 < 70) ⌝ }
+    ensures { λ _. ⌜ listsOf rows (now (sets .exit)) (now (lens .exit)) ≡ put (listsOf rows (now (sets .entry)) (now (lens .entry))) row (getD (listsOf rows (now (sets .entry)) (now (lens .entry))) row [] ++ set ∷ []) ⌝ }
+    ensures { λ _. ⌜ Short rows (now (lens .exit)) ⌝ }
+{
+    let len = lens[row] as usize;
+    sets[row * 70 + len] = set;
+    lens[row] = lens[row] + 1;
+}
+
+// Puts a set behind the lists of the rows in `lone`.
+fn note_lone(lone: &[u32], set: u8, sets: &mut [u8], lens: &mut [u32], rows: usize)
+    requires { ⌜ (rows * 70 ≤ length (now sets)) × (length (now lens) ≡ rows) × Short rows (now lens) × Names (now lone) rows ⌝ }
+    requires { ⌜ Fit (noted set (now lone) (listsOf rows (now sets) (now lens))) ⌝ }
+    ensures { λ _. ⌜ listsOf rows (now (sets .exit)) (now (lens .exit)) ≡ noted set (now (lone .entry)) (listsOf rows (now (sets .entry)) (now (lens .entry))) ⌝ }
+    ensures { λ _. ⌜ Short rows (now (lens .exit)) ⌝ }
+{
+    for i in 0..lone.len() {
+        note_at(sets, lens, rows, lone[i] as usize, set);
+    }
+}
+
+// The words of a set.
+fn words_of<'a>(alone: &'a [u32], set: usize) -> &'a [u32]
+    requires { ⌜ (8192 ≤ length (now alone)) × (set < 256) ⌝ }
+    ensures { λ r. ⌜ now r ≡ wordsOf (now (alone .entry)) set ⌝ }
+{
+    let from = set * 32;
+    let to = from + 32;
+    &alone[from..to]
+}
+
+// The rows that are passed over at a set: those that are single on the set without one of its dimensions.
+fn pass_rows(alone: &[u32], set: u32, passed: &mut [u32])
+    requires { ⌜ (8192 ≤ length (now alone)) × (set < 256) × (length (now passed) ≡ 32) ⌝ }
+    ensures { λ _. ⌜ (length (now (passed .exit)) ≡ 32) × ((x : ℕ) → hasRow (now (passed .exit)) x ≡ passes 8 (now (alone .entry)) set x) ⌝ }
+{
+    rows_deals::clear(passed);
+    for d in 0..8 {
+        let one = lattice::sets_of(d);
+        if !lattice::holds_set(set, one) {
+            continue;
+        }
+        rows_bits::join(passed, words_of(alone, (set - one) as usize));
+    }
+}
+
+// Adds rows to a set of rows.
+fn add_rows(rows: &[u32], words: &mut [u32])
+    requires { ⌜ Names (now rows) 1024 × (length (now words) ≡ 32) ⌝ }
+    ensures { λ _. ⌜ (length (now (words .exit)) ≡ 32) × ((x : ℕ) → hasRow (now (words .exit)) x ≡ some (eqb x) (now (rows .entry)) || hasRow (now (words .entry)) x) ⌝ }
+{
+    for i in 0..rows.len() {
+        rows_bits::add(words, rows[i]);
+    }
+}
+
+// Puts words into those of a set.
+fn put_words(words: &[u32], set: usize, alone: &mut [u32])
+    requires { ⌜ (length (now words) ≡ 32) × (set < 256) × (8192 ≤ length (now alone)) ⌝ }
+    ensures { λ _. ⌜ Stored (now (words .entry)) (now (alone .entry)) (now (alone .exit)) set ⌝ }
+{
+    let from = set * 32;
+    for i in 0..32 {
+        alone[from + i] = words[i];
+    }
+}
+
+// One set more: its slot is filled, and it is put behind the lists of the rows that come out alone there and on no smaller set. Returns how many cells of it rows share.
+fn list_set(
+    codes: &[u32],
+    rows: usize,
+    dims: usize,
+    columns: &[u32],
+    set: u32,
+    alone: &mut [u32],
+    passed: &mut [u32],
+    store: &mut [u16],
+    sizes: &mut [usize],
+    order: &mut [u32],
+    marks: &mut [u32],
+    lone: &mut [u32],
+    sets: &mut [u8],
+    lens: &mut [u32],
+) -> usize
+    requires { ⌜ (rows ≤ 1024) × Valid dims (cut dims rows (now codes)) × (dims ≤ 8) × Columns dims rows (now codes) (now columns) × (set < 2 ^ dims) × (1 ≤ set → Holds 2 dims rows (now codes) (now store) (now sizes) (shorter set)) ⌝ }
+    requires { ⌜ (262144 ≤ length (now store)) × (256 ≤ length (now sizes)) × (length (now order) ≡ 1024) × (length (now marks) ≡ 1024) × (length (now lone) ≡ 1024) ⌝ }
+    requires { ⌜ (8192 ≤ length (now alone)) × (length (now passed) ≡ 32) × Lower dims rows (now codes) (now alone) set ⌝ }
+    requires { ⌜ (rows * 70 ≤ length (now sets)) × (length (now lens) ≡ rows) × Short rows (now lens) × Fit (noted set (keep (isNew (now alone) set) (leftOut 2 (cut dims rows (now codes)) rows set)) (listsOf rows (now sets) (now lens))) ⌝ }
+    ensures { λ r. ⌜ Filled 2 dims rows (now (codes .entry)) (now (store .entry)) (now (sizes .entry)) (now (store .exit)) (now (sizes .exit)) set ⌝ }
+    ensures { λ r. ⌜ Told dims rows (now (codes .entry)) (now (alone .entry)) (now (alone .exit)) set ⌝ }
+    ensures { λ r. ⌜ (listsOf rows (now (sets .exit)) (now (lens .exit)) ≡ noted set (keep (isNew (now (alone .entry)) set) (leftOut 2 (cut dims rows (now (codes .entry))) rows set)) (listsOf rows (now (sets .entry)) (now (lens .entry)))) × Short rows (now (lens .exit)) ⌝ }
+    ensures { λ r. ⌜ r ≡ ends (packed (crowds 2 (key set (cut dims rows (now (codes .entry)))) rows)) ⌝ }
+{
+    pass_rows(alone, set, passed);
+    let n = rows_crowds::fill_set(
+        codes,
+        rows,
+        dims,
+        columns,
+        2,
+        set,
+        passed,
+        store,
+        sizes,
+        order,
+        marks,
+        lone,
+    );
+    let new = &lone[..n];
+    note_lone(new, set as u8, sets, lens, rows);
+    add_rows(new, passed);
+    put_words(passed, set as usize, alone);
+    let slot = rows_crowds::slot_of(store, sizes, set as usize);
+    rows_crowds::count_groups(slot)
+}
+
+// Condenses base rows: the groups that they form under all sets but the full one, into slots, and our list of each row. Returns how many normal entries there are.
+pub fn condense_rows(
+    codes: &[u32],
+    rows: usize,
+    dims: usize,
+    store: &mut [u16],
+    sizes: &mut [usize],
+    sets: &mut [u8],
+    lens: &mut [u32],
+) -> usize
+    requires { ⌜ (rows ≤ 1024) × (dims ≤ 8) × (rows * dims ≡ length (now codes)) × Base (plain dims) (cut dims rows (now codes)) ⌝ }
+    requires { ⌜ (262144 ≤ length (now store)) × (256 ≤ length (now sizes)) × (rows * 70 ≤ length (now sets)) × (length (now lens) ≡ rows) ⌝ }
+    ensures { λ r. ⌜ AllHold 2 dims rows (now (codes .entry)) (now (store .exit)) (now (sizes .exit)) (full dims) ⌝ }
+    ensures { λ r. ⌜ (listsOf rows (now (sets .exit)) (now (lens .exit)) ≡ ourLists dims (cut dims rows (now (codes .entry)))) × Short rows (now (lens .exit)) ⌝ }
+    ensures { λ r. ⌜ r ≡ length (normals (plain dims) (cut dims rows (now (codes .entry)))) ⌝ }
+{
+    let mut columns = [0u32; 16384];
+    let mut alone = [0u32; 8192];
+    let mut passed = [0u32; 32];
+    let mut order = [0u32; 1024];
+    let mut marks = [0u32; 1024];
+    let mut lone = [0u32; 1024];
+    rows_deals::clear(lens);
+    rows_crowds::read_columns(codes, rows, dims, &mut columns);
+    let all = lattice::sets_of(dims as u32) - 1;
+    let mut cells = 0;
+    for k in 0..256 {
+        let set = lattice::set_at(k);
+        if all <= set {
+            continue;
+        }
+        cells += list_set(
+            codes,
+            rows,
+            dims,
+            &columns,
+            set,
+            &mut alone,
+            &mut passed,
+            store,
+            sizes,
+            &mut order,
+            &mut marks,
+            &mut lone,
+            sets,
+            lens,
+        );
+    }
+    rows_ready::blanks(rows) + cells
+}

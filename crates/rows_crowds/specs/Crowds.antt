@@ -1,0 +1,63 @@
+-- The groups of rows under all sets, in one flat array: the slot of set s starts at 1024 * s. The codes of the rows in one dimension stand in another in the same way.
+--
+--   part i n l          the first n elements of part i of a flat list
+--   Columns d n ..      the columns of n rows of d codes; and behind them, for each, the rows in the order of their codes
+--   Passing ..          rows may be passed over at set s: none of them shares its cell; at the empty set there are none, nor at a set of one dimension unless there is one row only
+--   Holds ..            the slot of set s has the groups that the rows form by their cells under s
+--   AllHold .. m        so have the slots of all sets below m
+--   Filled ..           the slot of set s is filled, and the others have what they had
+--   place s             the place of the last dimension of set s, counted from 0
+--   shorter s           set s without its last dimension
+--   leftOut ..          the rows that are left out at set s: they share their cell under the set without its last dimension, but not that under s
+--   ends l              how many groups a slot has
+use mathlib.Core.Path.{_≡_}
+use mathlib.Core.Logic.{_≢_}
+use mathlib.Core.Bool.{true}
+use mathlib.Core.List.{List, [], _∷_}
+use Prim.Native.Nat.{ℕ, zero, suc, _+_, _-_, _*_, _^_, _≤_, _<_}
+use lib.Count.{leadingZeros}
+use lib.ListN.{length, getD, take, drop}
+use Rattle.lattice.specs.Sets.{size}
+use Rattle.rows.specs.Rows.{cut}
+use Rattle.rows_bits.specs.Rowsets.{stays}
+use Rattle.rows_order.specs.Index.{key, arranged, columnOf}
+use Rattle.rows_slots.specs.Slots.{crowds, shares, loners, loneRows, packed, endIn, codeIn}
+
+abbrev pub part : ℕ → ℕ → List ℕ → List ℕ
+part i n l = take n (drop (i * 1024) l)
+
+pub record Columns (d n : ℕ) (codes columns : List ℕ) : Type 0 where
+  pub room : 16384 ≤ length columns
+  pub column : (i : ℕ) → i < d → part i n columns ≡ columnOf i (cut d n codes)
+  pub order : (i : ℕ) → i < d → part (8 + i) n columns ≡ arranged (codeIn (columnOf i (cut d n codes))) n
+
+pub record Passing (least d n : ℕ) (codes passed : List ℕ) (s : ℕ) : Type 0 where
+  pub room : length passed ≡ 32
+  pub sound : (x : ℕ) → x < n → shares least (key s (cut d n codes)) n x ≡ true → stays passed x ≡ true
+  pub first : s ≡ 0 → (x : ℕ) → stays passed x ≡ true
+  pub next : size s ≡ 1 → n ≢ 1 → (x : ℕ) → x < n → stays passed x ≡ true
+
+abbrev pub place : ℕ → ℕ
+place s = 31 - leadingZeros 32 s
+
+abbrev pub shorter : ℕ → ℕ
+shorter s = s - 2 ^ place s
+
+unfoldable pub leftOut : ℕ → List (List ℕ) → ℕ → ℕ → List ℕ
+leftOut least xs n zero = loners least (key 0 xs) n
+leftOut least xs n (suc s) = loneRows least (key (shorter (suc s)) xs) (key (suc s) xs) n
+
+abbrev pub ends : List ℕ → ℕ
+ends [] = 0
+ends (e ∷ l) = endIn e + ends l
+
+pub record Holds (least d n : ℕ) (codes slots sizes : List ℕ) (s : ℕ) : Type 0 where
+  pub few : getD sizes s 0 ≤ n
+  pub slot : part s (getD sizes s 0) slots ≡ packed (crowds least (key s (cut d n codes)) n)
+
+pub record AllHold (least d n : ℕ) (codes slots sizes : List ℕ) (m : ℕ) : Type 0 where
+  pub all : (s : ℕ) → s < m → Holds least d n codes slots sizes s
+
+pub record Filled (least d n : ℕ) (codes slots sizes slots₂ sizes₂ : List ℕ) (s : ℕ) : Type 0 where
+  pub here : Holds least d n codes slots₂ sizes₂ s
+  pub others : (k t : ℕ) → t ≢ s → Holds k d n codes slots sizes t → Holds k d n codes slots₂ sizes₂ t

@@ -1,0 +1,3 @@
+-- Rows in the order of a set.
+pub mod Index
+pub mod Few

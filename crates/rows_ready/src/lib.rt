@@ -1,0 +1,13 @@
+// Base rows in flat slices, as the functions over them take them, and the cell of an empty table.
+ghost use mathlib.Core.Path.{_≡_};
+ghost use Rattle.rows_ready.specs.Blank.{blanks};
+
+// How many cells a table of so many base rows has that no row falls in: an empty one has one.
+pub fn blanks(rows: usize) -> usize
+    ensures { λ r. ⌜ r ≡ blanks rows ⌝ }
+{
+    if rows == 0 {
+        return 1;
+    }
+    0
+}

@@ -1,0 +1,3 @@
+-- The runs of rows of one cell, and their totals.
+pub mod Runs
+pub mod Totals

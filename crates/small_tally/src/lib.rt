@@ -1,0 +1,155 @@
+// The small tables generated, their entries tallied, and the tallies as text.
+ghost use mathlib.Core.Path.{_≡_};
+ghost use mathlib.Core.List.{map};
+ghost use Prim.Native.Nat.{suc, _+_, _*_, _≤_};
+ghost use lib.ListN.{length};
+ghost use Rattle.lists.specs.Lists.{Distinct};
+ghost use Rattle.fields.specs.Written.{Wrote};
+ghost use Rattle.cube.specs.Codes.{plain};
+ghost use Rattle.cube.specs.Condensed.{normals};
+ghost use Rattle.rows.specs.Rows.{cut};
+ghost use Rattle.small_model.specs.Small.{upTo, binary, table};
+ghost use Rattle.small_model.specs.Tally.{entries, tally, mostEntries};
+ghost use Rattle.small_tally.specs.Flat.{flatCodes, Coding, Zeros};
+ghost use Rattle.small_tally.specs.Lines.{gap, pairText, textFrom, line, report};
+
+// Writes a number in binary, the highest digit first.
+fn put_binary(out: &mut [u32], dims: usize, j: u32) -> usize
+    requires { ⌜ dims ≤ length (now out) ⌝ }
+    ensures { λ r. ⌜ Wrote (binary dims j) (now (out .entry)) (now (out .exit)) r ⌝ }
+{
+    if dims == 0 {
+        return 0;
+    }
+    let at = put_binary(out, dims - 1, j / 2);
+    out[at] = j % 2;
+    at + 1
+}
+
+// Writes the codes of table t: those of row j for each bit j that is set.
+fn put_table(out: &mut [u32], dims: usize, t: u32) -> usize
+    requires { ⌜ (dims ≤ 8) × (length (flatCodes dims t) ≤ length (now out)) ⌝ }
+    ensures { λ r. ⌜ Wrote (flatCodes dims t) (now (out .entry)) (now (out .exit)) r ⌝ }
+{
+    let mut at = 0;
+    let mut rest = t;
+    for j in 0..lattice::sets_of(dims as u32) {
+        let odd = rest % 2;
+        rest = rest / 2;
+        if odd != 1 {
+            continue;
+        }
+        at += put_binary(&mut out[at..], dims, j);
+    }
+    at
+}
+
+// How many entries base rows have.
+fn rows_entries(codes: &[u32], rows: usize, dims: usize) -> usize
+    requires { ⌜ (dims ≤ 8) × (rows ≤ 8) × (rows * dims ≡ length (now codes)) × Distinct (cut dims rows (now codes)) × Coding dims (cut dims rows (now codes)) ⌝ }
+    ensures { λ r. ⌜ r ≡ rows + length (normals (plain dims) (cut dims rows (now (codes .entry)))) ⌝ }
+{
+    let mut store = [0u16; 262144];
+    let mut used = [0usize; 256];
+    let mut sets = [0u8; 560];
+    let mut lens = [0u32; 8];
+    let normals = rows_condense::condense_rows(
+        codes,
+        rows,
+        dims,
+        &mut store,
+        &mut used,
+        &mut sets,
+        &mut lens[..rows],
+    );
+    rows + normals
+}
+
+// How many entries the archive of table t has.
+fn entries_of(dims: usize, t: u32) -> usize
+    requires { ⌜ (1 ≤ dims) × (dims ≤ 3) ⌝ }
+    ensures { λ r. ⌜ r ≡ entries dims (table dims t) ⌝ }
+{
+    let mut codes = [0u32; 24];
+    let size = put_table(&mut codes, dims, t);
+    rows_entries(&codes[..size], size / dims, dims)
+}
+
+// Tallies how many of all tables have each number of entries.
+fn tally_tables(dims: usize, tallies: &mut [u32])
+    requires { ⌜ (1 ≤ dims) × (dims ≤ 3) × (length (now tallies) ≡ suc (mostEntries dims)) × Zeros (now tallies) ⌝ }
+    ensures { λ _. ⌜ now (tallies .exit) ≡ map (tally dims) (upTo (suc (mostEntries dims))) ⌝ }
+{
+    let rows = lattice::sets_of(dims as u32);
+    for t in 0..lattice::sets_of(rows) {
+        let n = entries_of(dims, t);
+        tallies[n] = tallies[n] + 1;
+    }
+}
+
+// Writes a space and a number.
+fn put_gap(out: &mut [u8], n: u64) -> usize
+    requires { ⌜ length (gap n) ≤ length (now out) ⌝ }
+    ensures { λ r. ⌜ Wrote (gap n) (now (out .entry)) (now (out .exit)) r ⌝ }
+{
+    let at = text_decimals::put_character(out, b' ');
+    at + text_decimals::put_decimal(&mut out[at..], n)
+}
+
+// Writes a number of entries and its tally.
+fn put_pair(out: &mut [u8], n: u64, tally: u64) -> usize
+    requires { ⌜ length (pairText n tally) ≤ length (now out) ⌝ }
+    ensures { λ r. ⌜ Wrote (pairText n tally) (now (out .entry)) (now (out .exit)) r ⌝ }
+{
+    let at = put_gap(out, n);
+    at + put_gap(&mut out[at..], tally)
+}
+
+// Writes the numbers of entries that occur, with their tallies.
+fn put_tallies(out: &mut [u8], tallies: &[u32]) -> usize
+    requires { ⌜ length (textFrom 0 (now tallies)) ≤ length (now out) ⌝ }
+    ensures { λ r. ⌜ Wrote (textFrom 0 (now (tallies .entry))) (now (out .entry)) (now (out .exit)) r ⌝ }
+{
+    let mut at = 0;
+    for n in 0..tallies.len() {
+        let tally = tallies[n];
+        if tally == 0 {
+            continue;
+        }
+        at += put_pair(&mut out[at..], n as u64, tally as u64);
+    }
+    at
+}
+
+// Tallies the tables of D, and writes the line for D.
+fn put_tallied(out: &mut [u8], dims: usize, tallies: &mut [u32]) -> usize
+    requires { ⌜ (1 ≤ dims) × (dims ≤ 3) × (length (now tallies) ≡ suc (mostEntries dims)) × Zeros (now tallies) ⌝ }
+    requires { ⌜ length (line dims) ≤ length (now out) ⌝ }
+    ensures { λ r. ⌜ Wrote (line dims) (now (out .entry)) (now (out .exit)) r ⌝ }
+{
+    tally_tables(dims, tallies);
+    let mut at = text_decimals::put_decimal(out, dims as u64);
+    at += put_tallies(&mut out[at..], tallies);
+    at + text_decimals::put_character(&mut out[at..], b'\n')
+}
+
+// Writes the line for D. No table has as many as 73 entries.
+fn put_line(out: &mut [u8], dims: usize) -> usize
+    requires { ⌜ (1 ≤ dims) × (dims ≤ 3) × (length (line dims) ≤ length (now out)) ⌝ }
+    ensures { λ r. ⌜ Wrote (line dims) (now (out .entry)) (now (out .exit)) r ⌝ }
+{
+    let mut tallies = [0u32; 73];
+    let rows = lattice::sets_of(dims as u32) as usize;
+    let size = rows + rows * rows + 1;
+    put_tallied(out, dims, &mut tallies[..size])
+}
+
+// Writes the lines for D of 1 to 3.
+pub fn put_report(out: &mut [u8]) -> usize
+    requires { ⌜ length report ≤ length (now out) ⌝ }
+    ensures { λ r. ⌜ Wrote report (now (out .entry)) (now (out .exit)) r ⌝ }
+{
+    let mut at = put_line(out, 1);
+    at += put_line(&mut out[at..], 2);
+    at + put_line(&mut out[at..], 3)
+}
