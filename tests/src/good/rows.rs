@@ -46,6 +46,10 @@ impl RowSet {
         self.0[row / 64] >> (row % 64) & 1 == 1
     }
 
+    pub fn is_empty(&self) -> bool {
+        self.0.iter().all(|&word| word == 0)
+    }
+
     pub fn add(&mut self, row: usize) {
         self.0[row / 64] |= 1 << (row % 64);
     }
