@@ -1,17 +1,20 @@
 -- Rows in a flat list, by their places.
 use mathlib.Core.Path.{_≡_, refl, sym, ap, ap₂, _∙_}
 use mathlib.Core.List.{List, [], _∷_, _++_}
-use Prim.Native.Nat.{ℕ, zero, suc, _+_, _-_, _*_, _≤_, _<_}
+use Prim.Native.Nat.{ℕ, zero, suc, _+_, _-_, _*_, _^_, _≤_, _<_}
 use native.Mathlib.Nat.{zero-mul, suc-mul, add-comm, add-zero, not-suc-le-zero, le-of-suc-le-suc}
 use native.Mathlib.Numerals.{add-one}
 use native.Mathlib.Omega.{arith}
-use lib.ListN.{length, getD, take, drop, take-append-drop}
-use lib.Seq.{drop-drop, getD-take, getD-drop, take-take, take-at, drop-at, length-take-le}
+use lib.IntN.{ℤ}
+use lib.Signed.{mag}
+use lib.ListN.{length, getD, take, drop, set, take-append-drop, length-set}
+use lib.Seq.{drop-drop, getD-take, getD-drop, getD-set-same, getD-set-other, take-set-le, take-take, take-at, drop-at, length-take-le}
 use borrow.Rule.Slice.PartMut.{putMid}
-use Rattle.fields.specs.Twos.{sumOf}
+use Rattle.fields.specs.Twos.{sumOf, lowOf, highOf}
+use Rattle.fields.specs.TwosLaws.{sum-words}
 use Rattle.cube.specs.declared.Total.{Total}
 use Rattle.cube.specs.Measure.{Row, nothing}
-use Rattle.rows.specs.Rows.{width, totalIn, rowIn, cut, rowAt, rowsOf, totalAt}
+use Rattle.rows.specs.Rows.{width, rowIn, cut, rowAt, rowsOf, totalAt}
 use Rattle.rows.proofs.Rows.{row-within, row-at}
 use Rattle.lists.proofs.Parts.{part-front}
 
@@ -123,3 +126,36 @@ pub row-stored : (d k : ℕ) (ws m : List ℕ) → length m ≡ width d → k * 
 row-stored d k ws m e h =
     let w : k * width d + width d - k * width d ≡ width d = omega arith in
     rw (w, add-one) (rows-put d k ws m e h)
+
+-- A total written behind the d codes of a row.
+module _ (d : ℕ) (l : List ℕ) (z : ℤ) (n : ℕ) (e : length l ≡ width d) where
+  abbrev low : List ℕ
+  low = set l d (lowOf z)
+
+  abbrev high : List ℕ
+  high = set low (d + 1) (highOf z)
+
+  abbrev written : List ℕ
+  written = set high (d + 2) n
+
+  codes-kept : take d written ≡ take d l
+  codes-kept =
+      take-set-le d high (d + 2) n (omega arith) ∙ take-set-le d low (d + 1) (highOf z) (omega arith) ∙ take-set-le d l d (lowOf z) (omega arith)
+
+  low-there : getD (drop d written) 0 0 ≡ lowOf z
+  low-there =
+      getD-drop d written 0 0 ∙ ap (λ (k : ℕ). getD written k 0) (add-zero d)
+      ∙ getD-set-other high (d + 2) d n 0 (λ g. omega (arith, g)) ∙ getD-set-other low (d + 1) d (highOf z) 0 (λ g. omega (arith, g)) ∙ getD-set-same l d (lowOf z) 0 (omega (arith, e))
+
+  high-there : getD (drop d written) 1 0 ≡ highOf z
+  high-there =
+      getD-drop d written 1 0 ∙ getD-set-other high (d + 2) (d + 1) n 0 (λ g. omega (arith, g))
+      ∙ getD-set-same low (d + 1) (highOf z) 0 (simp length-set (omega (arith, e)))
+
+  count-there : getD (drop d written) 2 0 ≡ n
+  count-there = getD-drop d written 2 0 ∙ getD-set-same high (d + 2) n 0 (simp length-set (omega (arith, e)))
+
+  pub total-put : mag z < 2 ^ 63 → rowIn d written ≡ record { codes = take d l; total = record { sum = z; count = n } }
+  total-put h =
+      let s = ap₂ sumOf low-there high-there ∙ sum-words z h in
+      λ j. record { codes = codes-kept j; total = record { sum = s j; count = count-there j } }
