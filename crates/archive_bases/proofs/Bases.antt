@@ -21,44 +21,44 @@ use Rattle.archive_entries.specs.Layout.{baseBytes, setsIn, based}
 use Rattle.archive_entries.proofs.Lengths.{base-length}
 use Rattle.archive_bases.specs.Listed.{Listed, ourBase, ourBases}
 
-module _ {d n : ℕ} {codes : List ℕ} {sums : List ℤ} {counts sets lens : List ℕ} (rows : Listed d n codes sums counts sets lens) where
+module _ {d n : ℕ} {ws sets lens : List ℕ} (rows : Listed d n ws sets lens) where
   abbrev table : List (Row Total)
-  table = rowsOf d n codes sums counts
+  table = rowsOf d n ws
 
   module _ (i : ℕ) where
-    codes-at : rowAt (cut d n codes) i ≡ ourBase d table i .row .codes
+    codes-at : rowAt (cut d n ws) i ≡ ourBase d table i .row .codes
     unfolding ourBase
-    codes-at = ap (λ (l : List (List ℕ)). rowAt l i) (sym (rows-codes d n codes sums counts)) ∙ List·getD-map (λ r. r .codes) table i blank
+    codes-at = ap (λ (l : List (List ℕ)). rowAt l i) (sym (rows-codes d n ws)) ∙ List·getD-map (λ r. r .codes) table i blank
 
     pub bases-none : n ≤ i → drop i (ourBases d table) ≡ []
     unfolding ourBases
-    bases-none h = drop-of-length-le (map (based d table) table) {i = i} (rw (length-map, rows-length d n codes sums counts) h)
+    bases-none h = drop-of-length-le (map (based d table) table) {i = i} (rw (length-map, rows-length d n ws) h)
 
     module _ (h : i < n) where
       -- that of row i, and those behind it
       pub bases-next : drop i (ourBases d table) ≡ ourBase d table i ∷ drop (i + 1) (ourBases d table)
       unfolding ourBases ourBase
       bases-next =
-          let k : i < length (map (based d table) table) = rw (length-map, rows-length d n codes sums counts) h in
+          let k : i < length (map (based d table) table) = rw (length-map, rows-length d n ws) h in
           rw (add-one, drop-cons (map (based d table) table) i (based d table blank) k, List·getD-map (based d table) table i blank)
 
       -- the list of a row in the flat arrays is its list in its base entry
       list-at : getD (listsOf n sets lens) i [] ≡ ourBase d table i .list
       unfolding ourLists ourBase
       list-at =
-          let xs = cut d n codes in
+          let xs = cut d n ws in
           ap (λ (ls : List (List ℕ)). getD ls i []) (rows .lists)
-          ∙ map-at (listed (plain d) xs) [] [] xs i (rw (cut-length d n codes) h)
-          ∙ ap₂ (λ (ys : List (List ℕ)) (x : List ℕ). listed (plain d) ys x) (sym (rows-codes d n codes sums counts)) codes-at
+          ∙ map-at (listed (plain d) xs) [] [] xs i (rw (cut-length d n ws) h)
+          ∙ ap₂ (λ (ys : List (List ℕ)) (x : List ℕ). listed (plain d) ys x) (sym (rows-codes d n ws)) codes-at
 
       -- codes, sum, count and list of a row make its base entry
-      pub base-at : {x list : List ℕ} → x ≡ rowAt (cut d n codes) i → list ≡ getD (listsOf n sets lens) i []
+      pub base-at : {x list : List ℕ} → x ≡ rowAt (cut d n ws) i → list ≡ getD (listsOf n sets lens) i []
           → record { row = record { codes = x; total = record { sum = getD sums i (pos 0); count = getD counts i 0 } }; list = list } ≡ ourBase d table i
       unfolding ourBase
       base-at {x} {list} e f =
           let same : record { codes = x; total = record { sum = getD sums i (pos 0); count = getD counts i 0 } } ≡ getD table i blank =
-          ap (λ (c : List ℕ). record { codes = c; total = record { sum = getD sums i (pos 0); count = getD counts i 0 } }) (e ∙ row-at d n i codes h)
-          ∙ sym (rows-at d n i codes sums counts h) in
+          ap (λ (c : List ℕ). record { codes = c; total = record { sum = getD sums i (pos 0); count = getD counts i 0 } }) (e ∙ row-at d n i ws h)
+          ∙ sym (rows-at d n i ws h) in
           ap₂ (λ (r : Row Total) (l : List ℕ). record { row = r; list = l }) same (f ∙ list-at)
 
       -- how many sets and bytes it has
@@ -67,7 +67,7 @@ module _ {d n : ℕ} {codes : List ℕ} {sums : List ℤ} {counts sets lens : Li
 
       pub base-bytes : length (baseBytes (ourBase d table i)) ≡ 4 * d + 16 + 4 * getD lens i 0
       base-bytes =
-          let e = base-length d (ourBase d table i) (ap length (sym codes-at) ∙ row-length d n i codes h (rows .ready .size)) in
+          let e = base-length d (ourBase d table i) (ap length (sym codes-at) ∙ row-length d n i ws h (rows .ready .size)) in
           omega (arith, e, base-sets)
 
       pub base-most : length (baseBytes (ourBase d table i)) ≤ 328

@@ -17,16 +17,16 @@ use Rattle.archive_cells.specs.MatchedLaws.{matching-more, matching-off, matchi
 use Rattle.archive_bases.specs.Listed.{Listed, ourBase, ourBases}
 use Rattle.archive_bases.proofs.Bases.{bases-next, bases-none}
 
-module _ {d n : ℕ} {codes : List ℕ} {sums : List ℤ} {counts sets lens : List ℕ} (rows : Listed d n codes sums counts sets lens) (i : ℕ) where
+module _ {d n : ℕ} {ws sets lens : List ℕ} (rows : Listed d n ws sets lens) (i : ℕ) where
   -- the bytes of all entries, of those from a row on, and of that of row i
   abbrev all : List ℕ
-  all = flatMap baseBytes (ourBases d (rowsOf d n codes sums counts))
+  all = flatMap baseBytes (ourBases d (rowsOf d n ws))
 
   abbrev from : ℕ → List ℕ
-  from k = flatMap baseBytes (drop k (ourBases d (rowsOf d n codes sums counts)))
+  from k = flatMap baseBytes (drop k (ourBases d (rowsOf d n ws)))
 
   abbrev one : List ℕ
-  one = baseBytes (ourBase d (rowsOf d n codes sums counts) i)
+  one = baseBytes (ourBase d (rowsOf d n ws) i)
 
   left : i < n → from i ≡ one ++ from (i + 1)
   unfolding flatMap

@@ -7,7 +7,7 @@ ghost use lib.ListN.{length};
 ghost use Rattle.fields.specs.Words.{wordBytes, wordsBytes};
 ghost use Rattle.fields.specs.Twos.{sumBytes};
 ghost use Rattle.fields.specs.Written.{Wrote};
-ghost use Rattle.rows.specs.Rows.{rowsOf};
+ghost use Rattle.rows.specs.Rows.{width, rowsOf};
 ghost use Rattle.fields_walk.specs.Fields.{headerBytes};
 ghost use Rattle.archive_entries.specs.Layout.{CUBE, cellBytes, baseBytes};
 ghost use Rattle.archive_cells.specs.ListBytes.{listBytes};
@@ -33,7 +33,7 @@ pub fn put_header(out: &mut [u8], sizes: &[u32]) -> usize
 
 // Writes a cell: its codes or ALL, its sum and its count.
 pub fn put_cell(out: &mut [u8], codes: &[u32], sum: i64, count: u32) -> usize
-    requires { ⌜ 4 * length (now codes) + 12 ≤ length (now out) ⌝ }
+    requires { ⌜ 4 * length (now rows) + 12 ≤ length (now out) ⌝ }
     ensures { λ r. ⌜ Wrote (cellBytes (record { codes = now (codes .entry); total = record { sum = sum; count = count } })) (now (out .entry)) (now (out .exit)) r ⌝ }
 {
     let mut at = fields::put_words(out, codes);
@@ -44,21 +44,19 @@ pub fn put_cell(out: &mut [u8], codes: &[u32], sum: i64, count: u32) -> usize
 // Writes the cells of n rows one straight after the other.
 pub fn put_cells(
     out: &mut [u8],
-    codes: &[u32],
-    sums: &[i64],
-    counts: &[u32],
+    rows: &[u32],
     n: usize,
     dims: usize,
 ) -> usize
-    requires { ⌜ (n * dims ≡ length (now codes)) × (n ≤ length (now sums)) × (n ≤ length (now counts)) × (n * (4 * dims + 12) ≤ length (now out)) ⌝ }
-    ensures { λ r. ⌜ Wrote (flatMap cellBytes (rowsOf dims n (now (codes .entry)) (now (sums .entry)) (now (counts .entry)))) (now (out .entry)) (now (out .exit)) r ⌝ }
+    requires { ⌜ (n * width dims ≡ length (now rows)) × (n * (4 * dims + 12) ≤ length (now out)) ⌝ }
+    ensures { λ r. ⌜ Wrote (flatMap cellBytes (rowsOf dims n (now (rows .entry)))) (now (out .entry)) (now (out .exit)) r ⌝ }
 {
     let mut at = 0;
     for i in 0..n {
-        let mine = rows::row_of(codes, n, dims, i);
-        let sum = sums[i];
-        let count = counts[i];
-        at += put_cell(&mut out[at..], mine, sum, count);
+        let mine = rows::row_of(rows, n, dims, i);
+        let total = rows::total_at(rows, n, dims, i);
+        let sum = total.sum;
+        at += put_cell(&mut out[at..], mine, sum, total.count);
     }
     at
 }
@@ -77,7 +75,7 @@ fn put_sets(out: &mut [u8], sets: &[u8]) -> usize
 
 // Writes a base entry: a row and its list.
 pub fn put_entry(out: &mut [u8], codes: &[u32], sum: i64, count: u32, list: &[u8]) -> usize
-    requires { ⌜ 4 * length (now codes) + 16 + 4 * length (now list) ≤ length (now out) ⌝ }
+    requires { ⌜ 4 * length (now rows) + 16 + 4 * length (now list) ≤ length (now out) ⌝ }
     requires { ⌜ length (now list) ≤ 70 ⌝ }
     ensures { λ r. ⌜ Wrote (baseBytes (record { row = record { codes = now (codes .entry); total = record { sum = sum; count = count } }; list = now (list .entry) })) (now (out .entry)) (now (out .exit)) r ⌝ }
 {

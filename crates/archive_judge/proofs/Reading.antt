@@ -44,9 +44,9 @@ module _ {s : List ℕ} {d n m : ℕ} (b : Bytes s) (e : archiveAnswer (walkArch
   pub read-small : n * d ≤ 8192
   read-small = let k = mul-le-mul (walk .few-bases) (walk .few) in omega (arith, k)
 
-  module _ (codes : List ℕ) (sums : List ℤ) (counts : List ℕ) (room : (8192 ≤ length codes) × (1024 ≤ length sums) × (1024 ≤ length counts))
-      (h : Stored (walkArchive s) codes sums counts) where
-    pub read-size : n * d ≤ length codes
+  module _ (ws : List ℕ) (room : (8192 ≤ length ws) × (1024 ≤ length sums) × (1024 ≤ length counts))
+      (h : Stored (walkArchive s) ws) where
+    pub read-size : n * d ≤ length ws
     read-size = omega (arith, read-small, room .0)
 
     pub read-amounts : n ≤ length sums
@@ -56,30 +56,30 @@ module _ {s : List ℕ} {d n m : ℕ} (b : Bytes s) (e : archiveAnswer (walkArch
     read-tallies = omega (arith, walk .few-bases, room .2)
 
     -- the rows that were read, in parts of the arrays that they fill
-    pub read-of : Read s d n (take (n * d) codes) (take n sums) (take n counts)
+    pub read-of : Read s d n (take (n * d) ws) (take n sums) (take n counts)
     read-of = record {
       held = walk .held;
       walked = walked;
       dims = walk .dims;
-      size = sym (length-take-le (n * d) codes read-size);
+      size = sym (length-take-le (n * d) ws read-size);
       amounts = length-take-le n sums read-amounts;
       tallies = length-take-le n counts read-tallies;
-      rows = rows-front d n codes sums counts
-          ∙ ap₂ (λ (i j : ℕ). rowsOf i j codes sums counts) (sym (walk .dims)) (sym (walk .count)) ∙ stored-walked (walkArchive s) codes sums counts (walk .walked) h;
+      rows = rows-front d n ws
+          ∙ ap₂ (λ (i j : ℕ). rowsOf i j ws) (sym (walk .dims)) (sym (walk .count)) ∙ stored-walked (walkArchive s) ws (walk .walked) h;
     }
 
 -- ---- stop 12
 
-module _ {s : List ℕ} {d n m : ℕ} {codes : List ℕ} {sums : List ℤ} {counts : List ℕ} (e : archiveAnswer (walkArchive s) ≡ Answer.Entries d n m) (r : Read s d n codes sums counts) where
-  due : same s (archiveBytes (wordsAt s d 8) (rowsOf d n codes sums counts)) ≡ same s (archiveBytes (r .held .sizes) (rowsIn (r .held)))
+module _ {s : List ℕ} {d n m : ℕ} {ws : List ℕ} (e : archiveAnswer (walkArchive s) ≡ Answer.Entries d n m) (r : Read s d n ws) where
+  due : same s (archiveBytes (wordsAt s d 8) (rowsOf d n ws)) ≡ same s (archiveBytes (r .held .sizes) (rowsIn (r .held)))
   due =
       ap₂ (λ (zs : List ℕ) (rows : List (Row Total)). same s (archiveBytes zs rows)) (sym (sizes-at s (r .walked) ∙ ap (λ (k : ℕ). wordsAt s k 8) (r .dims))) (r .rows)
 
-  pub passed-required : true ≡ same s (archiveBytes (wordsAt s d 8) (rowsOf d n codes sums counts)) → Answer.Entries d n m ≡ archiveAnswer (readArchive s)
+  pub passed-required : true ≡ same s (archiveBytes (wordsAt s d 8) (rowsOf d n ws)) → Answer.Entries d n m ≡ archiveAnswer (readArchive s)
   unfolding readArchive
   passed-required h = let g = sym (h ∙ due) in sym e ∙ rw (r .walked, g)
 
-  pub stopped-required : false ≡ same s (archiveBytes (wordsAt s d 8) (rowsOf d n codes sums counts)) → Answer.Stop 12 ≡ archiveAnswer (readArchive s)
+  pub stopped-required : false ≡ same s (archiveBytes (wordsAt s d 8) (rowsOf d n ws)) → Answer.Stop 12 ≡ archiveAnswer (readArchive s)
   unfolding readArchive
   stopped-required h = let g = sym (h ∙ due) in rw (r .walked, g)
 
@@ -103,8 +103,8 @@ stored-required s c t k h = go (walkArchive s) h
 -- ---- the rows that share a cell
 
 -- as slots tell it
-pub sharing-held : {d n : ℕ} {codes : List ℕ} {sums : List ℤ} {counts store used : List ℕ} → Grouped d n codes sums counts store used → Sharing d n codes used
-sharing-held {d} {n} {codes} {store = store} {used = used} a = record {
+pub sharing-held : {d n : ℕ} {ws store used : List ℕ} → Grouped d n ws store used → Sharing d n ws used
+sharing-held {d} {n} {ws} {store = store} {used = used} a = record {
   sets = a .sets;
   rows = λ s f.
       let g = a .slots .all s f in
@@ -113,31 +113,31 @@ sharing-held {d} {n} {codes} {store = store} {used = used} a = record {
       let m : (s + 1) * 1024 ≤ 256 * 1024 = mul-le-mul-right 1024 below in
       let small : s * 1024 + 1024 ≤ 262144 = omega (arith, m) in
       sym (length-take-le (getD used s 0) (drop (s * 1024) store) (omega (arith, g .few, k, small, a .room, length-drop (s * 1024) store)))
-      ∙ ap length (g .slot) ∙ slot-length (key s (cut d n codes)) n 2 k;
+      ∙ ap length (g .slot) ∙ slot-length (key s (cut d n ws)) n 2 k;
 }
 
 -- as an answer tells the archive's numbers
-pub shares-told : (p : Parsed Held) {d n m : ℕ} (codes used : List ℕ) → archiveAnswer p ≡ Answer.Entries d n m → Sharing d n (take (n * d) codes) used → Shares p codes used
-shares-told (stop k) codes used e h = tt
-shares-told (got a rest) {d} {n} codes used e h =
+pub shares-told : (p : Parsed Held) {d n m : ℕ} (ws used : List ℕ) → archiveAnswer p ≡ Answer.Entries d n m → Sharing d n (take (n * d) ws) used → Shares p ws used
+shares-told (stop k) ws used e h = tt
+shares-told (got a rest) {d} {n} ws used e h =
     let f : length (a .sizes) ≡ d = cc e in
     let g : length (a .bases) ≡ n = cc e in
     rw (f, g) h
 
 -- they stay when the archive is judged
-pub shares-required : (s codes used : List ℕ) → Shares (walkArchive s) codes used → Shares (readArchive s) codes used
+pub shares-required : (s ws used : List ℕ) → Shares (walkArchive s) ws used → Shares (readArchive s) ws used
 unfolding readArchive
-shares-required s codes used h = go (walkArchive s) h
+shares-required s ws used h = go (walkArchive s) h
   where
-    go : (p : Parsed Held) → Shares p codes used → Shares (andThen p (judged s)) codes used
+    go : (p : Parsed Held) → Shares p ws used → Shares (andThen p (judged s)) ws used
     go (stop n) f = tt
     go (got a rest) f = cases (truth (same s (archiveBytes (a .sizes) (rowsIn a)))) (λ e. rw e f) (λ e. rw e tt)
 
 -- nothing is asked where the walk stopped
-pub shares-stop : (s : List ℕ) {n : ℕ} (codes used : List ℕ) → archiveAnswer (walkArchive s) ≡ Answer.Stop n → Shares (readArchive s) codes used
+pub shares-stop : (s : List ℕ) {n : ℕ} (ws used : List ℕ) → archiveAnswer (walkArchive s) ≡ Answer.Stop n → Shares (readArchive s) ws used
 unfolding readArchive
-shares-stop s {n} codes used e = go (walkArchive s) e
+shares-stop s {n} ws used e = go (walkArchive s) e
   where
-    go : (p : Parsed Held) → archiveAnswer p ≡ Answer.Stop n → Shares (andThen p (judged s)) codes used
+    go : (p : Parsed Held) → archiveAnswer p ≡ Answer.Stop n → Shares (andThen p (judged s)) ws used
     go (stop k) f = tt
     go (got a rest) f = let z : false ≡ true = cc in absurd (false≢true z)

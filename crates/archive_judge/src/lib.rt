@@ -8,7 +8,7 @@ ghost use Rattle.lists.specs.Order.{same};
 ghost use Rattle.fields.specs.Words.{wordsAt};
 ghost use Rattle.cube.specs.Codes.{plain};
 ghost use Rattle.cube.specs.Condensed.{normals};
-ghost use Rattle.rows.specs.Rows.{cut, rowsOf};
+ghost use Rattle.rows.specs.Rows.{width, cut, rowsOf};
 ghost use Rattle.archive_entries.specs.Layout.{archiveBytes};
 ghost use Rattle.archive_entries.specs.Reading.{walkArchive, readArchive, archiveAnswer, Stored};
 ghost use Rattle.archive_cells.specs.Matched.{Matched};
@@ -21,10 +21,8 @@ ghost use Rattle.archive_judge.specs.Sharing.{Shares};
 fn match_sections(
     s: &[u8],
     start: usize,
-    codes: &[u32],
-    sums: &[i64],
-    counts: &[u32],
-    rows: usize,
+    rows: &[u32],
+    n: usize,
     dims: usize,
     sets: &[u8],
     lens: &[u32],
@@ -32,51 +30,47 @@ fn match_sections(
     used: &[usize],
     cells: usize,
 ) -> Walk
-    requires { ⌜ Listed dims rows (now codes) (now sums) (now counts) (now sets) (now lens) × Grouped dims rows (now codes) (now sums) (now counts) (now store) (now used) × (start ≤ length (now s)) ⌝ }
-    requires { ⌜ cells ≡ length (normals (plain dims) (cut dims rows (now codes))) ⌝ }
-    ensures { λ r. ⌜ Matched (now (s .entry)) start (sections dims (rowsOf dims rows (now (codes .entry)) (now (sums .entry)) (now (counts .entry)))) r ⌝ }
+    requires { ⌜ Listed dims n (now rows) (now sets) (now lens) × Grouped dims n (now rows) (now store) (now used) × (start ≤ length (now s)) ⌝ }
+    requires { ⌜ cells ≡ length (normals (plain dims) (cut dims n (now rows))) ⌝ }
+    ensures { λ r. ⌜ Matched (now (s .entry)) start (sections dims (rowsOf dims n (now (rows .entry)))) r ⌝ }
 {
-    let at = match archive_cells::match_word(s, start, rows as u32) {
-        Walk::Stop(n) => return Walk::Stop(n),
+    let at = match archive_cells::match_word(s, start, n as u32) {
+        Walk::Stop(stop) => return Walk::Stop(stop),
         Walk::At(at) => at,
     };
-    let end = match archive_bases::match_bases(s, at, codes, sums, counts, rows, dims, sets, lens) {
-        Walk::Stop(n) => return Walk::Stop(n),
+    let end = match archive_bases::match_bases(s, at, rows, n, dims, sets, lens) {
+        Walk::Stop(stop) => return Walk::Stop(stop),
         Walk::At(end) => end,
     };
     let next = match archive_cells::match_word(s, end, cells as u32) {
-        Walk::Stop(n) => return Walk::Stop(n),
+        Walk::Stop(stop) => return Walk::Stop(stop),
         Walk::At(next) => next,
     };
-    archive_normals::match_normals(s, next, codes, sums, counts, rows, dims, store, used)
+    archive_normals::match_normals(s, next, rows, n, dims, store, used)
 }
 
 // Whether an archive whose fields are right is the one that its base rows require; their lists and slots go into the buffers that are lent.
 fn judge(
     s: &[u8],
-    codes: &[u32],
-    sums: &[i64],
-    counts: &[u32],
-    rows: usize,
+    rows: &[u32],
+    n: usize,
     dims: usize,
     sets: &mut [u8],
     lens: &mut [u32],
     store: &mut [u16],
     used: &mut [usize],
 ) -> bool
-    requires { ⌜ Read (now s) dims rows (now codes) (now sums) (now counts) × (rows * 70 ≤ length (now sets)) × (length (now lens) ≡ rows) × (262144 ≤ length (now store)) × (256 ≤ length (now used)) ⌝ }
-    ensures { λ r. ⌜ r ≡ same (now (s .entry)) (archiveBytes (wordsAt (now (s .entry)) dims 8) (rowsOf dims rows (now (codes .entry)) (now (sums .entry)) (now (counts .entry)))) ⌝ }
-    ensures { λ r. ⌜ Grouped dims rows (now (codes .entry)) (now (sums .entry)) (now (counts .entry)) (now (store .exit)) (now (used .exit)) ⌝ }
+    requires { ⌜ Read (now s) dims n (now rows) × (n * 70 ≤ length (now sets)) × (length (now lens) ≡ n) × (262144 ≤ length (now store)) × (256 ≤ length (now used)) ⌝ }
+    ensures { λ r. ⌜ r ≡ same (now (s .entry)) (archiveBytes (wordsAt (now (s .entry)) dims 8) (rowsOf dims n (now (rows .entry)))) ⌝ }
+    ensures { λ r. ⌜ Grouped dims n (now (rows .entry)) (now (store .exit)) (now (used .exit)) ⌝ }
 {
-    let cells = rows_condense::condense_rows(codes, rows, dims, store, used, sets, lens);
+    let cells = rows_condense::condense_rows(rows, n, dims, store, used, sets, lens);
     let start = 8 + 4 * dims;
     match match_sections(
         s,
         start,
-        codes,
-        sums,
-        counts,
         rows,
+        n,
         dims,
         sets,
         lens,
@@ -92,29 +86,25 @@ fn judge(
 // Whether an archive whose fields are right is the one that its base rows require; their slots go into the buffers that are lent.
 fn is_required(
     s: &[u8],
-    codes: &[u32],
-    sums: &[i64],
-    counts: &[u32],
-    rows: usize,
+    rows: &[u32],
+    n: usize,
     dims: usize,
     store: &mut [u16],
     used: &mut [usize],
 ) -> bool
-    requires { ⌜ Read (now s) dims rows (now codes) (now sums) (now counts) × (262144 ≤ length (now store)) × (256 ≤ length (now used)) ⌝ }
-    ensures { λ r. ⌜ r ≡ same (now (s .entry)) (archiveBytes (wordsAt (now (s .entry)) dims 8) (rowsOf dims rows (now (codes .entry)) (now (sums .entry)) (now (counts .entry)))) ⌝ }
-    ensures { λ r. ⌜ Grouped dims rows (now (codes .entry)) (now (sums .entry)) (now (counts .entry)) (now (store .exit)) (now (used .exit)) ⌝ }
+    requires { ⌜ Read (now s) dims n (now rows) × (262144 ≤ length (now store)) × (256 ≤ length (now used)) ⌝ }
+    ensures { λ r. ⌜ r ≡ same (now (s .entry)) (archiveBytes (wordsAt (now (s .entry)) dims 8) (rowsOf dims n (now (rows .entry)))) ⌝ }
+    ensures { λ r. ⌜ Grouped dims n (now (rows .entry)) (now (store .exit)) (now (used .exit)) ⌝ }
 {
     let mut sets = [0u8; 71680];
     let mut lens = [0u32; 1024];
     judge(
         s,
-        codes,
-        sums,
-        counts,
         rows,
+        n,
         dims,
         &mut sets,
-        &mut lens[..rows],
+        &mut lens[..n],
         store,
         used,
     )
@@ -123,9 +113,7 @@ fn is_required(
 // What was read of an archive whose fields are right, or stop 12. The arrays have its base rows; their slots go into the buffers that are lent.
 fn judge_read(
     s: &[u8],
-    codes: &[u32],
-    sums: &[i64],
-    counts: &[u32],
+    rows: &[u32],
     dims: u32,
     bases: u32,
     cells: u32,
@@ -133,19 +121,17 @@ fn judge_read(
     used: &mut [usize],
 ) -> ArchiveRead
     requires { ⌜ archiveAnswer (walkArchive (now s)) ≡ ArchiveRead.Entries dims bases cells ⌝ }
-    requires { ⌜ (8192 ≤ length (now codes)) × (1024 ≤ length (now sums)) × (1024 ≤ length (now counts)) × Stored (walkArchive (now s)) (now codes) (now sums) (now counts) ⌝ }
+    requires { ⌜ (11264 ≤ length (now rows)) × Stored (walkArchive (now s)) (now rows) ⌝ }
     requires { ⌜ (262144 ≤ length (now store)) × (256 ≤ length (now used)) ⌝ }
     ensures { λ r. ⌜ r ≡ archiveAnswer (readArchive (now (s .entry))) ⌝ }
-    ensures { λ r. ⌜ Grouped dims bases (take (bases * dims) (now (codes .entry))) (take bases (now (sums .entry))) (take bases (now (counts .entry))) (now (store .exit)) (now (used .exit)) ⌝ }
+    ensures { λ r. ⌜ Grouped dims bases (take (bases * width dims) (now (rows .entry))) (now (store .exit)) (now (used .exit)) ⌝ }
 {
     let d = dims as usize;
     let n = bases as usize;
-    let size = n * d;
+    let size = n * (d + 3);
     if is_required(
         s,
-        &codes[..size],
-        &sums[..n],
-        &counts[..n],
+        &rows[..size],
         n,
         d,
         store,
@@ -160,9 +146,7 @@ fn judge_read(
 // The base rows of an archive whose fields are right, and their slots, into the arrays that are lent; what was read of it, or stop 12.
 pub fn read_judged(
     s: &[u8],
-    codes: &mut [u32; 8192],
-    sums: &mut [i64; 1024],
-    counts: &mut [u32; 1024],
+    rows: &mut [u32; 11264],
     store: &mut [u16; 262144],
     used: &mut [usize; 256],
     dims: u32,
@@ -171,11 +155,11 @@ pub fn read_judged(
 ) -> ArchiveRead
     requires { ⌜ archiveAnswer (walkArchive (now s)) ≡ ArchiveRead.Entries dims bases cells ⌝ }
     ensures { λ r. ⌜ r ≡ archiveAnswer (readArchive (now (s .entry))) ⌝ }
-    ensures { λ r. ⌜ Stored (readArchive (now (s .entry))) (now (codes .exit)) (now (sums .exit)) (now (counts .exit)) ⌝ }
-    ensures { λ r. ⌜ Grouped dims bases (take (bases * dims) (now (codes .exit))) (take bases (now (sums .exit))) (take bases (now (counts .exit))) (now (store .exit)) (now (used .exit)) ⌝ }
+    ensures { λ r. ⌜ Stored (readArchive (now (s .entry))) (now (rows .exit)) ⌝ }
+    ensures { λ r. ⌜ Grouped dims bases (take (bases * width dims) (now (rows .exit))) (now (store .exit)) (now (used .exit)) ⌝ }
 {
-    archive_entries::store_rows(s, dims, bases, codes, sums, counts);
-    judge_read(s, codes, sums, counts, dims, bases, cells, store, used)
+    archive_entries::store_rows(s, dims, bases, rows);
+    judge_read(s, rows, dims, bases, cells, store, used)
 }
 
 // What was read of an archive whose fields are right, or stop 12. Its base rows are not asked for.
@@ -183,16 +167,12 @@ fn judge_fields(s: &[u8], dims: u32, bases: u32, cells: u32) -> ArchiveRead
     requires { ⌜ archiveAnswer (walkArchive (now s)) ≡ ArchiveRead.Entries dims bases cells ⌝ }
     ensures { λ r. ⌜ r ≡ archiveAnswer (readArchive (now (s .entry))) ⌝ }
 {
-    let mut codes = [0u32; 8192];
-    let mut sums = [0i64; 1024];
-    let mut counts = [0u32; 1024];
+    let mut rows = [0u32; 11264];
     let mut store = [0u16; 262144];
     let mut used = [0usize; 256];
     read_judged(
         s,
-        &mut codes,
-        &mut sums,
-        &mut counts,
+        &mut rows,
         &mut store,
         &mut used,
         dims,
@@ -214,9 +194,7 @@ pub fn check_required(s: &[u8]) -> ArchiveRead
 // The same as `read_judged`, with slots of its own: they tell how many rows share the cells of each set.
 fn judge_sharing(
     s: &[u8],
-    codes: &mut [u32; 8192],
-    sums: &mut [i64; 1024],
-    counts: &mut [u32; 1024],
+    rows: &mut [u32; 11264],
     used: &mut [usize; 256],
     dims: u32,
     bases: u32,
@@ -224,29 +202,27 @@ fn judge_sharing(
 ) -> ArchiveRead
     requires { ⌜ archiveAnswer (walkArchive (now s)) ≡ ArchiveRead.Entries dims bases cells ⌝ }
     ensures { λ r. ⌜ r ≡ archiveAnswer (readArchive (now (s .entry))) ⌝ }
-    ensures { λ r. ⌜ Stored (readArchive (now (s .entry))) (now (codes .exit)) (now (sums .exit)) (now (counts .exit)) ⌝ }
-    ensures { λ r. ⌜ Shares (readArchive (now (s .entry))) (now (codes .exit)) (now (used .exit)) ⌝ }
+    ensures { λ r. ⌜ Stored (readArchive (now (s .entry))) (now (rows .exit)) ⌝ }
+    ensures { λ r. ⌜ Shares (readArchive (now (s .entry))) (now (rows .exit)) (now (used .exit)) ⌝ }
 {
     let mut store = [0u16; 262144];
-    read_judged(s, codes, sums, counts, &mut store, used, dims, bases, cells)
+    read_judged(s, rows, &mut store, used, dims, bases, cells)
 }
 
 // Reads an archive with all its stops, 1 to 12; its base rows into the arrays that are lent, and how many of them share the cells of each set but the full one.
 pub fn read_sharing(
     s: &[u8],
-    codes: &mut [u32; 8192],
-    sums: &mut [i64; 1024],
-    counts: &mut [u32; 1024],
+    rows: &mut [u32; 11264],
     used: &mut [usize; 256],
 ) -> ArchiveRead
     ensures { λ r. ⌜ r ≡ archiveAnswer (readArchive (now (s .entry))) ⌝ }
-    ensures { λ r. ⌜ Stored (readArchive (now (s .entry))) (now (codes .exit)) (now (sums .exit)) (now (counts .exit)) ⌝ }
-    ensures { λ r. ⌜ Shares (readArchive (now (s .entry))) (now (codes .exit)) (now (used .exit)) ⌝ }
+    ensures { λ r. ⌜ Stored (readArchive (now (s .entry))) (now (rows .exit)) ⌝ }
+    ensures { λ r. ⌜ Shares (readArchive (now (s .entry))) (now (rows .exit)) (now (used .exit)) ⌝ }
 {
     match archive_reader::check_archive(s) {
         ArchiveRead::Stop(n) => ArchiveRead::Stop(n),
         ArchiveRead::Entries { dims, bases, cells } => {
-            judge_sharing(s, codes, sums, counts, used, dims, bases, cells)
+            judge_sharing(s, rows, used, dims, bases, cells)
         }
     }
 }
@@ -254,19 +230,17 @@ pub fn read_sharing(
 // Reads an archive with all its stops, 1 to 12; its base rows into the arrays that are lent. The array for slots is lent too.
 pub fn read_lent(
     s: &[u8],
-    codes: &mut [u32; 8192],
-    sums: &mut [i64; 1024],
-    counts: &mut [u32; 1024],
+    rows: &mut [u32; 11264],
     store: &mut [u16; 262144],
 ) -> ArchiveRead
     ensures { λ r. ⌜ r ≡ archiveAnswer (readArchive (now (s .entry))) ⌝ }
-    ensures { λ r. ⌜ Stored (readArchive (now (s .entry))) (now (codes .exit)) (now (sums .exit)) (now (counts .exit)) ⌝ }
+    ensures { λ r. ⌜ Stored (readArchive (now (s .entry))) (now (rows .exit)) ⌝ }
 {
     let mut used = [0usize; 256];
     match archive_reader::check_archive(s) {
         ArchiveRead::Stop(n) => ArchiveRead::Stop(n),
         ArchiveRead::Entries { dims, bases, cells } => {
-            read_judged(s, codes, sums, counts, store, &mut used, dims, bases, cells)
+            read_judged(s, rows, store, &mut used, dims, bases, cells)
         }
     }
 }
@@ -274,13 +248,11 @@ pub fn read_lent(
 // The same as `read_lent`, with slots of its own.
 pub fn read_required(
     s: &[u8],
-    codes: &mut [u32; 8192],
-    sums: &mut [i64; 1024],
-    counts: &mut [u32; 1024],
+    rows: &mut [u32; 11264],
 ) -> ArchiveRead
     ensures { λ r. ⌜ r ≡ archiveAnswer (readArchive (now (s .entry))) ⌝ }
-    ensures { λ r. ⌜ Stored (readArchive (now (s .entry))) (now (codes .exit)) (now (sums .exit)) (now (counts .exit)) ⌝ }
+    ensures { λ r. ⌜ Stored (readArchive (now (s .entry))) (now (rows .exit)) ⌝ }
 {
     let mut used = [0usize; 256];
-    read_sharing(s, codes, sums, counts, &mut used)
+    read_sharing(s, rows, &mut used)
 }

@@ -15,52 +15,46 @@ ghost use Rattle.archive_cells.specs.Fitted.{Fitted};
 // The length of the archive, by how many normal entries it has.
 fn archive_len(
     sizes: &[u32],
-    codes: &[u32],
-    sums: &[i64],
-    counts: &[u32],
-    rows: usize,
+    rows: &[u32],
+    n: usize,
     sets: &[u8],
     lens: &[u32],
     cells: usize,
 ) -> usize
-    requires { ⌜ Listed (length (now sizes)) rows (now codes) (now sums) (now counts) (now sets) (now lens) × (cells ≡ length (normals (plain (length (now sizes))) (cut (length (now sizes)) rows (now codes)))) ⌝ }
-    requires { ⌜ Limits (now sizes) (rowsOf (length (now sizes)) rows (now codes) (now sums) (now counts)) ⌝ }
-    ensures { λ r. ⌜ r ≡ length (archiveBytes (now (sizes .entry)) (rowsOf (length (now (sizes .entry))) rows (now (codes .entry)) (now (sums .entry)) (now (counts .entry)))) ⌝ }
+    requires { ⌜ Listed (length (now sizes)) n (now rows) (now sets) (now lens) × (cells ≡ length (normals (plain (length (now sizes))) (cut (length (now sizes)) n (now rows)))) ⌝ }
+    requires { ⌜ Limits (now sizes) (rowsOf (length (now sizes)) n (now rows)) ⌝ }
+    ensures { λ r. ⌜ r ≡ length (archiveBytes (now (sizes .entry)) (rowsOf (length (now (sizes .entry))) n (now (rows .entry)))) ⌝ }
 {
     let dims = sizes.len();
-    let listed = archive_bases::sets_in(codes, sums, counts, rows, dims, sets, lens);
-    20 + 4 * dims + rows * (4 * dims + 16) + 4 * listed + cells * (4 * dims + 12)
+    let listed = archive_bases::sets_in(rows, n, dims, sets, lens);
+    20 + 4 * dims + n * (4 * dims + 16) + 4 * listed + cells * (4 * dims + 12)
 }
 
 // Writes the archive: header, base count, base entries, normal count, normal entries, check word.
 fn put_archive(
     out: &mut [u8],
     sizes: &[u32],
-    codes: &[u32],
-    sums: &[i64],
-    counts: &[u32],
-    rows: usize,
+    rows: &[u32],
+    n: usize,
     sets: &[u8],
     lens: &[u32],
     store: &[u16],
     used: &[usize],
     cells: usize,
 ) -> usize
-    requires { ⌜ Listed (length (now sizes)) rows (now codes) (now sums) (now counts) (now sets) (now lens) × Grouped (length (now sizes)) rows (now codes) (now sums) (now counts) (now store) (now used) × (cells ≡ length (normals (plain (length (now sizes))) (cut (length (now sizes)) rows (now codes)))) ⌝ }
-    requires { ⌜ length (archiveBytes (now sizes) (rowsOf (length (now sizes)) rows (now codes) (now sums) (now counts))) ≤ length (now out) ⌝ }
-    ensures { λ r. ⌜ Wrote (archiveBytes (now (sizes .entry)) (rowsOf (length (now (sizes .entry))) rows (now (codes .entry)) (now (sums .entry)) (now (counts .entry)))) (now (out .entry)) (now (out .exit)) r ⌝ }
+    requires { ⌜ Listed (length (now sizes)) n (now rows) (now sets) (now lens) × Grouped (length (now sizes)) n (now rows) (now store) (now used) × (cells ≡ length (normals (plain (length (now sizes))) (cut (length (now sizes)) n (now rows)))) ⌝ }
+    requires { ⌜ length (archiveBytes (now sizes) (rowsOf (length (now sizes)) n (now rows))) ≤ length (now out) ⌝ }
+    ensures { λ r. ⌜ Wrote (archiveBytes (now (sizes .entry)) (rowsOf (length (now (sizes .entry))) n (now (rows .entry)))) (now (out .entry)) (now (out .exit)) r ⌝ }
 {
     let dims = sizes.len();
     let mut at = archive_cells::put_header(out, sizes);
-    at += fields::put_word(&mut out[at..], rows as u32);
-    at += archive_bases::put_bases(&mut out[at..], codes, sums, counts, rows, dims, sets, lens);
+    at += fields::put_word(&mut out[at..], n as u32);
+    at += archive_bases::put_bases(&mut out[at..], rows, n, dims, sets, lens);
     at += fields::put_word(&mut out[at..], cells as u32);
     at += archive_normals::put_normals(
         &mut out[at..],
-        codes,
-        sums,
-        counts,
         rows,
+        n,
         dims,
         store,
         used,
@@ -72,48 +66,42 @@ fn put_archive(
 pub fn write_archive(
     out: &mut [u8],
     sizes: &[u32],
-    codes: &[u32],
-    sums: &[i64],
-    counts: &[u32],
-    rows: usize,
+    rows: &[u32],
+    n: usize,
     store: &mut [u16],
 ) -> usize
-    requires { ⌜ Ready (length (now sizes)) rows (now codes) (now sums) (now counts) × Limits (now sizes) (rowsOf (length (now sizes)) rows (now codes) (now sums) (now counts)) × (262144 ≤ length (now store)) ⌝ }
-    ensures { λ r. ⌜ Fitted (archiveBytes (now (sizes .entry)) (rowsOf (length (now (sizes .entry))) rows (now (codes .entry)) (now (sums .entry)) (now (counts .entry)))) (now (out .entry)) (now (out .exit)) r ⌝ }
+    requires { ⌜ Ready (length (now sizes)) n (now rows) × Limits (now sizes) (rowsOf (length (now sizes)) n (now rows)) × (262144 ≤ length (now store)) ⌝ }
+    ensures { λ r. ⌜ Fitted (archiveBytes (now (sizes .entry)) (rowsOf (length (now (sizes .entry))) n (now (rows .entry)))) (now (out .entry)) (now (out .exit)) r ⌝ }
 {
     let dims = sizes.len();
     let mut used = [0usize; 256];
     let mut sets = [0u8; 71680];
     let mut lens = [0u32; 1024];
     let cells = rows_condense::condense_rows(
-        codes,
         rows,
+        n,
         dims,
         store,
         &mut used,
         &mut sets,
-        &mut lens[..rows],
+        &mut lens[..n],
     );
     let len = archive_len(
         sizes,
-        codes,
-        sums,
-        counts,
         rows,
+        n,
         &sets,
-        &lens[..rows],
+        &lens[..n],
         cells,
     );
     if len <= out.len() {
         put_archive(
             out,
             sizes,
-            codes,
-            sums,
-            counts,
             rows,
+            n,
             &sets,
-            &lens[..rows],
+            &lens[..n],
             store,
             &used,
             cells,

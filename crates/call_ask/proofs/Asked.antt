@@ -34,14 +34,14 @@ found-told : (a : Answer Total) → foundAs (looked a) ≡ told a
 found-told no-record = refl
 found-told (found n t) = refl
 
-module _ {s : List ℕ} {d n m : ℕ} {codes : List ℕ} {sums : List ℤ} {counts : List ℕ} (o : Opened s d n m codes sums counts) where
+module _ {s : List ℕ} {d n m : ℕ} {ws : List ℕ} (o : Opened s d n m ws) where
   abbrev entries : List (Entry Total)
-  entries = ours (plain d) sums-measure (rowsOf d n codes sums counts)
+  entries = ours (plain d) sums-measure (rowsOf d n ws)
 
   entries-in : entriesIn (o .held) ≡ entries
   entries-in =
-      ap entriesIn (opened-held o) ∙ entries-required (o .held .sizes) (rowsOf d n codes sums counts)
-      ∙ ap (λ (k : ℕ). ours (plain k) sums-measure (rowsOf d n codes sums counts)) (o .dims)
+      ap entriesIn (opened-held o) ∙ entries-required (o .held .sizes) (rowsOf d n ws)
+      ∙ ap (λ (k : ℕ). ours (plain k) sums-measure (rowsOf d n ws)) (o .dims)
 
   module _ (q : List ℕ) where
     pub look-stopped : false ≡ asks (wordsAt s d 8) q → Find.Stop 13 ≡ looksUp s q

@@ -30,9 +30,9 @@ use Rattle.call_ask.proofs.Opened.{Opened, opened-bytes, opened-held}
 regroup : (h b w n l : List ℕ) → (h ++ (b ++ (w ++ n))) ++ l ≡ h ++ ((b ++ w) ++ (n ++ l))
 regroup h b w n l = append-assoc h (b ++ (w ++ n)) l ∙ ap (λ (x : List ℕ). h ++ x) (ap (λ (x : List ℕ). x ++ l) (sym (append-assoc b w n)) ∙ append-assoc (b ++ w) n l)
 
-module _ {s : List ℕ} {d n m : ℕ} {codes : List ℕ} {sums : List ℤ} {counts : List ℕ} (o : Opened s d n m codes sums counts) where
+module _ {s : List ℕ} {d n m : ℕ} {ws : List ℕ} (o : Opened s d n m ws) where
   abbrev table : List (Row Total)
-  table = rowsOf d n codes sums counts
+  table = rowsOf d n ws
 
   abbrev width : ℕ
   width = m * (4 * d + 12)
@@ -64,7 +64,7 @@ module _ {s : List ℕ} {d n m : ℕ} {codes : List ℕ} {sums : List ℤ} {coun
   normals-long : length normals ≡ width
   unfolding normalRows
   normals-long =
-      let base = rw (← rows-codes d n codes sums counts) at (ready-base (o .ready)) in
+      let base = rw (← rows-codes d n ws) at (ready-base (o .ready)) in
       length-flat cellBytes (4 * d + 12) (normalRows d table) (λ r i. cell-length d r (normals-wide d table base (o .ready .summable) i .0 .0))
       ∙ ap (λ (k : ℕ). k * (4 * d + 12)) (sym cells-are)
 

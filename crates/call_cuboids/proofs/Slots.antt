@@ -34,27 +34,27 @@ use Rattle.call_cuboids.specs.Cuboids.{cuboidBytes}
 use Rattle.call_cuboids.specs.Slotted.{Slotted, cellCount}
 use Rattle.call_cuboids.proofs.Lengths.{cuboid-length, no-rows, blank-here, blank-elsewhere}
 
-module _ {d n : ℕ} {codes : List ℕ} {sums : List ℤ} {counts : List ℕ} (ready : Ready d n codes sums counts) (s : ℕ) {slot : List ℕ}
-    (e : slot ≡ packed (crowds 1 (key s (cut d n codes)) n)) where
+module _ {d n : ℕ} {ws : List ℕ} (ready : Ready d n ws) (s : ℕ) {slot : List ℕ}
+    (e : slot ≡ packed (crowds 1 (key s (cut d n ws)) n)) where
   abbrev table : List (Row Total)
-  table = rowsOf d n codes sums counts
+  table = rowsOf d n ws
 
   abbrev keys : ℕ → List ℕ
-  keys = key s (cut d n codes)
+  keys = key s (cut d n ws)
 
   -- where there are rows
   module _ (some : n ≡ 0 → ⊥) where
-    cells-grouped : cells (plain d) measure table s ≡ map (filled (plain d) measure table) (cuboidOf (plain d) (cut d n codes) s)
+    cells-grouped : cells (plain d) measure table s ≡ map (filled (plain d) measure table) (cuboidOf (plain d) (cut d n ws) s)
     unfolding grouped
     cells-grouped =
-        cells-rows (plain d) measure table s (omega (arith, some, rows-length d n codes sums counts))
-        ∙ ap (λ (xs : List (List ℕ)). map (filled (plain d) measure table) (cuboidOf (plain d) xs s)) (rows-codes d n codes sums counts)
+        cells-rows (plain d) measure table s (omega (arith, some, rows-length d n ws))
+        ∙ ap (λ (xs : List (List ℕ)). map (filled (plain d) measure table) (cuboidOf (plain d) xs s)) (rows-codes d n ws)
 
-    pub slot-bytes : groupBytes sums counts keys slot ≡ flatMap cellBytes (cells (plain d) measure table s)
+    pub slot-bytes : groupBytes totals keys slot ≡ flatMap cellBytes (cells (plain d) measure table s)
     unfolding groupBytes
-    slot-bytes = ap (flatMap cellBytes) (ap (summed sums counts keys nothing) e ∙ summed-cuboid d n s codes sums counts (ready .size) (ready .few) (ready .table) ∙ sym cells-grouped)
+    slot-bytes = ap (flatMap cellBytes) (ap (summed totals keys nothing) e ∙ summed-cuboid d n s ws (ready .size) (ready .few) (ready .table) ∙ sym cells-grouped)
 
-    index : Indexed n d s codes (arranged keys n)
+    index : Indexed n d s ws (arranged keys n)
     index = record { size = ready .size; places = arranged-length keys n; order = refl }
 
     slot-ends : ends slot ≡ length (cells (plain d) measure table s)
@@ -65,16 +65,16 @@ module _ {d n : ℕ} {codes : List ℕ} {sums : List ℤ} {counts : List ℕ} (r
         ∙ ap length (keep-all (large 1) (runs keys (arranged keys n)) (λ r m. le-leb 1 (suc (length (r .more))) (omega arith)))
         ∙ sym (length-map (runs keys (arranged keys n)) (cellOf keys))
         ∙ ap length (indexed-cells index)
-        ∙ sym (ap length cells-grouped ∙ length-map (cuboidOf (plain d) (cut d n codes) s) (filled (plain d) measure table))
+        ∙ sym (ap length cells-grouped ∙ length-map (cuboidOf (plain d) (cut d n ws) s) (filled (plain d) measure table))
 
   -- where there are none
   module _ (none : n ≡ 0) where
     pub blank-cells : cells (plain d) measure [] s ≡ cells (plain d) measure table s
-    blank-cells = ap (λ (l : List (Row Total)). cells (plain d) measure l s) (sym (no-rows d n codes counts sums none))
+    blank-cells = ap (λ (l : List (Row Total)). cells (plain d) measure l s) (sym (no-rows d n ws counts sums none))
 
 -- how many cells there are
-pub slot-count : (d n : ℕ) {codes : List ℕ} {sums : List ℤ} {counts : List ℕ} → Ready d n codes sums counts → (s : ℕ) {slot : List ℕ} → slot ≡ packed (crowds 1 (key s (cut d n codes)) n)
-    → cellCount n s slot ≡ length (cells (plain d) measure (rowsOf d n codes sums counts) s)
+pub slot-count : (d n : ℕ) {ws : List ℕ} → Ready d n ws → (s : ℕ) {slot : List ℕ} → slot ≡ packed (crowds 1 (key s (cut d n ws)) n)
+    → cellCount n s slot ≡ length (cells (plain d) measure (rowsOf d n ws) s)
 slot-count d zero r zero e = ap length (blank-here d (replicate d 0) (length-replicate d 0)) ∙ ap length (blank-cells r zero e refl)
 slot-count d zero r (suc s) e = ap length (blank-elsewhere d (suc s) (λ z. omega (arith, z))) ∙ ap length (blank-cells r (suc s) e refl)
 slot-count d (suc n) r s e = slot-ends r s e (λ z. omega (arith, z))
@@ -90,23 +90,23 @@ existing-small d rows s h =
 
 -- ---- the slot of a set
 
-module _ {d n : ℕ} {codes : List ℕ} {sums : List ℤ} {counts store used : List ℕ} (rows : Slotted d n codes sums counts store used) {s : ℕ} (h : s < 2 ^ d) where
-  held : Holds 1 d n codes store used s
+module _ {d n : ℕ} {ws store used : List ℕ} (rows : Slotted d n ws store used) {s : ℕ} (h : s < 2 ^ d) where
+  held : Holds 1 d n ws store used s
   held = rows .slots .all s h
 
   pub slot-place : (s < 256) × (getD used s 0 ≤ 1024)
   slot-place = (omega (arith, h, pow-mono {i = d} {j = 8} (rows .ready .dims)), omega (arith, held .few, rows .ready .few))
 
   module _ {slot : List ℕ} (e : slot ≡ part s (getD used s 0) store) where
-    pub slot-is : slot ≡ packed (crowds 1 (key s (cut d n codes)) n)
+    pub slot-is : slot ≡ packed (crowds 1 (key s (cut d n ws)) n)
     slot-is = e ∙ held .slot
 
     pub slot-few : length slot ≤ 1024
-    slot-few = omega (arith, ap length slot-is, slot-length (key s (cut d n codes)) n 1 (rows .ready .few), flat-few (key s (cut d n codes)) n 1 (rows .ready .few), rows .ready .few)
+    slot-few = omega (arith, ap length slot-is, slot-length (key s (cut d n ws)) n 1 (rows .ready .few), flat-few (key s (cut d n ws)) n 1 (rows .ready .few), rows .ready .few)
 
     pub cells-few : cellCount n s slot ≤ 1024
-    cells-few = omega (arith, slot-count d n (rows .ready) s slot-is, existing-small d (rowsOf d n codes sums counts) s (omega (arith, rows-length d n codes sums counts, rows .ready .few)))
+    cells-few = omega (arith, slot-count d n (rows .ready) s slot-is, existing-small d (rowsOf d n ws) s (omega (arith, rows-length d n ws, rows .ready .few)))
 
     -- how long the cuboid is
-    pub slot-long : length (cuboidBytes d (rowsOf d n codes sums counts) s) ≡ 4 + cellCount n s slot * (4 * d + 12)
-    slot-long = cuboid-length d (rowsOf d n codes sums counts) s (rows .ready .table) ∙ ap (λ (k : ℕ). 4 + k * (4 * d + 12)) (sym (slot-count d n (rows .ready) s slot-is))
+    pub slot-long : length (cuboidBytes d (rowsOf d n ws) s) ≡ 4 + cellCount n s slot * (4 * d + 12)
+    slot-long = cuboid-length d (rowsOf d n ws) s (rows .ready .table) ∙ ap (λ (k : ℕ). 4 + k * (4 * d + 12)) (sym (slot-count d n (rows .ready) s slot-is))

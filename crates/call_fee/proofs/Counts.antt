@@ -18,17 +18,17 @@ use Rattle.cube.proofs.Readings.{count-cells}
 use Rattle.rows.specs.Rows.{rowsOf}
 use Rattle.call_fee.specs.Fees.{countIn, weights}
 
-rows-counts : (d n : ℕ) (codes : List ℕ) (sums : List ℤ) (counts : List ℕ) → n ≤ length counts → map countIn (rowsOf d n codes sums counts) ≡ take n counts
+rows-counts : (d n : ℕ) (ws : List ℕ) → n ≤ length counts → map countIn (rowsOf d n ws) ≡ take n counts
 unfolding rowsOf
-rows-counts d zero codes sums counts h = refl
-rows-counts d (suc n) codes sums [] h = absurd (omega arith)
-rows-counts d (suc n) codes sums (c ∷ counts) h = ap (λ (l : List ℕ). c ∷ l) (rows-counts d n (drop d codes) (drop 1 sums) counts (omega (arith, h)))
+rows-counts d zero ws h = refl
+rows-counts d (suc n) ws sums [] h = absurd (omega arith)
+rows-counts d (suc n) ws sums (c ∷ counts) h = ap (λ (l : List ℕ). c ∷ l) (rows-counts d n (drop d ws) (drop 1 sums) counts (omega (arith, h)))
 
 -- the counts of grouped rows are the weights
-pub weights-front : (d n : ℕ) (codes : List ℕ) (amounts : List ℤ) (tallies : List ℕ) (rows : List (Row Total)) (s : ℕ) → 0 < length rows → n ≤ length tallies
-    → rowsOf d n codes amounts tallies ≡ grouped (plain d) measure rows s → take n tallies ≡ weights d rows s
+pub weights-front : (d n : ℕ) (ws : List ℕ) (amounts : List ℤ) (tallies : List ℕ) (rows : List (Row Total)) (s : ℕ) → 0 < length rows → n ≤ length tallies
+    → rowsOf d n ws amounts tallies ≡ grouped (plain d) measure rows s → take n tallies ≡ weights d rows s
 unfolding weights
-weights-front d n codes amounts tallies rows s some h e = sym (rows-counts d n codes amounts tallies h) ∙ ap (map countIn) (e ∙ sym (cells-rows (plain d) measure rows s some))
+weights-front d n ws amounts tallies rows s some h e = sym (rows-counts d n ws amounts tallies h) ∙ ap (map countIn) (e ∙ sym (cells-rows (plain d) measure rows s some))
 
 sum-counts : (l : List (Row Total)) → sum (map countIn l) ≡ countOf l
 sum-counts [] = refl

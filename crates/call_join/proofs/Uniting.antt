@@ -25,20 +25,20 @@ use Rattle.call_join.specs.Stores.{Store}
 use Rattle.call_join.proofs.Limits.{filed-counts, filed-over, limits-merged, filed-merged}
 
 -- the readings of rows in flat lists
-count-sum : (d : ℕ) (codes : List ℕ) (sums : List ℤ) (counts : List ℕ) → countOf (rowsOf d (length counts) codes sums counts) ≡ sum counts
+count-sum : (d : ℕ) (ws : List ℕ) → countOf (rowsOf d (length counts) ws) ≡ sum counts
 unfolding rowsOf
-count-sum d codes sums [] = refl
-count-sum d codes sums (n ∷ counts) = ap (λ (k : ℕ). n + k) (count-sum d (drop d codes) (drop 1 sums) counts)
+count-sum d ws sums [] = refl
+count-sum d ws sums (n ∷ counts) = ap (λ (k : ℕ). n + k) (count-sum d (drop d ws) (drop 1 sums) counts)
 
-module _ {zs codes : List ℕ} {sums : List ℤ} {counts codes′ : List ℕ} {sums′ : List ℤ} {counts′ : List ℕ} (p : Store zs codes sums counts) (q : Store zs codes′ sums′ counts′) where
+module _ {zs ws : List ℕ} {sums : List ℤ} {counts ws′ : List ℕ} {sums′ : List ℤ} {counts′ : List ℕ} (p : Store zs ws) (q : Store zs ws′ sums′ counts′) where
   abbrev first : List (Row Total)
-  first = rowsOf (length zs) (length counts) codes sums counts
+  first = rowsOf (length zs) (length counts) ws
 
   abbrev second : List (Row Total)
-  second = rowsOf (length zs) (length counts′) codes′ sums′ counts′
+  second = rowsOf (length zs) (length counts′) ws′ sums′ counts′
 
   counted : countOf first + countOf second ≡ sum counts + sum counts′
-  counted = omega (arith, count-sum (length zs) codes sums counts, count-sum (length zs) codes′ sums′ counts′)
+  counted = omega (arith, count-sum (length zs) ws, count-sum (length zs) ws′ sums′ counts′)
 
   pub stores-small : sum counts + sum counts′ ≤ 2097152
   stores-small = omega (arith, counted, p .limits .counts, q .limits .counts)
@@ -46,7 +46,7 @@ module _ {zs codes : List ℕ} {sums : List ℤ} {counts codes′ : List ℕ} {s
   pub stores-many : 1048576 < sum counts + sum counts′ → filed zs (united totals (length zs) first second) ≡ stop 18
   stores-many h = filed-counts zs first second (p .limits) (q .limits) (omega (arith, h, counted))
 
-  pub stores-pair : sum counts + sum counts′ ≤ 1048576 → Pair (length zs) codes sums counts codes′ sums′ counts′
+  pub stores-pair : sum counts + sum counts′ ≤ 1048576 → Pair (length zs) ws ws′ sums′ counts′
   stores-pair h = record { one = p .ready; other = q .ready; few = omega (arith, h, counted) }
 
   module _ {n : ℕ} {cells : List ℕ} {amounts : List ℤ} {tallies : List ℕ} (s : Collected 1024 (merged totals first second) (length zs) n cells amounts tallies) where

@@ -35,9 +35,9 @@ pub record FixedTo (xs : List (List ℕ)) (index : List ℕ) (s t k : ℕ) : Typ
 pub fixed-none : (xs : List (List ℕ)) (index : List ℕ) (s t : ℕ) → FixedTo xs index s t 1
 fixed-none xs index s t = record { each = λ i j h g. absurd (omega arith) }
 
-module _ {rows dims s : ℕ} {codes index : List ℕ} (x : Indexed rows dims s codes index) where
+module _ {rows dims s : ℕ} {ws index : List ℕ} (x : Indexed rows dims s ws index) where
   abbrev xs : List (List ℕ)
-  xs = cut dims rows codes
+  xs = cut dims rows ws
 
   abbrev at : ℕ → List ℕ
   at = placed xs index
@@ -58,7 +58,7 @@ module _ {rows dims s : ℕ} {codes index : List ℕ} (x : Indexed rows dims s c
   row-at : {y : List ℕ} → y ∈ xs → (k : ℕ) × (k < rows) × (at k ≡ y)
   row-at m =
       let r = in-at [] m in
-      let h : r .0 < rows = omega (arith, r .1, cut-length dims rows codes) in
+      let h : r .0 < rows = omega (arith, r .1, cut-length dims rows ws) in
       let p = in-at 0 (indexed-of x h) in
       (p .0, omega (arith, p .1, x .places), ap (rowAt xs) (p .2) ∙ r .2)
 

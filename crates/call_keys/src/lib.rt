@@ -12,7 +12,7 @@ ghost use Rattle.cube.specs.Keys.{fixes as fixing};
 ghost use Rattle.rows_order.specs.Index.{Valid};
 ghost use Rattle.archive_entries.specs.Reading.{readArchive};
 ghost use Rattle.archive_judge.specs.Sharing.{Shares};
-ghost use Rattle.rows.specs.Rows.{cut, rowAt};
+ghost use Rattle.rows.specs.Rows.{width, cut, rowAt};
 ghost use Rattle.archive_cells.specs.ListBytes.{listBytes};
 ghost use Rattle.call_answers.specs.Answers.{bytes, Answered};
 ghost use Rattle.call_ask.specs.Accepts.{Accepts};
@@ -41,19 +41,19 @@ fn agrees(mine: &[u32], other: &[u32], set: u32) -> bool
 
 // Whether rows i and j agree on a set of `fixed` dimensions if they agree on a set.
 fn pair_fixes(
-    codes: &[u32],
-    rows: usize,
+    rows: &[u32],
+    n: usize,
     dims: usize,
     set: u32,
     fixed: u32,
     i: usize,
     j: usize,
 ) -> bool
-    requires { ⌜ (rows * dims ≡ length (now codes)) × (i < rows) × (j < rows) ⌝ }
-    ensures { λ r. ⌜ r ≡ follows set fixed (rowAt (cut dims rows (now (codes .entry))) i) (rowAt (cut dims rows (now (codes .entry))) j) ⌝ }
+    requires { ⌜ (n * width dims ≡ length (now rows)) × (i < n) × (j < n) ⌝ }
+    ensures { λ r. ⌜ r ≡ follows set fixed (rowAt (cut dims n (now (rows .entry))) i) (rowAt (cut dims n (now (rows .entry))) j) ⌝ }
 {
-    let mine = rows::row_of(codes, rows, dims, i);
-    let other = rows::row_of(codes, rows, dims, j);
+    let mine = rows::row_of(rows, n, dims, i);
+    let other = rows::row_of(rows, n, dims, j);
     if !agrees(mine, other, set) {
         return true;
     }
@@ -63,21 +63,21 @@ fn pair_fixes(
 // Whether rows that agree on a set agree on a set of `fixed` dimensions. In the order of the set, which the index takes, rows that agree on it stand side by side,
 // so neighbours tell.
 fn neighbours_fix(
-    codes: &[u32],
-    rows: usize,
+    rows: &[u32],
+    n: usize,
     dims: usize,
     set: u32,
     fixed: u32,
     index: &mut [u32],
 ) -> bool
-    requires { ⌜ (rows * dims ≡ length (now codes)) × (length (now index) ≡ rows) × (rows ≤ 1024) × Valid dims (cut dims rows (now codes)) ⌝ }
-    ensures { λ r. ⌜ r ≡ fixing (plain dims) (cut dims rows (now (codes .entry))) set fixed ⌝ }
+    requires { ⌜ (n * width dims ≡ length (now rows)) × (length (now index) ≡ n) × (n ≤ 1024) × Valid dims (cut dims n (now rows)) ⌝ }
+    ensures { λ r. ⌜ r ≡ fixing (plain dims) (cut dims n (now (rows .entry))) set fixed ⌝ }
 {
-    rows_order::order_rows(codes, rows, dims, set, index);
-    for k in 1..rows {
+    rows_order::order_rows(rows, n, dims, set, index);
+    for k in 1..n {
         let i = index[k - 1] as usize;
         let j = index[k] as usize;
-        if !pair_fixes(codes, rows, dims, set, fixed, i, j) {
+        if !pair_fixes(rows, n, dims, set, fixed, i, j) {
             return false;
         }
     }
@@ -85,12 +85,12 @@ fn neighbours_fix(
 }
 
 // Whether rows that agree on a set agree on a set of `fixed` dimensions.
-fn rows_fix(codes: &[u32], rows: usize, dims: usize, set: u32, fixed: u32) -> bool
-    requires { ⌜ Laid dims rows (now codes) ⌝ }
-    ensures { λ r. ⌜ r ≡ fixing (plain dims) (cut dims rows (now (codes .entry))) set fixed ⌝ }
+fn rows_fix(rows: &[u32], n: usize, dims: usize, set: u32, fixed: u32) -> bool
+    requires { ⌜ Laid dims n (now rows) ⌝ }
+    ensures { λ r. ⌜ r ≡ fixing (plain dims) (cut dims n (now (rows .entry))) set fixed ⌝ }
 {
     let mut index = [0u32; 1024];
-    neighbours_fix(codes, rows, dims, set, fixed, &mut index[..rows])
+    neighbours_fix(rows, n, dims, set, fixed, &mut index[..n])
 }
 
 // Whether no cell of a set is shared.
@@ -164,16 +164,14 @@ fn fit_bare(out: &mut [u8], dims: usize, used: &[usize]) -> Written
 // Lists the smallest keys of an archive that was accepted: the smallest sets of which its base rows share no cell.
 fn keys_read(
     s: &[u8],
-    codes: &[u32],
-    sums: &[i64],
-    counts: &[u32],
+    rows: &[u32],
     dims: u32,
     bases: u32,
     cells: u32,
     used: &[usize],
     out: &mut [u8],
 ) -> Written
-    requires { ⌜ Accepts (now s) (now codes) (now sums) (now counts) dims bases cells × Shares (readArchive (now s)) (now codes) (now used) ⌝ }
+    requires { ⌜ Accepts (now s) (now rows) dims bases cells × Shares (readArchive (now s)) (now rows) (now used) ⌝ }
     ensures { λ r. ⌜ Answered (listsKeys (now (s .entry))) (now (out .entry)) (now (out .exit)) r ⌝ }
 {
     fit_bare(out, dims as usize, used)
@@ -182,18 +180,16 @@ fn keys_read(
 // Reads an archive into the arrays that are lent, and lists its smallest keys.
 fn keys_in(
     s: &[u8],
-    codes: &mut [u32; 8192],
-    sums: &mut [i64; 1024],
-    counts: &mut [u32; 1024],
+    rows: &mut [u32; 11264],
     used: &mut [usize; 256],
     out: &mut [u8],
 ) -> Written
     ensures { λ r. ⌜ Answered (listsKeys (now (s .entry))) (now (out .entry)) (now (out .exit)) r ⌝ }
 {
-    match archive_judge::read_sharing(s, codes, sums, counts, used) {
+    match archive_judge::read_sharing(s, rows, used) {
         ArchiveRead::Stop(n) => Written::Stop(n),
         ArchiveRead::Entries { dims, bases, cells } => {
-            keys_read(s, codes, sums, counts, dims, bases, cells, used, out)
+            keys_read(s, rows, dims, bases, cells, used, out)
         }
     }
 }
@@ -202,26 +198,22 @@ fn keys_in(
 pub fn smallest_keys(archive: &[u8], out: &mut [u8]) -> Written
     ensures { λ r. ⌜ Answered (listsKeys (now (archive .entry))) (now (out .entry)) (now (out .exit)) r ⌝ }
 {
-    let mut codes = [0u32; 8192];
-    let mut sums = [0i64; 1024];
-    let mut counts = [0u32; 1024];
+    let mut rows = [0u32; 11264];
     let mut used = [0usize; 256];
-    keys_in(archive, &mut codes, &mut sums, &mut counts, &mut used, out)
+    keys_in(archive, &mut rows, &mut used, out)
 }
 
 // Tells whether a set fixes a dimension in an archive that was accepted.
 fn fixes_read(
     s: &[u8],
-    codes: &[u32],
-    sums: &[i64],
-    counts: &[u32],
+    rows: &[u32],
     dims: u32,
     bases: u32,
     cells: u32,
     set: u32,
     dimension: u32,
 ) -> Fixed
-    requires { ⌜ Accepts (now s) (now codes) (now sums) (now counts) dims bases cells ⌝ }
+    requires { ⌜ Accepts (now s) (now rows) dims bases cells ⌝ }
     ensures { λ r. ⌜ r ≡ tellsFixed (now (s .entry)) set dimension ⌝ }
 {
     if lattice::sets_of(dims) <= set {
@@ -235,9 +227,9 @@ fn fixes_read(
     }
     let d = dims as usize;
     let n = bases as usize;
-    let size = n * d;
+    let size = n * (d + 3);
     let fixed = lattice::sets_of(dimension - 1);
-    if rows_fix(&codes[..size], n, d, set, fixed) {
+    if rows_fix(&rows[..size], n, d, set, fixed) {
         Fixed::Yes
     } else {
         Fixed::No
@@ -247,18 +239,16 @@ fn fixes_read(
 // Reads an archive into the arrays that are lent, and tells whether a set fixes a dimension.
 fn fixes_in(
     s: &[u8],
-    codes: &mut [u32; 8192],
-    sums: &mut [i64; 1024],
-    counts: &mut [u32; 1024],
+    rows: &mut [u32; 11264],
     set: u32,
     dimension: u32,
 ) -> Fixed
     ensures { λ r. ⌜ r ≡ tellsFixed (now (s .entry)) set dimension ⌝ }
 {
-    match archive_judge::read_required(s, codes, sums, counts) {
+    match archive_judge::read_required(s, rows) {
         ArchiveRead::Stop(n) => Fixed::Stop(n),
         ArchiveRead::Entries { dims, bases, cells } => {
-            fixes_read(s, codes, sums, counts, dims, bases, cells, set, dimension)
+            fixes_read(s, rows, dims, bases, cells, set, dimension)
         }
     }
 }
@@ -267,8 +257,6 @@ fn fixes_in(
 pub fn fixes(archive: &[u8], set: u32, dimension: u32) -> Fixed
     ensures { λ r. ⌜ r ≡ tellsFixed (now (archive .entry)) set dimension ⌝ }
 {
-    let mut codes = [0u32; 8192];
-    let mut sums = [0i64; 1024];
-    let mut counts = [0u32; 1024];
-    fixes_in(archive, &mut codes, &mut sums, &mut counts, set, dimension)
+    let mut rows = [0u32; 11264];
+    fixes_in(archive, &mut rows, set, dimension)
 }

@@ -16,12 +16,12 @@ use Rattle.rows_slots.proofs.Totalled.{summed-shared}
 use Rattle.rows_ready.specs.Ready.{Ready}
 use Rattle.rows_condense.specs.Shared.{sharedRows}
 
-module _ {d n : ℕ} {codes : List ℕ} {sums : List ℤ} {counts : List ℕ} (ready : Ready d n codes sums counts) (s : ℕ) (slot : List ℕ)
-    (e : slot ≡ packed (crowds 2 (key s (cut d n codes)) n)) where
-  pub slot-shared : summed sums counts (key s (cut d n codes)) nothing slot ≡ sharedRows d (rowsOf d n codes sums counts) s
+module _ {d n : ℕ} {ws : List ℕ} (ready : Ready d n ws) (s : ℕ) (slot : List ℕ)
+    (e : slot ≡ packed (crowds 2 (key s (cut d n ws)) n)) where
+  pub slot-shared : summed totals (key s (cut d n ws)) nothing slot ≡ sharedRows d (rowsOf d n ws) s
   unfolding sharedRows
   slot-shared =
-      let rows = rowsOf d n codes sums counts in
-      ap (summed sums counts (key s (cut d n codes)) nothing) e
-      ∙ summed-shared d n s codes sums counts (ready .size) (ready .few) (ready .table)
-      ∙ ap (λ (l : List (List ℕ)). map (filled (plain d) measure rows) (shared (plain d) l s)) (sym (rows-codes d n codes sums counts))
+      let rows = rowsOf d n ws in
+      ap (summed totals (key s (cut d n ws)) nothing) e
+      ∙ summed-shared d n s ws (ready .size) (ready .few) (ready .table)
+      ∙ ap (λ (l : List (List ℕ)). map (filled (plain d) measure rows) (shared (plain d) l s)) (sym (rows-codes d n ws))

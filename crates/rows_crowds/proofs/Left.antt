@@ -87,14 +87,14 @@ flat-run (r ∷ rs) m = cases (List·Memᴰ·append-cases (members r) m)
     (λ i. (r, List·Memᴰ·head refl, i))
     (λ i. let q = flat-run rs i in (q .0, List·Memᴰ·tail (q .1), q .2))
 
-module _ (d n s : ℕ) (codes : List ℕ) (size : n * d ≡ length codes) (few : n ≤ 1024) (b : Base (plain d) (cut d n codes)) where
+module _ (d n s : ℕ) (ws : List ℕ) (size : n * width d ≡ length ws) (few : n ≤ 1024) (b : Base (plain d) (cut d n ws)) where
   abbrev rows : List (List ℕ)
-  rows = cut d n codes
+  rows = cut d n ws
 
   abbrev keys : ℕ → List ℕ
-  keys = key s (cut d n codes)
+  keys = key s (cut d n ws)
 
-  index : Indexed n d s codes (arranged keys n)
+  index : Indexed n d s ws (arranged keys n)
   index = record { size = size; places = arranged-length keys n; order = refl }
 
   -- as many as there are shared cells

@@ -39,24 +39,24 @@ shorter-done m done rest s h one l e =
     (subst (λ (z : List ℕ). shorter s ∈ z) (sym e) (all-of m h (omega (arith, shorter-less s one small, l))))
     (shorter-before s one small)
 
-pub record Filling (least d n : ℕ) (codes store sizes : List ℕ) (m k : ℕ) : Type 0 where
+pub record Filling (least d n : ℕ) (ws store sizes : List ℕ) (m k : ℕ) : Type 0 where
   pub below : k ≤ 256
   pub done : List ℕ
   pub left : done ++ setsFrom m k ≡ setsFrom m 0
-  pub held : (t : ℕ) → t ∈ done → Holds least d n codes store sizes t
+  pub held : (t : ℕ) → t ∈ done → Holds least d n ws store sizes t
 
-module _ {least d n : ℕ} {codes : List ℕ} {m : ℕ} (few : m ≤ 256) where
-  pub filling-start : (store sizes : List ℕ) → Filling least d n codes store sizes m 0
+module _ {least d n : ℕ} {ws : List ℕ} {m : ℕ} (few : m ≤ 256) where
+  pub filling-start : (store sizes : List ℕ) → Filling least d n ws store sizes m 0
   filling-start store sizes = record { below = omega arith; done = []; left = refl; held = λ t i. absurd (List·Memᴰ·not-nil i) }
 
-  module _ {store sizes : List ℕ} {k : ℕ} (f : Filling least d n codes store sizes m k) where
-    pub filling-done : 256 ≤ k → AllHold least d n codes store sizes m
+  module _ {store sizes : List ℕ} {k : ℕ} (f : Filling least d n ws store sizes m k) where
+    pub filling-done : 256 ≤ k → AllHold least d n ws store sizes m
     filling-done h =
         let e : f .done ≡ setsFrom m 0 = sym (append-nil (f .done)) ∙ ap (λ (l : List ℕ). f .done ++ l) (sym (from-done m k h)) ∙ f .left in
         record { all = λ s l. f .held s (subst (λ (z : List ℕ). s ∈ z) (sym e) (all-of m few l)) }
 
     module _ {s : ℕ} (h : k < 256) (e : s ≡ getD (sets 8) k 0) where
-      pub filling-skip : m ≤ s → Filling least d n codes store sizes m (k + 1)
+      pub filling-skip : m ≤ s → Filling least d n ws store sizes m (k + 1)
       filling-skip l = record {
         below = omega arith;
         done = f .done;
@@ -68,10 +68,10 @@ module _ {least d n : ℕ} {codes : List ℕ} {m : ℕ} (few : m ≤ 256) where
         next : f .done ++ s ∷ setsFrom m (k + 1) ≡ setsFrom m 0
         next = rw e (ap (λ (z : List ℕ). f .done ++ z) (sym (from-on m k h (rw e at l))) ∙ f .left)
 
-        pub filling-shorter : 1 ≤ s → Holds least d n codes store sizes (shorter s)
+        pub filling-shorter : 1 ≤ s → Holds least d n ws store sizes (shorter s)
         filling-shorter one = f .held (shorter s) (shorter-done m (f .done) (setsFrom m (k + 1)) s few one l next)
 
-        pub filling-more : {store₂ sizes₂ : List ℕ} → Filled least d n codes store sizes store₂ sizes₂ s → Filling least d n codes store₂ sizes₂ m (k + 1)
+        pub filling-more : {store₂ sizes₂ : List ℕ} → Filled least d n ws store sizes store₂ sizes₂ s → Filling least d n ws store₂ sizes₂ m (k + 1)
         filling-more g = record {
           below = omega arith;
           done = f .done ++ s ∷ [];

@@ -32,12 +32,12 @@ store-room d k h l = let m = mul-le-mul l h in rw (← suc-mul k d) (omega (arit
 bounded-at : (rows : List (Row Total)) (i : ℕ) {r : Row Total} → Summable rows → i < length rows → getD rows i blank ≡ r → Bounded (r .total)
 bounded-at rows i s h e = subst (λ (r : Row Total). Bounded (r .total)) e (s .each (getD rows i blank) (at-in blank rows i h))
 
-module _ {d : ℕ} {codes : List ℕ} {amounts : List ℤ} {counts codes′ : List ℕ} {amounts′ : List ℤ} {counts′ : List ℕ} (p : Pair d codes amounts counts codes′ amounts′ counts′) where
+module _ {d : ℕ} {ws : List ℕ} {amounts : List ℤ} {counts ws′ : List ℕ} {amounts′ : List ℤ} {counts′ : List ℕ} (p : Pair d ws ws′ amounts′ counts′) where
   abbrev first : List (Row Total)
-  first = rowsOf d (length counts) codes amounts counts
+  first = rowsOf d (length counts) ws
 
   abbrev second : List (Row Total)
-  second = rowsOf d (length counts′) codes′ amounts′ counts′
+  second = rowsOf d (length counts′) ws′ amounts′ counts′
 
   abbrev firsts : ℕ
   firsts = length counts
@@ -55,10 +55,10 @@ module _ {d : ℕ} {codes : List ℕ} {amounts : List ℤ} {counts codes′ : Li
   -- two rows can be added
   pub pair-adds : (i j : ℕ) → i < firsts → j < seconds → Bounded (mine i) × Bounded (other j) × (mine i .count + other j .count ≤ most)
   pair-adds i j h k =
-      let e = rows-at d firsts i codes amounts counts h in
-      let f = rows-at d seconds j codes′ amounts′ counts′ k in
-      let n : i < length first = omega (arith, h, rows-length d firsts codes amounts counts) in
-      let m : j < length second = omega (arith, k, rows-length d seconds codes′ amounts′ counts′) in (
+      let e = rows-at d firsts i ws h in
+      let f = rows-at d seconds j ws′ amounts′ counts′ k in
+      let n : i < length first = omega (arith, h, rows-length d firsts ws) in
+      let m : j < length second = omega (arith, k, rows-length d seconds ws′ amounts′ counts′) in (
         bounded-at first i (p .one .summable) n e,
         bounded-at second j (p .other .summable) m f,
         omega (arith, ap (λ (r : Row Total). r .total .count) e, ap (λ (r : Row Total). r .total .count) f, p .few, count-le first (at-in blank first i n), count-le second (at-in blank second j m)),
@@ -67,27 +67,27 @@ module _ {d : ℕ} {codes : List ℕ} {amounts : List ℤ} {counts codes′ : Li
   module _ (i j : ℕ) where
     -- whose turn it is, by the codes of both lists
     abbrev here : Turn
-    here = turn (drop i (cut d firsts codes)) (drop j (cut d seconds codes′))
+    here = turn (drop i (cut d firsts ws)) (drop j (cut d seconds ws′))
 
     by-rows : {t : Turn} → here ≡ t → turn (drop i (codesOf first)) (drop j (codesOf second)) ≡ t
-    by-rows e = rw (rows-codes d firsts codes amounts counts, rows-codes d seconds codes′ amounts′ counts′) e
+    by-rows e = rw (rows-codes d firsts ws, rows-codes d seconds ws′ amounts′ counts′) e
 
     pub turn-first : here ≡ First → i < firsts
-    turn-first e = omega (arith, left-first sums blank first second i j (by-rows e), rows-length d firsts codes amounts counts)
+    turn-first e = omega (arith, left-first sums blank first second i j (by-rows e), rows-length d firsts ws)
 
     pub turn-second : here ≡ Second → i ≤ firsts → i + j < firsts + seconds → j < seconds
     turn-second e h k =
-        let n = rows-length d firsts codes amounts counts in
-        let m = rows-length d seconds codes′ amounts′ counts′ in
+        let n = rows-length d firsts ws in
+        let m = rows-length d seconds ws′ amounts′ counts′ in
         omega (arith, m, left-second sums blank first second i j (by-rows e) (omega (arith, n, h)) (omega (arith, n, m, k)))
 
     pub turn-both : here ≡ Both → (i < firsts) × (j < seconds)
     turn-both e =
         let l = left-both sums blank first second i j (by-rows e) in
-        (omega (arith, l .0, rows-length d firsts codes amounts counts), omega (arith, l .1, rows-length d seconds codes′ amounts′ counts′))
+        (omega (arith, l .0, rows-length d firsts ws), omega (arith, l .1, rows-length d seconds ws′ amounts′ counts′))
 
-    module _ {done done′ : List (Row Total)} {x : List ℕ} {t : Total} (g : Passed d codes amounts counts codes′ amounts′ counts′ i j done) (s : done′ ≡ done ++ record { codes = cell 255 x; total = t } ∷ []) where
-      pub passed-first : here ≡ First → x ≡ rowAt (cut d firsts codes) i → t ≡ mine i → Passed d codes amounts counts codes′ amounts′ counts′ (i + 1) j done′
+    module _ {done done′ : List (Row Total)} {x : List ℕ} {t : Total} (g : Passed d ws ws′ amounts′ counts′ i j done) (s : done′ ≡ done ++ record { codes = cell 255 x; total = t } ∷ []) where
+      pub passed-first : here ≡ First → x ≡ rowAt (cut d firsts ws) i → t ≡ mine i → Passed d ws ws′ amounts′ counts′ (i + 1) j done′
       passed-first e q f =
           let h = turn-first e in
           record {
@@ -97,20 +97,20 @@ module _ {d : ℕ} {codes : List ℕ} {amounts : List ℤ} {counts codes′ : Li
                 (merging-first sums blank first second i j done (g .merging) (by-rows e));
           }
 
-      pub passed-second : here ≡ Second → j < seconds → x ≡ rowAt (cut d seconds codes′) j → t ≡ other j → Passed d codes amounts counts codes′ amounts′ counts′ i (j + 1) done′
+      pub passed-second : here ≡ Second → j < seconds → x ≡ rowAt (cut d seconds ws′) j → t ≡ other j → Passed d ws ws′ amounts′ counts′ i (j + 1) done′
       passed-second e h q f = record {
         of-one = g .of-one;
         of-other = omega (arith, h);
         merging = subst (λ (l : List (Row Total)). Merging sums first second l (drop i first) (drop (j + 1) second)) (sym (s ∙ ap (λ (r : Row Total). done ++ r ∷ []) (ready-row (p .other) j h q f)))
-            (merging-second sums blank first second i j done (g .merging) (by-rows e) (omega (arith, h, rows-length d seconds codes′ amounts′ counts′)));
+            (merging-second sums blank first second i j done (g .merging) (by-rows e) (omega (arith, h, rows-length d seconds ws′ amounts′ counts′)));
       }
 
-      pub passed-both : here ≡ Both → x ≡ rowAt (cut d firsts codes) i → t ≡ plus (mine i) (other j) → Passed d codes amounts counts codes′ amounts′ counts′ (i + 1) (j + 1) done′
+      pub passed-both : here ≡ Both → x ≡ rowAt (cut d firsts ws) i → t ≡ plus (mine i) (other j) → Passed d ws ws′ amounts′ counts′ (i + 1) (j + 1) done′
       passed-both e q f =
           let h = turn-both e in
           let r : record { codes = cell 255 x; total = t } ≡ asOne sums (getD first i blank) (getD second j blank) =
           ap (λ (u : Total). record { codes = cell 255 x; total = u }) f
-          ∙ ap₂ (asOne sums) (ready-row (p .one) i (h .0) q refl) (sym (rows-at d seconds j codes′ amounts′ counts′ (h .1))) in
+          ∙ ap₂ (asOne sums) (ready-row (p .one) i (h .0) q refl) (sym (rows-at d seconds j ws′ amounts′ counts′ (h .1))) in
           record {
             of-one = omega (arith, h .0);
             of-other = omega (arith, h .1);
@@ -120,22 +120,22 @@ module _ {d : ℕ} {codes : List ℕ} {amounts : List ℤ} {counts codes′ : Li
 
   -- ---- the whole pass
 
-  pub passed-start : Passed d codes amounts counts codes′ amounts′ counts′ 0 0 []
+  pub passed-start : Passed d ws ws′ amounts′ counts′ 0 0 []
   passed-start = record { of-one = omega arith; of-other = omega arith; merging = merging-start sums first second }
 
-  module _ {i j k : ℕ} {cells : List ℕ} {totals : List ℤ} {tallies : List ℕ} (g : Passed d codes amounts counts codes′ amounts′ counts′ i j (rowsOf d k cells totals tallies)) where
+  module _ {i j k : ℕ} {cells : List ℕ} {totals : List ℤ} {tallies : List ℕ} (g : Passed d ws ws′ amounts′ counts′ i j (rowsOf d k cells totals tallies)) where
     -- a full store with a row left
     pub passed-over : k ≡ 1024 → i + j < firsts + seconds → Collected 1024 (merged sums first second) d 1025 cells totals tallies
     passed-over e h =
         let l = merging-longer sums first second (rowsOf d k cells totals tallies) (drop i first) (drop j second) (g .merging) in
         record {
           fits = λ f. absurd (omega (arith, f));
-          more = λ f. omega (arith, l .0, l .1, e, h, rows-length d k cells totals tallies, length-drop i first, length-drop j second, rows-length d (firsts) codes amounts counts, rows-length d (seconds) codes′ amounts′ counts′);
+          more = λ f. omega (arith, l .0, l .1, e, h, rows-length d k cells totals tallies, length-drop i first, length-drop j second, rows-length d (firsts) ws, rows-length d (seconds) ws′ amounts′ counts′);
         }
 
     -- both lists at their ends
     pub passed-done : k ≤ 1024 → firsts + seconds ≤ i + j → Collected 1024 (merged sums first second) d k cells totals tallies
     passed-done h e =
-        let m : length first ≤ i = omega (arith, e, g .of-one, g .of-other, rows-length d firsts codes amounts counts) in
-        let n : length second ≤ j = omega (arith, e, g .of-one, g .of-other, rows-length d seconds codes′ amounts′ counts′) in
+        let m : length first ≤ i = omega (arith, e, g .of-one, g .of-other, rows-length d firsts ws) in
+        let n : length second ≤ j = omega (arith, e, g .of-one, g .of-other, rows-length d seconds ws′ amounts′ counts′) in
         record { fits = λ f. merging-done sums first second (rowsOf d k cells totals tallies) (rw (drop-of-length-le first m, drop-of-length-le second n) at (g .merging)); more = λ f. absurd (omega (arith, f, h)) }

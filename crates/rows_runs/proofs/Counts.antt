@@ -21,9 +21,9 @@ use Rattle.cube.proofs.Sums.{count-append}
 use Rattle.rows_order.proofs.Arranged.{arranged-in}
 use Rattle.rows.proofs.Flat.{placed, blank, rows-length, rows-at, rows-more}
 
-module _ (sums : List ℤ) (counts : List ℕ) where
+module _ (totals : ℕ → Total) where
   abbrev count : List ℕ → ℕ
-  count l = countOf (amountsAt sums counts l)
+  count l = countOf (amountsAt totals l)
 
   count-take : (k : ℕ) (l : List ℕ) → count (take k l) ≤ count l
   unfolding amountsAt
@@ -43,27 +43,27 @@ module _ (sums : List ℤ) (counts : List ℕ) where
     count-insert x [] = refl
     count-insert x (y ∷ l) = cases (truth (earlier (key x) (key y))) (λ e. rw e) (λ e. rw e (omega (arith, count-insert x l)))
 
-    count-arranged : (d n : ℕ) (codes : List ℕ) → count (arranged key n) ≡ countOf (rowsOf d n codes sums counts)
+    count-arranged : (d n : ℕ) (ws : List ℕ) → count (arranged key n) ≡ countOf (rowsOf d n ws)
     unfolding arranged rowsOf amountsAt
     count-arranged d zero codes = refl
     count-arranged d (suc n) codes =
-        omega (arith, count-insert n (arranged key n), count-arranged d n codes, ap countOf (rows-more d n codes sums counts), count-append (rowsOf d n codes sums counts) (placed d codes sums counts n ∷ []))
+        omega (arith, count-insert n (arranged key n), count-arranged d n ws, ap countOf (rows-more d n ws), count-append (rowsOf d n ws) (placed d ws n ∷ []))
 
-  module _ (d n : ℕ) (codes : List ℕ) (s : Summable (rowsOf d n codes sums counts)) where
-    pub amount-bounded : (i : ℕ) → i < n → Bounded (amountAt sums counts i .total)
+  module _ (d n : ℕ) (ws : List ℕ) (s : Summable (rowsOf d n ws)) where
+    pub amount-bounded : (i : ℕ) → i < n → Bounded (amountAt totals i .total)
     amount-bounded i h =
-        let rows = rowsOf d n codes sums counts in
-        rw (rows-at d n i codes sums counts h) at (s .each (getD rows i blank) (at-in blank rows i (rw rows-length h)))
+        let rows = rowsOf d n ws in
+        rw (rows-at d n i ws h) at (s .each (getD rows i blank) (at-in blank rows i (rw rows-length h)))
 
-    amounts-bounded : (l : List ℕ) → ((i : ℕ) → i ∈ l → i < n) → (r : Row Total) → r ∈ amountsAt sums counts l → Bounded (r .total)
+    amounts-bounded : (l : List ℕ) → ((i : ℕ) → i ∈ l → i < n) → (r : Row Total) → r ∈ amountsAt totals l → Bounded (r .total)
     unfolding amountsAt
     amounts-bounded l h r m =
-        let g = Memᴰ·of-map (amountAt sums counts) l m in
+        let g = Memᴰ·of-map (amountAt totals) l m in
         subst (λ (q : Row Total). Bounded (q .total)) (g .2) (amount-bounded (g .0) (h (g .0) (g .1)))
 
     -- any part of the rows in order can be totalled, where the rows can
-    pub arranged-summable : (key : ℕ → List ℕ) (from end : ℕ) → Summable (amountsAt sums counts (slice from end (arranged key n)))
+    pub arranged-summable : (key : ℕ → List ℕ) (from end : ℕ) → Summable (amountsAt totals (slice from end (arranged key n)))
     arranged-summable key from end = record {
       each = amounts-bounded (slice from end (arranged key n)) (λ i m. arranged-in key n (slice-in from end (arranged key n) m));
-      few = omega (arith, count-drop from (take end (arranged key n)), count-take end (arranged key n), count-arranged key d n codes, s .few);
+      few = omega (arith, count-drop from (take end (arranged key n)), count-take end (arranged key n), count-arranged key d n ws, s .few);
     }

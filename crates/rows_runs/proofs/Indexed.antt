@@ -29,20 +29,20 @@ use Rattle.rows_runs.proofs.Counts.{arranged-summable}
 use Rattle.rows_runs.proofs.Groups.{cells-are, run-rows}
 
 -- the total of rows at places, by the rows themselves
-total-picked : (d n : ℕ) (codes : List ℕ) (sums : List ℤ) (counts l : List ℕ) → ((i : ℕ) → i ∈ l → i < n) → (t : Total)
-    → foldl (λ t r. plus t (r .total)) t (map (amountAt sums counts) l) ≡ foldl (λ t r. plus t (r .total)) t (map (λ i. getD (rowsOf d n codes sums counts) i blank) l)
-total-picked d n codes sums counts [] h t = refl
-total-picked d n codes sums counts (i ∷ l) h t =
-    rw (rows-at d n i codes sums counts (h i (List·Memᴰ·head refl)))
-    (total-picked d n codes sums counts l (λ j m. h j (List·Memᴰ·tail m)) (plus t (amountAt sums counts i .total)))
+total-picked : (d n : ℕ) (ws l : List ℕ) → ((i : ℕ) → i ∈ l → i < n) → (t : Total)
+    → foldl (λ t r. plus t (r .total)) t (map (amountAt totals) l) ≡ foldl (λ t r. plus t (r .total)) t (map (λ i. getD (rowsOf d n ws) i blank) l)
+total-picked d n ws [] h t = refl
+total-picked d n ws (i ∷ l) h t =
+    rw (rows-at d n i ws (h i (List·Memᴰ·head refl)))
+    (total-picked d n ws l (λ j m. h j (List·Memᴰ·tail m)) (plus t (amountAt totals i .total)))
 
 -- two or more rows
 abbrev pub crowded : Run → Bool
 crowded r = leb 2 (suc (length (r .more)))
 
-module _ {rows dims set : ℕ} {codes index : List ℕ} (x : Indexed rows dims set codes index) where
+module _ {rows dims set : ℕ} {ws index : List ℕ} (x : Indexed rows dims set ws index) where
   abbrev keys : ℕ → List ℕ
-  keys = key set (cut dims rows codes)
+  keys = key set (cut dims rows ws)
 
   pub indexed-ordered : Ordered keys index
   indexed-ordered = rw (x .order) (arranged-ordered keys rows)
@@ -63,51 +63,51 @@ module _ {rows dims set : ℕ} {codes index : List ℕ} (x : Indexed rows dims s
   runs-done i h = rw (drop-of-length-le index {i = i} (omega (arith, x .places)))
 
   -- the keys of the runs are the cells of the set
-  pub indexed-cells : map (cellOf keys) (runs keys index) ≡ cuboid (plain dims) (cut dims rows codes) set
+  pub indexed-cells : map (cellOf keys) (runs keys index) ≡ cuboid (plain dims) (cut dims rows ws) set
   indexed-cells =
-      ap (λ (l : List ℕ). map (cellOf keys) (runs keys l)) (x .order ∙ ap (arranged keys) (sym (cut-length dims rows codes)))
-      ∙ cells-are dims set (cut dims rows codes)
+      ap (λ (l : List ℕ). map (cellOf keys) (runs keys l)) (x .order ∙ ap (arranged keys) (sym (cut-length dims rows ws)))
+      ∙ cells-are dims set (cut dims rows ws)
 
   module _ {r : Run} (m : r ∈ runs keys index) where
     run-below : (i : ℕ) → i ∈ r .first ∷ r .more → i < rows
     run-below i n = indexed-in (keep-in (alike keys (cellOf keys r)) index (rw (runs-whole keys index indexed-ordered m) at n) .0)
 
     -- a run has as many rows as fall in its cell
-    pub indexed-length : ((y : List ℕ) → y ∈ cut dims rows codes → Coded dims y) → suc (length (r .more)) ≡ length (within (plain dims) (cut dims rows codes) (cellOf keys r))
+    pub indexed-length : ((y : List ℕ) → y ∈ cut dims rows ws → Coded dims y) → suc (length (r .more)) ≡ length (within (plain dims) (cut dims rows ws) (cellOf keys r))
     unfolding key
     indexed-length v =
-        let xs = cut dims rows codes in
+        let xs = cut dims rows ws in
         sym (length-map (r .first ∷ r .more) (λ i. getD xs i []))
-        ∙ ap length (run-rows (λ y. y) [] xs dims set v keys (λ i h. refl) (rw (x .order ∙ ap (arranged keys) (sym (cut-length dims rows codes))) at m))
+        ∙ ap length (run-rows (λ y. y) [] xs dims set v keys (λ i h. refl) (rw (x .order ∙ ap (arranged keys) (sym (cut-length dims rows ws))) at m))
 
   -- the keys of the runs of two or more rows are the shared cells
-  pub indexed-shared : ((y : List ℕ) → y ∈ cut dims rows codes → Coded dims y) → map (cellOf keys) (keep crowded (runs keys index)) ≡ shared (plain dims) (cut dims rows codes) set
+  pub indexed-shared : ((y : List ℕ) → y ∈ cut dims rows ws → Coded dims y) → map (cellOf keys) (keep crowded (runs keys index)) ≡ shared (plain dims) (cut dims rows ws) set
   unfolding shared
   indexed-shared v =
-      let many : List ℕ → Bool = λ c. leb 2 (length (within (plain dims) (cut dims rows codes) c)) in
+      let many : List ℕ → Bool = λ c. leb 2 (length (within (plain dims) (cut dims rows ws) c)) in
       ap (map (cellOf keys)) (keep-same crowded (λ r. many (cellOf keys r)) (runs keys index) (λ r m. ap (leb 2) (indexed-length m v)))
       ∙ sym (keep-map many (cellOf keys) (runs keys index)) ∙ ap (keep many) indexed-cells
 
-  module _ (sums : List ℤ) (counts : List ℕ) where
+  module _ (totals : ℕ → Total) where
     abbrev table : List (Row Total)
-    table = rowsOf dims rows codes sums counts
+    table = rowsOf dims rows ws
 
     -- any part of the index names rows that can be totalled
-    pub indexed-summed : length sums ≡ rows → length counts ≡ rows → Summable table → (from end : ℕ) → end ≤ rows → Summed sums counts index from end
+    pub indexed-summed : length sums ≡ rows → length counts ≡ rows → Summable table → (from end : ℕ) → end ≤ rows → Summed totals index from end
     indexed-summed p q s from end h = record {
       within = omega (arith, h, x .places);
       even = q ∙ sym p;
       below = λ j k. rw p (indexed-below j (omega (arith, k, h)));
-      room = rw (x .order) (arranged-summable sums counts dims rows codes s keys from end);
+      room = rw (x .order) (arranged-summable totals dims rows ws s keys from end);
     }
 
     key-codes : (i : ℕ) → keys i ≡ cell set (getD table i blank .codes)
     unfolding key
-    key-codes i = ap (cell set) (ap (λ (l : List (List ℕ)). getD l i []) (sym (rows-codes dims rows codes sums counts)) ∙ List·getD-map (λ q. q .codes) table i blank)
+    key-codes i = ap (cell set) (ap (λ (l : List (List ℕ)). getD l i []) (sym (rows-codes dims rows ws)) ∙ List·getD-map (λ q. q .codes) table i blank)
 
     -- the total of a run is its cell's
-    pub indexed-total : Table dims table → {r : Run} → r ∈ runs keys index → runTotal sums counts (r .first ∷ r .more) ≡ total (plain dims) measure table (cellOf keys r)
+    pub indexed-total : Table dims table → {r : Run} → r ∈ runs keys index → runTotal totals (r .first ∷ r .more) ≡ total (plain dims) measure table (cellOf keys r)
     unfolding runTotal amountsAt total
     indexed-total t {r} m =
-        total-picked dims rows codes sums counts (r .first ∷ r .more) (run-below m) nothing
-        ∙ ap (totalOf measure) (run-rows (λ q. q .codes) blank table dims set t keys (λ i h. key-codes i) (rw (x .order ∙ ap (arranged keys) (sym (rows-length dims rows codes sums counts))) at m))
+        total-picked dims rows ws (r .first ∷ r .more) (run-below m) nothing
+        ∙ ap (totalOf measure) (run-rows (λ q. q .codes) blank table dims set t keys (λ i h. key-codes i) (rw (x .order ∙ ap (arranged keys) (sym (rows-length dims rows ws))) at m))

@@ -33,10 +33,10 @@ use Rattle.small_model.proofs.Tally.{folded-same, ours-length}
 use Rattle.small_tally.specs.Flat.{flatCodes, Coding}
 
 -- base rows have few normal entries
-pub normals-fit : (d n : ℕ) (codes : List ℕ) → d ≤ 8 → n ≤ 8 → length (normals (plain d) (cut d n codes)) ≤ 2048
-normals-fit d n codes h k =
+pub normals-fit : (d n : ℕ) (ws : List ℕ) → d ≤ 8 → n ≤ 8 → length (normals (plain d) (cut d n ws)) ≤ 2048
+normals-fit d n ws h k =
     let m : length (sets d) * 8 ≤ 256 * 8 = mul-le-mul-right 8 (le-trans (sets-length d) (pow-mono h)) in
-    omega (arith, normals-most (plain d) (plain-laws d) (cut d n codes) 8 (omega arith) (omega (arith, cut-length d n codes, k)), m)
+    omega (arith, normals-most (plain d) (plain-laws d) (cut d n ws) 8 (omega arith) (omega (arith, cut-length d n ws, k)), m)
 
 -- ---- the flat list cut into rows
 

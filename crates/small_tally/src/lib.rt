@@ -7,7 +7,7 @@ ghost use Rattle.lists.specs.Lists.{Distinct};
 ghost use Rattle.fields.specs.Written.{Wrote};
 ghost use Rattle.cube.specs.Codes.{plain};
 ghost use Rattle.cube.specs.Condensed.{normals};
-ghost use Rattle.rows.specs.Rows.{cut};
+ghost use Rattle.rows.specs.Rows.{width, cut};
 ghost use Rattle.small_model.specs.Small.{upTo, binary, table};
 ghost use Rattle.small_model.specs.Tally.{entries, tally, mostEntries};
 ghost use Rattle.small_tally.specs.Flat.{flatCodes, Coding, Zeros};
@@ -45,24 +45,24 @@ fn put_table(out: &mut [u32], dims: usize, t: u32) -> usize
 }
 
 // How many entries base rows have.
-fn rows_entries(codes: &[u32], rows: usize, dims: usize) -> usize
-    requires { ⌜ (dims ≤ 8) × (rows ≤ 8) × (rows * dims ≡ length (now codes)) × Distinct (cut dims rows (now codes)) × Coding dims (cut dims rows (now codes)) ⌝ }
-    ensures { λ r. ⌜ r ≡ rows + length (normals (plain dims) (cut dims rows (now (codes .entry)))) ⌝ }
+fn rows_entries(rows: &[u32], n: usize, dims: usize) -> usize
+    requires { ⌜ (dims ≤ 8) × (n ≤ 8) × (n * width dims ≡ length (now rows)) × Distinct (cut dims n (now rows)) × Coding dims (cut dims n (now rows)) ⌝ }
+    ensures { λ r. ⌜ r ≡ n + length (normals (plain dims) (cut dims n (now (rows .entry)))) ⌝ }
 {
     let mut store = [0u16; 262144];
     let mut used = [0usize; 256];
     let mut sets = [0u8; 560];
     let mut lens = [0u32; 8];
     let normals = rows_condense::condense_rows(
-        codes,
         rows,
+        n,
         dims,
         &mut store,
         &mut used,
         &mut sets,
-        &mut lens[..rows],
+        &mut lens[..n],
     );
-    rows + normals
+    n + normals
 }
 
 // How many entries the archive of table t has.
@@ -70,9 +70,9 @@ fn entries_of(dims: usize, t: u32) -> usize
     requires { ⌜ (1 ≤ dims) × (dims ≤ 3) ⌝ }
     ensures { λ r. ⌜ r ≡ entries dims (table dims t) ⌝ }
 {
-    let mut codes = [0u32; 24];
-    let size = put_table(&mut codes, dims, t);
-    rows_entries(&codes[..size], size / dims, dims)
+    let mut rows = [0u32; 48];
+    let size = put_table(&mut rows, dims, t);
+    rows_entries(&rows[..size], size / (dims + 3), dims)
 }
 
 // Tallies how many of all tables have each number of entries.

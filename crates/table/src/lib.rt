@@ -9,7 +9,7 @@ ghost use Rattle.fields_walk.specs.Walked.{Walked};
 ghost use Rattle.cube.specs.Measure.{sums as measure};
 ghost use Rattle.cube.specs.Bounds.{Summable};
 ghost use Rattle.cube.specs.Table.{Table, folded};
-ghost use Rattle.rows.specs.Rows.{rowsOf};
+ghost use Rattle.rows.specs.Rows.{width, rowIn, rowsOf};
 ghost use Rattle.table.specs.Reading.{row, body, readTable, rowsAt, Rowed, tableAnswer, Stored};
 
 // What reading a table answers: a stop's number, or D and the number of base rows.
@@ -83,25 +83,37 @@ fn check_table(s: &[u8]) -> Walk
     }
 }
 
+// The row at a place, stored as a row: its codes, its reading as a sum, and a count of one.
+fn fill_row(row: &mut [u32], s: &[u8], dims: usize, at: usize)
+    requires { ⌜ (length (now row) ≡ width dims) × (at + (4 * dims + 4) ≤ length (now s)) ⌝ }
+    ensures { λ _. ⌜ rowIn dims (now (row .exit)) ≡ recordThere (now (s .entry)) dims at ⌝ }
+{
+    fields::read_words(s, at, &mut row[..dims]);
+    let sum = fields::reading_at(s, at + 4 * dims);
+    let count = 1;
+    rows::put_total(row, dims, cube::Total { sum, count });
+}
+
+// The row at a place, stored as row i.
+fn store_row(s: &[u8], dims: usize, at: usize, i: usize, rows: &mut [u32])
+    requires { ⌜ (at + (4 * dims + 4) ≤ length (now s)) × (i * width dims + width dims ≤ length (now rows)) ⌝ }
+    ensures { λ _. ⌜ rowsOf dims (i + 1) (now (rows .exit)) ≡ rowsOf dims i (now (rows .entry)) ++ recordThere (now (s .entry)) dims at ∷ [] ⌝ }
+{
+    let width = dims + 3;
+    let from = i * width;
+    let to = from + width;
+    fill_row(&mut rows[from..to], s, dims, at);
+}
+
 // The rows from a place on into the arrays that are lent.
-fn store_rows(
-    s: &[u8],
-    dims: usize,
-    count: usize,
-    start: usize,
-    codes: &mut [u32],
-    sums: &mut [i64],
-    counts: &mut [u32],
-)
-    requires { ⌜ start + count * (4 * dims + 4) ≤ length (now s) ⌝ }
-    requires { ⌜ (count * dims ≤ length (now codes)) × (count ≤ length (now sums)) × (count ≤ length (now counts)) ⌝ }
-    ensures { λ _. ⌜ rowsOf dims count (now (codes .exit)) (now (sums .exit)) (now (counts .exit)) ≡ rowsAt (now (s .entry)) dims count start ⌝ }
+fn store_rows(s: &[u8], dims: usize, count: usize, start: usize, rows: &mut [u32])
+    requires { ⌜ (start + count * (4 * dims + 4) ≤ length (now s)) × (count * width dims ≤ length (now rows)) ⌝ }
+    ensures { λ _. ⌜ rowsOf dims count (now (rows .exit)) ≡ rowsAt (now (s .entry)) dims count start ⌝ }
 {
     let mut at = start;
     let mut i = 0;
     while i < count {
-        let reading = fields::reading_at(s, at + 4 * dims);
-        rows::store_row(s, at, dims, reading, 1, i, codes, sums, counts);
+        store_row(s, dims, at, i, rows);
         at += 4 * dims + 4;
         i += 1;
     }
@@ -114,32 +126,24 @@ fn fold_rows(
     count: usize,
     start: usize,
     own: &mut [u32],
-    amounts: &mut [i64],
-    tallies: &mut [u32],
     index: &mut [u32],
-    codes: &mut [u32],
-    sums: &mut [i64],
-    counts: &mut [u32],
+    rows: &mut [u32],
 ) -> usize
-    requires { ⌜ (count * dims ≡ length (now own)) × (length (now amounts) ≡ count) × (length (now tallies) ≡ count) × (length (now index) ≡ count) × (count ≤ 1024) × (dims ≤ 8) ⌝ }
-    requires { ⌜ (start + count * (4 * dims + 4) ≤ length (now s)) × (8192 ≤ length (now codes)) × (1024 ≤ length (now sums)) × (1024 ≤ length (now counts)) ⌝ }
+    requires { ⌜ (count * width dims ≡ length (now own)) × (length (now index) ≡ count) × (count ≤ 1024) × (dims ≤ 8) ⌝ }
+    requires { ⌜ (start + count * (4 * dims + 4) ≤ length (now s)) × (11264 ≤ length (now rows)) ⌝ }
     requires { ⌜ Table dims (rowsAt (now s) dims count start) × Summable (rowsAt (now s) dims count start) ⌝ }
-    ensures { λ r. ⌜ rowsOf dims r (now (codes .exit)) (now (sums .exit)) (now (counts .exit)) ≡ folded measure dims (rowsAt (now (s .entry)) dims count start) ⌝ }
+    ensures { λ r. ⌜ rowsOf dims r (now (rows .exit)) ≡ folded measure dims (rowsAt (now (s .entry)) dims count start) ⌝ }
     ensures { λ r. ⌜ r ≤ count ⌝ }
 {
-    store_rows(s, dims, count, start, own, amounts, tallies);
+    store_rows(s, dims, count, start, own);
     let full = lattice::sets_of(dims as u32) - 1;
     rows_runs::group_rows(
         own,
-        amounts,
-        tallies,
         count,
         dims,
         full,
         index,
-        codes,
-        sums,
-        counts,
+        rows,
     )
 }
 
@@ -148,19 +152,15 @@ fn fold_table(
     s: &[u8],
     d: usize,
     n: usize,
-    codes: &mut [u32],
-    sums: &mut [i64],
-    counts: &mut [u32],
+    rows: &mut [u32],
 ) -> usize
-    requires { ⌜ Rowed (now s) d n × (8192 ≤ length (now codes)) × (1024 ≤ length (now sums)) × (1024 ≤ length (now counts)) ⌝ }
-    ensures { λ r. ⌜ rowsOf d r (now (codes .exit)) (now (sums .exit)) (now (counts .exit)) ≡ folded measure d (rowsAt (now (s .entry)) d n (12 + 4 * d)) ⌝ }
+    requires { ⌜ Rowed (now s) d n × (11264 ≤ length (now rows)) ⌝ }
+    ensures { λ r. ⌜ rowsOf d r (now (rows .exit)) ≡ folded measure d (rowsAt (now (s .entry)) d n (12 + 4 * d)) ⌝ }
     ensures { λ r. ⌜ r ≤ n ⌝ }
 {
-    let mut own = [0u32; 8192];
-    let mut amounts = [0i64; 1024];
-    let mut tallies = [0u32; 1024];
+    let mut own = [0u32; 11264];
     let mut index = [0u32; 1024];
-    let size = n * d;
+    let size = n * (d + 3);
     let start = 12 + 4 * d;
     fold_rows(
         s,
@@ -168,24 +168,18 @@ fn fold_table(
         n,
         start,
         &mut own[..size],
-        &mut amounts[..n],
-        &mut tallies[..n],
         &mut index[..n],
-        codes,
-        sums,
-        counts,
+        rows,
     )
 }
 
 // Reads a table: its stops, and its base rows into the arrays that are lent.
 pub fn read_table(
     s: &[u8],
-    codes: &mut [u32; 8192],
-    sums: &mut [i64; 1024],
-    counts: &mut [u32; 1024],
+    rows: &mut [u32; 11264],
 ) -> TableRead
     ensures { λ r. ⌜ r ≡ tableAnswer (readTable (now (s .entry))) ⌝ }
-    ensures { λ r. ⌜ Stored (readTable (now (s .entry))) (now (codes .exit)) (now (sums .exit)) (now (counts .exit)) ⌝ }
+    ensures { λ r. ⌜ Stored (readTable (now (s .entry))) (now (rows .exit)) ⌝ }
 {
     match check_table(s) {
         Walk::Stop(n) => TableRead::Stop(n),
@@ -193,7 +187,7 @@ pub fn read_table(
             let dims = fields::word_at(s, 4);
             let d = dims as usize;
             let n = fields::word_at(s, 8 + 4 * d) as usize;
-            let rows = fold_table(s, d, n, codes, sums, counts);
+            let rows = fold_table(s, d, n, rows);
             TableRead::Rows {
                 dims,
                 rows: rows as u32,

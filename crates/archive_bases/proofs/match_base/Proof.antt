@@ -17,7 +17,7 @@ match-entry-requires : tie.Need-match-entry-requires
 match-entry-requires c κs =
     let a = c .before .before .before .before .before .before .before .before .before .args in
     let p = c .before .before .before .before .before .before .before .before .before .pre in
-    let sets = ap length (c .list-of .ensures) ∙ list-length (a .rows) (a .row) (now (a .sets)) (now (a .lens)) (p .1) (p .0 .room) (p .0 .short) in
+    let sets = ap length (c .list-of .ensures) ∙ list-length (a .n) (a .row) (now (a .sets)) (now (a .lens)) (p .1) (p .0 .room) (p .0 .short) in
     (p .2, omega (arith, sets, p .0 .short (a .row) (p .1)))
 
 returns : tie.Need-returns

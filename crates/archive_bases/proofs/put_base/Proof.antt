@@ -17,7 +17,7 @@ put-entry-requires : tie.Need-put-entry-requires
 put-entry-requires c κs =
     let a = c .before .before .before .before .before .before .before .before .before .before .args in
     let p = c .before .before .before .before .before .before .before .before .before .before .pre in
-    let sets = ap length (c .before .list-of .ensures) ∙ list-length (a .rows) (a .row) (now (a .sets)) (now (a .lens)) (p .0 .1) (p .0 .0 .room) (p .0 .0 .short) in
+    let sets = ap length (c .before .list-of .ensures) ∙ list-length (a .n) (a .row) (now (a .sets)) (now (a .lens)) (p .0 .1) (p .0 .0 .room) (p .0 .0 .short) in
     (omega (arith, base-bytes (p .0 .0) (a .row) (p .0 .1), sets, p .1, c .before .before .before .before .row-of .ensures .1), omega (arith, sets, p .0 .0 .short (a .row) (p .0 .1)))
 
 returns : tie.Need-returns

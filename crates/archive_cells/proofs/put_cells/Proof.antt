@@ -19,11 +19,11 @@ use Rattle.archive_cells.proofs.put_cells.Statement.{statement}
 use Rattle.archive_cells.proofs.put_cells.Tie as tie
 
 abbrev Inv-loop : tie.InvT-loop
-Inv-loop out₀ codes sums counts n dims at₀ i₀ out at i =
-    (i ≤ n) × Writing (flatMap cellBytes (rowsOf dims n codes sums counts)) (flatMap cellBytes (drop i (rowsOf dims n codes sums counts))) out₀ out at
+Inv-loop out₀ rows n dims at₀ i₀ out at i =
+    (i ≤ n) × Writing (flatMap cellBytes (rowsOf dims n rows)) (flatMap cellBytes (drop i (rowsOf dims n rows))) out₀ out at
 
 abbrev μ-loop : tie.MeasureT-loop
-μ-loop out₀ codes sums counts n dims at₀ i₀ out at i = n - i
+μ-loop out₀ rows n dims at₀ i₀ out at i = n - i
 
 -- there is room for one more cell
 room : (c : tie.In-loop Inv-loop μ-loop) → c .before .loop .at + (4 * c .before .before .before .before .before .args .dims + 12) ≤ length (c .before .loop .out)
@@ -31,7 +31,7 @@ room c =
     let s = c .before .before .before .before .before in
     let a = s .args in
     let l = c .before .loop in
-    cells-room (a .dims) (a .n) (now (a .codes)) (now (a .sums)) (now (a .counts)) (l .i) (l .inv .1) (c .loop-test .taken) (s .pre .0) (s .pre .3)
+    cells-room (a .dims) (a .n) (now (a .rows)) (l .i) (l .inv .1) (c .loop-test .taken) (s .pre .0) (s .pre .3)
 
 loop-holds : tie.Need-loop-holds Inv-loop μ-loop
 loop-holds c = (search needs, writing-none _ _)
@@ -56,9 +56,9 @@ loop-again c =
     let a = c .before .before .before .before .before .before .before .before .before .before .before .before .args in
     let l = c .before .before .before .before .before .before .before .before .loop in
     let h = c .before .before .before .before .before .before .before .loop-test .taken in
-    let codes = c .before .before .before .before .before .before .row-of .ensures .0 ∙ row-at (a .dims) (a .n) (l .i) (now (a .codes)) h in
-    let wrote = rw (toZ-ofZ {w = w64} (record { sfits = c .before .before .before .before .before .sum .given }), codes) at (c .before .before .put-cell .ensures) in
-    (search needs, cells-more (a .dims) (a .n) (now (a .codes)) (now (a .sums)) (now (a .counts)) (l .i) (l .inv .1) h wrote)
+    let codes = c .before .before .before .before .before .before .row-of .ensures .0 ∙ row-at (a .dims) (a .n) (l .i) (now (a .rows)) h in
+    let wrote = rw (toZ-ofZ {w = w64} (record { sfits = c .before .before .before .before .before .sum .given }), rows) at (c .before .before .put-cell .ensures) in
+    (search needs, cells-more (a .dims) (a .n) (now (a .rows)) (l .i) (l .inv .1) h wrote)
 
 same-length : tie.Need-same-length Inv-loop μ-loop
 same-length c = c .before .loop .inv .1 .wrote .same
@@ -67,7 +67,7 @@ returns : tie.Need-returns Inv-loop μ-loop
 returns c =
     let a = c .before .before .before .before .before .args in
     let l = c .before .loop in
-    cells-done (a .dims) (a .n) (now (a .codes)) (now (a .sums)) (now (a .counts)) (l .i) (l .inv .1) (c .loop-test .left)
+    cells-done (a .dims) (a .n) (now (a .rows)) (l .i) (l .inv .1) (c .loop-test .left)
 
 pub put-cells-spec : {M : Type 1} → statement M
 put-cells-spec =

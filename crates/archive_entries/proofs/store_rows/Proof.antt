@@ -13,11 +13,11 @@ use Rattle.archive_entries.proofs.store_rows.Statement.{statement}
 use Rattle.archive_entries.proofs.store_rows.Tie as tie
 
 abbrev Inv-loop : tie.InvT-loop
-Inv-loop s dims bases codes₀ sums₀ counts₀ d count at₀ i₀ codes sums counts at i =
-    (length codes ≡ length codes₀) × (length sums ≡ length sums₀) × (length counts ≡ length counts₀) × Turn s dims bases codes sums counts at i
+Inv-loop s dims bases codes₀ sums₀ counts₀ d count at₀ i₀ rows at i =
+    (length rows ≡ length codes₀) × (length sums ≡ length sums₀) × (length counts ≡ length counts₀) × Turn s dims bases rows at i
 
 abbrev μ-loop : tie.MeasureT-loop
-μ-loop s dims bases codes₀ sums₀ counts₀ d count at₀ i₀ codes sums counts at i = bases - i
+μ-loop s dims bases codes₀ sums₀ counts₀ d count at₀ i₀ rows at i = bases - i
 
 loop-holds : tie.Need-loop-holds Inv-loop μ-loop
 loop-holds c = let a = c .before .before .before .args in (refl, refl, refl, turn-start _ _ _ _ _ _ (accepted (now (a .s)) (a .dims) (a .bases) (c .before .before .before .pre .0 .1)))

@@ -15,7 +15,7 @@ use Rattle.archive_judge.proofs.judge.Tie as tie
 are-bytes : (c : tie.After-shared-slice-known) → Bytes (now (c .before .args .s))
 are-bytes c = bytes-of (now (c .before .args .s)) (λ i. omega (arith, c .shared-slice-known .given i))
 
-ready : (c : tie.After-shared-slice-known) → (let a = c .before .args in Ready (a .dims) (a .rows) (now (a .codes)) (now (a .sums)) (now (a .counts)))
+ready : (c : tie.After-shared-slice-known) → (let a = c .before .args in Ready (a .dims) (a .n) (now (a .rows)))
 ready c = read-ready (are-bytes c) (c .before .pre .0)
 
 condense-rows-requires : tie.Need-condense-rows-requires
@@ -25,8 +25,8 @@ condense-rows-requires c κs =
     ((r .few, r .dims, r .size, ready-base r), (p .3, p .4, p .1, p .2))
 
 -- the slots, filled
-grouped : (c : tie.After-condense-rows) → (let a = c .before .before .before .before .before .before .before .before .before .before .before .before .args in Grouped (a .dims) (a .rows) (now (a .codes)) (now (a .sums)) (now (a .counts)) (c .condense-rows .last .1 .1 .1 .0) (c .condense-rows .last .1 .1 .1 .1 .0))
-grouped c = let p = c .before .before .before .before .before .before .before .before .before .before .before .before .pre in let k = c .condense-rows .kept in record { ready = ready (c .before .before .before .before .before .before .before .before .before .before .before); room = omega (arith, p .3, k .1 .1 .1 .0); sets = omega (arith, p .4, k .1 .1 .1 .1 .0); slots = c .condense-rows .ensures .0 }
+grouped : (c : tie.After-condense-n) → (let a = c .before .before .before .before .before .before .before .before .before .before .before .before .args in Grouped (a .dims) (a .n) (now (a .rows)) (c .condense-n .last .1 .1 .1 .0) (c .condense-n .last .1 .1 .1 .1 .0))
+grouped c = let p = c .before .before .before .before .before .before .before .before .before .before .before .before .pre in let k = c .condense-n .kept in record { ready = ready (c .before .before .before .before .before .before .before .before .before .before .before); room = omega (arith, p .3, k .1 .1 .1 .0); sets = omega (arith, p .4, k .1 .1 .1 .1 .0); slots = c .condense-n .ensures .0 }
 
 mul-start : tie.Need-mul-start
 mul-start c = omega (arith, ready (c .before .before .before .before .before .before .before .before .before .before .before .before .before .before .before .before .before .before .before) .dims)
@@ -36,7 +36,7 @@ add-start c = omega (arith, ready (c .before .before .before .before .before .be
 
 match-sections-requires : tie.Need-match-sections-requires
 match-sections-requires c κs =
-    let l = c .before .before .before .before .before .before .before .before .before .before .before .before .condense-rows .ensures in
+    let l = c .before .before .before .before .before .before .before .before .before .before .before .before .condense-n .ensures in
     let p = c .before .before .before .before .before .before .before .before .before .before .before .before .before .before .before .before .before .before .before .before .before .before .before .before .pre in (
       (
         record {

@@ -15,11 +15,11 @@ use Rattle.archive_judge.proofs.judge_read.Tie as tie
 are-bytes : (c : tie.After-shared-slice-known) → Bytes (now (c .before .args .s))
 are-bytes c = bytes-of (now (c .before .args .s)) (λ i. omega (arith, c .shared-slice-known .given i))
 
-room : (c : tie.Start) → (8192 ≤ length (now (c .args .codes))) × (1024 ≤ length (now (c .args .sums))) × (1024 ≤ length (now (c .args .counts)))
+room : (c : tie.Start) → (8192 ≤ length (now (c .args .rows))) × (1024 ≤ length (now (c .args .sums))) × (1024 ≤ length (now (c .args .counts)))
 room c = (c .pre .1 .0 .0, c .pre .1 .0 .1, c .pre .1 .0 .2)
 
-read : (c : tie.After-shared-slice-known) → (let a = c .before .args in Read (now (a .s)) (a .dims) (a .bases) (take (a .bases * a .dims) (now (a .codes))) (take (a .bases) (now (a .sums))) (take (a .bases) (now (a .counts))))
-read c = let a = c .before .args in read-of (are-bytes c) (c .before .pre .0) (now (a .codes)) (now (a .sums)) (now (a .counts)) (room (c .before)) (c .before .pre .1 .0 .3)
+read : (c : tie.After-shared-slice-known) → (let a = c .before .args in Read (now (a .s)) (a .dims) (a .bases) (take (a .bases * a .dims) (now (a .rows))) (take (a .bases) (now (a .sums))) (take (a .bases) (now (a .counts))))
+read c = let a = c .before .args in read-of (are-bytes c) (c .before .pre .0) (now (a .rows)) (room (c .before)) (c .before .pre .1 .0 .3)
 
 mul-size : tie.Need-mul-size
 mul-size c = omega (arith, read-small (are-bytes (c .before .before .before .before)) (c .before .before .before .before .before .pre .0))

@@ -21,15 +21,15 @@ use Rattle.archive_judge.proofs.match_sections.Tie as tie
 
 -- the parts as a whole
 whole : (c : tie.Start) → (let a = c .args in
-    let rows = rowsOf (a .dims) (a .rows) (now (a .codes)) (now (a .sums)) (now (a .counts)) in
-    (wordBytes (a .rows) ++ flatMap baseBytes (ourBases (a .dims) rows)) ++ (wordBytes (a .cells) ++ normalBytes (a .dims) rows) ≡ sections (a .dims) rows)
-whole c = let a = c .args in four-parts (a .dims) (a .rows) (now (a .codes)) (now (a .sums)) (now (a .counts)) (c .pre .1)
+    let n = rowsOf (a .dims) (a .n) (now (a .rows)) in
+    (wordBytes (a .n) ++ flatMap baseBytes (ourBases (a .dims) n)) ++ (wordBytes (a .cells) ++ normalBytes (a .dims) n) ≡ sections (a .dims) n)
+whole c = let a = c .args in four-parts (a .dims) (a .n) (now (a .rows)) (c .pre .1)
 
 returns : tie.Need-returns
 returns c =
     let a = c .before .before .before .before .before .before .before .before .before .before .before .args in
-    let rows = rowsOf (a .dims) (a .rows) (now (a .codes)) (now (a .sums)) (now (a .counts)) in
-    matched-as (whole (c .before .before .before .before .before .before .before .before .before .before .before)) (matched-stop (wordBytes (a .cells) ++ normalBytes (a .dims) rows) (matched-stop (flatMap baseBytes (ourBases (a .dims) rows)) (matched-told (c .before .n .given .1) (c .before .before .before .match-word .ensures))))
+    let n = rowsOf (a .dims) (a .n) (now (a .rows)) in
+    matched-as (whole (c .before .before .before .before .before .before .before .before .before .before .before)) (matched-stop (wordBytes (a .cells) ++ normalBytes (a .dims) n) (matched-stop (flatMap baseBytes (ourBases (a .dims) n)) (matched-told (c .before .stop .given .1) (c .before .before .before .match-word .ensures))))
 
 match-bases-requires : tie.Need-match-bases-requires
 match-bases-requires c κs = (c .before .before .before .before .before .before .before .before .before .before .before .pre .0 .0, matched-told (c .before .at .given .1) (c .before .before .before .match-word .ensures) .meets .2)
@@ -41,9 +41,9 @@ cast-match-word-2 : tie.Need-cast-match-word-2
 cast-match-word-2 c =
     let a = c .before .before .before .before .before .before .before .before .before .before .before .before .before .before .before .args in
     let p = c .before .before .before .before .before .before .before .before .before .before .before .before .before .before .before .pre .0 .0 .ready in
-    let rows = rowsOf (a .dims) (a .rows) (now (a .codes)) (now (a .sums)) (now (a .counts)) in
-    let few = normals-few (a .dims) rows (p .dims) (omega (arith, rows-length (a .dims) (a .rows) (now (a .codes)) (now (a .sums)) (now (a .counts)), p .few)) in
-    omega (arith, rw (rows-codes (a .dims) (a .rows) (now (a .codes)) (now (a .sums)) (now (a .counts))) at few, c .before .before .before .before .before .before .before .before .before .before .before .before .before .before .before .pre .1)
+    let n = rowsOf (a .dims) (a .n) (now (a .rows)) in
+    let few = normals-few (a .dims) n (p .dims) (omega (arith, rows-length (a .dims) (a .n) (now (a .rows)), p .few)) in
+    omega (arith, rw (rows-rows (a .dims) (a .n) (now (a .rows))) at few, c .before .before .before .before .before .before .before .before .before .before .before .before .before .before .before .pre .1)
 
 match-word-requires-2 : tie.Need-match-word-requires-2
 match-word-requires-2 c κs = matched-told (c .before .end .given .1) (c .before .before .before .match-bases .ensures) .meets .2

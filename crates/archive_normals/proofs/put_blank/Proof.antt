@@ -14,7 +14,7 @@ use Rattle.archive_normals.proofs.put_blank.Tie as tie
 
 -- at most one cell of at most 8 codes
 size : (c : tie.After-blanks) → (c .blanks .result ≤ 1) × (c .blanks .result * c .before .before .args .dims ≤ 8)
-size c = rw (c .blanks .ensures) (blanks-size (c .before .before .args .dims) (c .before .before .args .rows) (c .before .before .pre .0))
+size c = rw (c .blanks .ensures) (blanks-size (c .before .before .args .dims) (c .before .before .args .n) (c .before .before .pre .0))
 
 mul-size : tie.Need-mul-size
 mul-size c = omega (arith, size c .1)
@@ -43,14 +43,14 @@ put-cells-requires c κs =
       slice-aggregate-put-cells (c .before .before),
       omega (arith, slice-aggregate-put-cells-2 (c .before)),
       omega (arith, slice-aggregate-put-cells-3 c),
-      omega (arith, ap (λ (k : ℕ). k * (4 * a .dims + 12)) (c .before .before .before .before .blanks .ensures), blank-long (a .dims) (a .rows), c .before .before .before .before .before .before .pre .1),
+      omega (arith, ap (λ (k : ℕ). k * (4 * a .dims + 12)) (c .before .before .before .before .blanks .ensures), blank-long (a .dims) (a .n), c .before .before .before .before .before .before .pre .1),
     )
 
 returns : tie.Need-returns
 unfolding blankBytes
 returns c =
     let a = c .before .before .before .before .before .before .before .before .before .args in
-    wrote-as (ap (flatMap cellBytes) (rw (c .before .before .before .before .before .before .before .blanks .ensures) (blank-stored (a .dims) (a .rows) (c .before .before .before .before .before .before .before .before .before .pre .0)))) (c .before .before .put-cells .ensures)
+    wrote-as (ap (flatMap cellBytes) (rw (c .before .before .before .before .before .before .before .blanks .ensures) (blank-stored (a .dims) (a .n) (c .before .before .before .before .before .before .before .before .before .pre .0)))) (c .before .before .put-cells .ensures)
 
 pub put-blank-spec : {M : Type 1} → statement M
 put-blank-spec =

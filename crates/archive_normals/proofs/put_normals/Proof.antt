@@ -17,18 +17,18 @@ use Rattle.archive_normals.proofs.put_normals.Tie as tie
 
 -- the two parts as a whole, and that there is room for both
 whole : (c : tie.Start) → (let a = c .args in
-    let rows = rowsOf (a .dims) (a .rows) (now (a .codes)) (now (a .sums)) (now (a .counts)) in
-    blankBytes (a .dims) (a .rows) ++ commonBytes (a .dims) rows ≡ normalBytes (a .dims) rows)
+    let n = rowsOf (a .dims) (a .n) (now (a .rows)) in
+    blankBytes (a .dims) (a .n) ++ commonBytes (a .dims) n ≡ normalBytes (a .dims) n)
 whole c =
     let a = c .args in
-    rw (rows-length (a .dims) (a .rows) (now (a .codes)) (now (a .sums)) (now (a .counts))) at (normal-parts (a .dims) (rowsOf (a .dims) (a .rows) (now (a .codes)) (now (a .sums)) (now (a .counts))))
+    rw (rows-length (a .dims) (a .n) (now (a .rows))) at (normal-parts (a .dims) (rowsOf (a .dims) (a .n) (now (a .rows))))
 
 room : (c : tie.Start) → (let a = c .args in
-    length (blankBytes (a .dims) (a .rows)) + length (commonBytes (a .dims) (rowsOf (a .dims) (a .rows) (now (a .codes)) (now (a .sums)) (now (a .counts)))) ≤ length (now (a .out)))
+    length (blankBytes (a .dims) (a .n)) + length (commonBytes (a .dims) (rowsOf (a .dims) (a .n) (now (a .rows)))) ≤ length (now (a .out)))
 room c =
     let a = c .args in
-    let rows = rowsOf (a .dims) (a .rows) (now (a .codes)) (now (a .sums)) (now (a .counts)) in
-    omega (arith, c .pre .1, ap length (whole c), length-append (blankBytes (a .dims) (a .rows)) (commonBytes (a .dims) rows))
+    let n = rowsOf (a .dims) (a .n) (now (a .rows)) in
+    omega (arith, c .pre .1, ap length (whole c), length-append (blankBytes (a .dims) (a .n)) (commonBytes (a .dims) n))
 
 put-blank-requires : tie.Need-put-blank-requires
 put-blank-requires c κs = (c .before .before .before .before .before .before .pre .0 .ready .dims, omega (arith, room (c .before .before .before .before .before .before)))

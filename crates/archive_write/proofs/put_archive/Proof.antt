@@ -18,15 +18,15 @@ use Rattle.archive_write.proofs.put_archive.Statement.{statement}
 use Rattle.archive_write.proofs.put_archive.Tie as tie
 
 -- there is room for the sections behind the header, and for those behind the base entries
-room : (c : tie.After-put-header) → (let a = c .before .before .before .before .before .before .before .before .before .before .args in let d = length (now (a .sizes)) in let rows = rowsOf d (a .rows) (now (a .codes)) (now (a .sums)) (now (a .counts)) in
-    c .put-header .result + 4 + length (flatMap baseBytes (ourBases d rows)) + 4 + length (normalBytes d rows) + 4 ≤ length (now (a .out)))
+room : (c : tie.After-put-header) → (let a = c .before .before .before .before .before .before .before .before .before .before .args in let d = length (now (a .sizes)) in let n = rowsOf d (a .n) (now (a .rows)) in
+    c .put-header .result + 4 + length (flatMap baseBytes (ourBases d n)) + 4 + length (normalBytes d n) + 4 ≤ length (now (a .out)))
 room c =
     let a = c .before .before .before .before .before .before .before .before .before .before .args in
     let p = c .before .before .before .before .before .before .before .before .before .before .pre in
     omega (arith, c .put-header .ensures .count, length-header CUBE (now (a .sizes)), archive-sum (now (a .sizes)) (p .0 .0) (p .0 .2), p .1)
 
-behind : (c : tie.After-put-bases) → (let a = c .before .before .before .before .before .before .before .before .before .before .before .before .before .before .before .before .before .before .args in let d = length (now (a .sizes)) in let rows = rowsOf d (a .rows) (now (a .codes)) (now (a .sums)) (now (a .counts)) in
-    c .before .before .before .before .before .before .before .before .put-header .result + 4 + c .put-bases .result + 4 + length (normalBytes d rows) + 4 ≤ length (now (a .out)))
+behind : (c : tie.After-put-bases) → (let a = c .before .before .before .before .before .before .before .before .before .before .before .before .before .before .before .before .before .before .args in let d = length (now (a .sizes)) in let n = rowsOf d (a .n) (now (a .rows)) in
+    c .before .before .before .before .before .before .before .before .put-header .result + 4 + c .put-bases .result + 4 + length (normalBytes d n) + 4 ≤ length (now (a .out)))
 behind c = omega (arith, room (c .before .before .before .before .before .before .before .before), c .put-bases .ensures .count)
 
 put-header-requires : tie.Need-put-header-requires

@@ -18,7 +18,7 @@ use borrow.Author.Needs.{needs}
 use Rattle.call_ask.proofs.look_read.Statement.{statement}
 use Rattle.call_ask.proofs.look_read.Tie as tie
 
-rows-in : (c : tie.After-shared-slice-known) → (let a = c .before .args in OpenedIn (now (a .s)) (a .dims) (a .bases) (a .cells) (now (a .codes)) (now (a .sums)) (now (a .counts)))
+rows-in : (c : tie.After-shared-slice-known) → (let a = c .before .args in OpenedIn (now (a .s)) (a .dims) (a .bases) (a .cells) (now (a .rows)))
 rows-in c = opened (bytes-of (now (c .before .args .s)) (λ i. omega (arith, c .shared-slice-known .given i))) (c .before .pre)
 
 fits-requires : tie.Need-fits-requires

@@ -20,8 +20,8 @@ use Rattle.call_build.proofs.build_read.Tie as tie
 are-bytes : (c : tie.After-shared-slice-known) → Bytes (now (c .before .args .s))
 are-bytes c = bytes-of (now (c .before .args .s)) (λ i. omega (arith, c .shared-slice-known .given i))
 
-read : (c : tie.After-shared-slice-known) → (let a = c .before .args in Tabled (now (a .s)) (a .dims) (a .rows) (take (a .rows * a .dims) (now (a .codes))) (take (a .rows) (now (a .sums))) (take (a .rows) (now (a .counts))))
-read c = let a = c .before .args in let p = c .before .pre in tabled (are-bytes c) (p .0) (now (a .codes)) (now (a .sums)) (now (a .counts)) (p .1 .0, p .1 .1, p .1 .2) (p .1 .3)
+read : (c : tie.After-shared-slice-known) → (let a = c .before .args in Tabled (now (a .s)) (a .dims) (a .rows) (take (a .rows * a .dims) (now (a .rows))) (take (a .rows) (now (a .sums))) (take (a .rows) (now (a .counts))))
+read c = let a = c .before .args in let p = c .before .pre in tabled (are-bytes c) (p .0) (now (a .rows)) (p .1 .0, p .1 .1, p .1 .2) (p .1 .3)
 
 mul-size : tie.Need-mul-size
 mul-size c = omega (arith, read (c .before .before .before) .small)
@@ -45,8 +45,8 @@ write-sized-requires : tie.Need-write-sized-requires
 write-sized-requires c κs =
     let a = c .before .before .before .before .before .before .before .before .before .before .args in
     let r = read (c .before .before .before .before .before .before .before .before .before) in
-    let p = subst (λ (d : ℕ). (8 + 4 * d ≤ length (now (a .s))) × Ready d (a .rows) (take (a .rows * a .dims) (now (a .codes))) (take (a .rows) (now (a .sums))) (take (a .rows) (now (a .counts)))
-    × Limits (wordsAt (now (a .s)) d 8) (rowsOf d (a .rows) (take (a .rows * a .dims) (now (a .codes))) (take (a .rows) (now (a .sums))) (take (a .rows) (now (a .counts)))))
+    let p = subst (λ (d : ℕ). (8 + 4 * d ≤ length (now (a .s))) × Ready d (a .rows) (take (a .rows * a .dims) (now (a .rows))) (take (a .rows) (now (a .sums))) (take (a .rows) (now (a .counts)))
+    × Limits (wordsAt (now (a .s)) d 8) (rowsOf d (a .rows) (take (a .rows * a .dims) (now (a .rows))) (take (a .rows) (now (a .sums))) (take (a .rows) (now (a .counts)))))
     (slice-aggregate-write-sized (c .before .before .before .before .before)) (r .headed, r .ready, r .limits) in
     ((p .0, p .1, omega arith), p .2)
 
@@ -54,7 +54,7 @@ returns : tie.Need-returns
 returns c =
     let a = c .before .before .before .before .before .before .before .before .before .before .before .before .before .before .before .args in
     answered-as (read (c .before .before .before .before .before .before .before .before .before .before .before .before .before .before) .built)
-    (subst (λ (d : ℕ). Answered (bytes (archiveBytes (wordsAt (now (a .s)) d 8) (rowsOf d (a .rows) (take (a .rows * a .dims) (now (a .codes))) (take (a .rows) (now (a .sums))) (take (a .rows) (now (a .counts))))))
+    (subst (λ (d : ℕ). Answered (bytes (archiveBytes (wordsAt (now (a .s)) d 8) (rowsOf d (a .rows) (take (a .rows * a .dims) (now (a .rows))) (take (a .rows) (now (a .sums))) (take (a .rows) (now (a .counts))))))
     (now (a .out)) (c .before .before .before .before .write-sized .last .1 .1 .1 .1 .1 .1 .1 .0) (c .before .before .before .before .write-sized .result)) (sym (slice-aggregate-write-sized (c .before .before .before .before .before .before .before .before .before .before))) (c .before .before .before .before .write-sized .ensures))
 
 pub build-read-spec : {M : Type 1} → statement M

@@ -25,13 +25,13 @@ no-count zero (suc s) slot e f = refl
 no-count (suc n) s slot e f = absurd (omega (arith, e))
 
 returns : tie.Need-returns
-returns c = let a = c .before .before .before .args in c .count-groups .ensures ∙ rows-count (a .rows) (a .set) (now (a .slot)) (c .before .if1 .taken)
+returns c = let a = c .before .before .before .args in c .count-groups .ensures ∙ rows-count (a .n) (a .set) (now (a .slot)) (c .before .if1 .taken)
 
 returns-2 : tie.Need-returns-2
-returns-2 c = let a = c .before .before .before .args in one-count (a .rows) (a .set) (now (a .slot)) (c .before .if1 .left) (c .if2 .taken)
+returns-2 c = let a = c .before .before .before .args in one-count (a .n) (a .set) (now (a .slot)) (c .before .if1 .left) (c .if2 .taken)
 
 returns-3 : tie.Need-returns-3
-returns-3 c = let a = c .before .before .before .args in no-count (a .rows) (a .set) (now (a .slot)) (c .before .if1 .left) (c .if2 .left)
+returns-3 c = let a = c .before .before .before .args in no-count (a .n) (a .set) (now (a .slot)) (c .before .if1 .left) (c .if2 .left)
 
 pub count-cells-spec : {M : Type 1} → statement M
 count-cells-spec =

@@ -14,12 +14,12 @@ use Rattle.call_cuboids.proofs.expansion_len.Statement.{statement}
 use Rattle.call_cuboids.proofs.expansion_len.Tie as tie
 
 abbrev Inv-loop : tie.InvT-loop
-Inv-loop codes sums counts rows dims store used all len₀ k₀ len k =
+Inv-loop rows n dims store used all len₀ k₀ len k =
     (k ≤ 256) × (len ≤ 45060 * k)
-    × (len + length (turns (cuboidBytes dims (rowsOf dims rows codes sums counts)) (2 ^ dims) k) ≡ length (expansionBytes dims (rowsOf dims rows codes sums counts)))
+    × (len + length (turns (cuboidBytes dims (rowsOf dims n rows)) (2 ^ dims) k) ≡ length (expansionBytes dims (rowsOf dims n rows)))
 
 abbrev μ-loop : tie.MeasureT-loop
-μ-loop codes sums counts rows dims store used all len₀ k₀ len k = 256 - k
+μ-loop rows n dims store used all len₀ k₀ len k = 256 - k
 
 cast-sets-of : tie.Need-cast-sets-of Inv-loop μ-loop
 cast-sets-of c = omega (arith, c .before .before .before .before .pre .ready .dims)
@@ -30,13 +30,13 @@ sets-of-requires c κs = c .before .before .before .before .pre .ready .dims
 loop-holds : tie.Need-loop-holds Inv-loop μ-loop
 loop-holds c =
     let a = c .before .before .before .before .before .args in
-    (omega arith, omega arith, omega (arith, ap length (turns-start (a .dims) (rowsOf (a .dims) (a .rows) (now (a .codes)) (now (a .sums)) (now (a .counts))) (c .before .before .before .before .before .pre .ready .dims))))
+    (omega arith, omega arith, omega (arith, ap length (turns-start (a .dims) (rowsOf (a .dims) (a .n) (now (a .rows))) (c .before .before .before .before .before .pre .ready .dims))))
 
 loop-again : tie.Need-loop-again Inv-loop μ-loop
 loop-again c =
     let a = c .before .before .before .before .before .before .before .before .before .args in
     let l = c .before .before .before .loop in
-    let f = cuboidBytes (a .dims) (rowsOf (a .dims) (a .rows) (now (a .codes)) (now (a .sums)) (now (a .counts))) in
+    let f = cuboidBytes (a .dims) (rowsOf (a .dims) (a .n) (now (a .rows))) in
     let at = c .before .set-at .ensures in
     let all = c .before .before .before .before .sets-of .ensures in
     let k = c .before .before .loop-test .taken in
@@ -55,7 +55,7 @@ loop-again c =
 returns : tie.Need-returns Inv-loop μ-loop
 returns c =
     let a = c .before .before .before .before .before .before .before .args in
-    omega (arith, c .before .loop .inv .2, turns-over (cuboidBytes (a .dims) (rowsOf (a .dims) (a .rows) (now (a .codes)) (now (a .sums)) (now (a .counts)))) (2 ^ a .dims) (c .loop-test .left))
+    omega (arith, c .before .loop .inv .2, turns-over (cuboidBytes (a .dims) (rowsOf (a .dims) (a .n) (now (a .rows)))) (2 ^ a .dims) (c .loop-test .left))
 
 pub expansion-len-spec : {M : Type 1} → statement M
 expansion-len-spec =

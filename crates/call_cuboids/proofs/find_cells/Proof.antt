@@ -22,7 +22,7 @@ returns : tie.Need-returns
 returns c =
     let a = c .before .before .before .before .before .before .before .before .before .before .before .before .before .before .before .args in
     let r = c .before .before .before .before .before .blank-cells .ensures in
-    (r .1 ∙ ap (λ (l : List (Row Total)). cells (plain (a .dims)) measure l (a .set)) (sym (no-rows (a .dims) (a .rows) (now (a .codes)) (now (a .counts)) (now (a .sums)) (c .before .before .before .before .before .before .before .before .before .if1 .taken))), omega (arith, r .0))
+    (r .1 ∙ ap (λ (l : List (Row Total)). cells (plain (a .dims)) measure l (a .set)) (sym (no-n (a .dims) (a .n) (now (a .rows)) (now (a .counts)) (now (a .sums)) (c .before .before .before .before .before .before .before .before .before .if1 .taken))), omega (arith, r .0))
 
 group-rows-requires : tie.Need-group-rows-requires
 group-rows-requires c κs =
@@ -34,9 +34,9 @@ group-rows-requires c κs =
 returns-2 : tie.Need-returns-2
 returns-2 c =
     let a = c .before .before .before .before .before .before .before .before .before .before .before .before .before .before .before .before .before .before .args in
-    let rows = rowsOf (a .dims) (a .rows) (now (a .codes)) (now (a .sums)) (now (a .counts)) in
-    let some : 1 ≤ length rows = omega (arith, c .before .before .before .before .before .before .before .before .before .before .before .before .if1 .left, rows-length (a .dims) (a .rows) (now (a .codes)) (now (a .sums)) (now (a .counts))) in
-    (c .before .before .before .before .before .before .before .group-rows .ensures .0 ∙ sym (cells-rows (plain (a .dims)) measure rows (a .set) some), omega (arith, c .before .before .before .before .before .before .before .group-rows .ensures .1, c .before .before .before .before .before .before .before .before .before .before .before .before .before .before .before .before .before .before .pre .0 .0 .few))
+    let n = rowsOf (a .dims) (a .n) (now (a .rows)) in
+    let some : 1 ≤ length n = omega (arith, c .before .before .before .before .before .before .before .before .before .before .before .before .if1 .left, rows-length (a .dims) (a .n) (now (a .rows))) in
+    (c .before .before .before .before .before .before .before .group-n .ensures .0 ∙ sym (cells-n (plain (a .dims)) measure n (a .set) some), omega (arith, c .before .before .before .before .before .before .before .group-n .ensures .1, c .before .before .before .before .before .before .before .before .before .before .before .before .before .before .before .before .before .before .pre .0 .0 .few))
 
 pub find-cells-spec : {M : Type 1} → statement M
 find-cells-spec =

@@ -26,26 +26,26 @@ count-cells-requires : tie.Need-count-cells-requires
 count-cells-requires c κs = let p = c .before .before .before .before .before .before .pre .0 in slot-few (p .0) (p .1) (c .slot-of .ensures)
 
 -- the count, and the parts
-count : (c : tie.After-count-cells) → (let a = c .before .before .before .before .before .before .before .args in c .count-cells .result ≡ length (cells (plain (a .dims)) measure (rowsOf (a .dims) (a .rows) (now (a .codes)) (now (a .sums)) (now (a .counts))) (a .set)))
+count : (c : tie.After-count-cells) → (let a = c .before .before .before .before .before .before .before .args in c .count-cells .result ≡ length (cells (plain (a .dims)) measure (rowsOf (a .dims) (a .n) (now (a .rows))) (a .set)))
 count c =
     let a = c .before .before .before .before .before .before .before .args in
     let p = c .before .before .before .before .before .before .before .pre .0 in
-    c .count-cells .ensures ∙ slot-count (a .dims) (a .rows) (p .0 .ready) (a .set) (slot-is (p .0) (p .1) (c .before .slot-of .ensures))
+    c .count-cells .ensures ∙ slot-count (a .dims) (a .n) (p .0 .ready) (a .set) (slot-is (p .0) (p .1) (c .before .slot-of .ensures))
 
-whole : (c : tie.After-count-cells) → (let a = c .before .before .before .before .before .before .before .args in let rows = rowsOf (a .dims) (a .rows) (now (a .codes)) (now (a .sums)) (now (a .counts)) in
-    wordBytes (c .count-cells .result) ++ flatMap cellBytes (cells (plain (a .dims)) measure rows (a .set)) ≡ cuboidBytes (a .dims) rows (a .set))
+whole : (c : tie.After-count-cells) → (let a = c .before .before .before .before .before .before .before .args in let n = rowsOf (a .dims) (a .n) (now (a .rows)) in
+    wordBytes (c .count-cells .result) ++ flatMap cellBytes (cells (plain (a .dims)) measure n (a .set)) ≡ cuboidBytes (a .dims) n (a .set))
 unfolding cuboidBytes
 whole c =
     let a = c .before .before .before .before .before .before .before .args in
-    let rows = rowsOf (a .dims) (a .rows) (now (a .codes)) (now (a .sums)) (now (a .counts)) in
-    ap (λ (n : ℕ). wordBytes n ++ flatMap cellBytes (cells (plain (a .dims)) measure rows (a .set))) (count c)
+    let n = rowsOf (a .dims) (a .n) (now (a .rows)) in
+    ap (λ (n : ℕ). wordBytes n ++ flatMap cellBytes (cells (plain (a .dims)) measure n (a .set))) (count c)
 
-room : (c : tie.After-count-cells) → (let a = c .before .before .before .before .before .before .before .args in let rows = rowsOf (a .dims) (a .rows) (now (a .codes)) (now (a .sums)) (now (a .counts)) in
-    4 + length (flatMap cellBytes (cells (plain (a .dims)) measure rows (a .set))) ≤ length (now (a .out)))
+room : (c : tie.After-count-cells) → (let a = c .before .before .before .before .before .before .before .args in let n = rowsOf (a .dims) (a .n) (now (a .rows)) in
+    4 + length (flatMap cellBytes (cells (plain (a .dims)) measure n (a .set))) ≤ length (now (a .out)))
 room c =
     let a = c .before .before .before .before .before .before .before .args in
-    let rows = rowsOf (a .dims) (a .rows) (now (a .codes)) (now (a .sums)) (now (a .counts)) in
-    omega (arith, ap length (whole c), length-append (wordBytes (c .count-cells .result)) (flatMap cellBytes (cells (plain (a .dims)) measure rows (a .set))), c .before .before .before .before .before .before .before .pre .1)
+    let n = rowsOf (a .dims) (a .n) (now (a .rows)) in
+    omega (arith, ap length (whole c), length-append (wordBytes (c .count-cells .result)) (flatMap cellBytes (cells (plain (a .dims)) measure n (a .set))), c .before .before .before .before .before .before .before .pre .1)
 
 cast-put-word : tie.Need-cast-put-word
 cast-put-word c = let p = c .before .before .before .before .before .before .before .before .pre .0 in omega (arith, c .before .count-cells .ensures, cells-few (p .0) (p .1) (c .before .before .slot-of .ensures))

@@ -37,7 +37,7 @@ returns-2 c =
     wrote-as (ap (flatMap cellBytes) (blank-elsewhere (a .dims) (a .set) (c .if2 .taken) ∙ blank-cells (p .0) (a .set) (p .1) (c .before .if1 .left))) (wrote-none _)
 
 -- the cell of an empty table
-blank : (c : tie.Else2) → let a = c .before .before .before .before .before .before .args in cells (plain (a .dims)) measure [] 0 ≡ cells (plain (a .dims)) measure (rowsOf (a .dims) (a .rows) (now (a .codes)) (now (a .sums)) (now (a .counts))) (a .set)
+blank : (c : tie.Else2) → let a = c .before .before .before .before .before .before .args in cells (plain (a .dims)) measure [] 0 ≡ cells (plain (a .dims)) measure (rowsOf (a .dims) (a .n) (now (a .rows))) (a .set)
 blank c =
     let a = c .before .before .before .before .before .before .args in
     let p = c .before .before .before .before .before .before .pre .0 in

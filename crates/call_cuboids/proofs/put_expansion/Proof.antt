@@ -16,11 +16,11 @@ use Rattle.call_cuboids.proofs.put_expansion.Statement.{statement}
 use Rattle.call_cuboids.proofs.put_expansion.Tie as tie
 
 abbrev Inv-loop : tie.InvT-loop
-Inv-loop out₀ codes sums counts rows dims store used all at₀ k₀ out at k =
-    (k ≤ 256) × Writing (expansionBytes dims (rowsOf dims rows codes sums counts)) (turns (cuboidBytes dims (rowsOf dims rows codes sums counts)) (2 ^ dims) k) out₀ out at
+Inv-loop out₀ rows n dims store used all at₀ k₀ out at k =
+    (k ≤ 256) × Writing (expansionBytes dims (rowsOf dims n rows)) (turns (cuboidBytes dims (rowsOf dims n rows)) (2 ^ dims) k) out₀ out at
 
 abbrev μ-loop : tie.MeasureT-loop
-μ-loop out₀ codes sums counts rows dims store used all at₀ k₀ out at k = 256 - k
+μ-loop out₀ rows n dims store used all at₀ k₀ out at k = 256 - k
 
 cast-sets-of : tie.Need-cast-sets-of Inv-loop μ-loop
 cast-sets-of c = omega (arith, c .before .before .before .before .before .pre .0 .ready .dims)
@@ -31,9 +31,9 @@ sets-of-requires c κs = c .before .before .before .before .before .pre .0 .read
 loop-holds : tie.Need-loop-holds Inv-loop μ-loop
 loop-holds c =
     let a = c .before .before .before .before .before .before .args in
-    let rows = rowsOf (a .dims) (a .rows) (now (a .codes)) (now (a .sums)) (now (a .counts)) in
-    let all = expansionBytes (a .dims) rows in
-    (omega arith, subst (λ (x : List _). Writing all x (now (a .out)) (now (a .out)) 0) (sym (turns-start (a .dims) rows (c .before .before .before .before .before .before .pre .0 .ready .dims))) (writing-none all (now (a .out))))
+    let n = rowsOf (a .dims) (a .n) (now (a .rows)) in
+    let all = expansionBytes (a .dims) n in
+    (omega arith, subst (λ (x : List _). Writing all x (now (a .out)) (now (a .out)) 0) (sym (turns-start (a .dims) n (c .before .before .before .before .before .before .pre .0 .ready .dims))) (writing-none all (now (a .out))))
 
 loop-again : tie.Need-loop-again Inv-loop μ-loop
 loop-again c =
@@ -46,7 +46,7 @@ has-turn : (c : tie.Else1 Inv-loop μ-loop) → c .before .set-at .result < 2 ^ 
 has-turn c = omega (arith, c .if1 .left, c .before .before .before .before .sets-of .ensures)
 
 room : (c : tie.Else1 Inv-loop μ-loop) → (let a = c .before .before .before .before .before .before .before .before .before .before .args in
-    c .before .before .before .loop .at + length (cuboidBytes (a .dims) (rowsOf (a .dims) (a .rows) (now (a .codes)) (now (a .sums)) (now (a .counts))) (c .before .set-at .result)) ≤ length (c .before .before .before .loop .out))
+    c .before .before .before .loop .at + length (cuboidBytes (a .dims) (rowsOf (a .dims) (a .n) (now (a .rows))) (c .before .set-at .result)) ≤ length (c .before .before .before .loop .out))
 room c = write-room _ (2 ^ c .before .before .before .before .before .before .before .before .before .before .args .dims) (c .before .before .loop-test .taken) (c .before .set-at .ensures) (c .before .before .before .loop .inv .1) (has-turn c) (c .before .before .before .before .before .before .before .before .before .before .pre .1)
 
 sub-put-cuboid : tie.Need-sub-put-cuboid Inv-loop μ-loop

@@ -22,7 +22,7 @@ use Rattle.call_cuboids.proofs.write_cuboid.Statement.{statement}
 use Rattle.call_cuboids.proofs.write_cuboid.Tie as tie
 
 slice-aggregate-find-cells : tie.Need-slice-aggregate-find-cells
-slice-aggregate-find-cells c = sym (length-take-le (c .before .before .before .before .args .rows) _ (c .before .before .before .before .pre .few))
+slice-aggregate-find-cells c = sym (length-take-le (c .before .before .before .before .args .n) _ (c .before .before .before .before .pre .few))
 
 find-cells-requires : tie.Need-find-cells-requires
 find-cells-requires c κs = ((c .before .before .before .before .before .before .before .pre, sym (slice-aggregate-find-cells (c .before .before .before))), (search needs, search needs, search needs))
@@ -48,12 +48,12 @@ add-len-2 : tie.Need-add-len-2
 add-len-2 c = omega (arith, size c .1)
 
 -- how long the cuboid is
-long : (c : tie.After-tallies2) → (let a = c .before .before .before .before .before .before .before .before .before .before .before .before .args in length (cuboidBytes (a .dims) (rowsOf (a .dims) (a .rows) (now (a .codes)) (now (a .sums)) (now (a .counts))) (a .set)) ≡ 4 + c .before .before .before .before .find-cells .result * (4 * a .dims + 12))
+long : (c : tie.After-tallies2) → (let a = c .before .before .before .before .before .before .before .before .before .before .before .before .args in length (cuboidBytes (a .dims) (rowsOf (a .dims) (a .n) (now (a .rows))) (a .set)) ≡ 4 + c .before .before .before .before .find-cells .result * (4 * a .dims + 12))
 long c =
     let a = c .before .before .before .before .before .before .before .before .before .before .before .before .args in
-    let rows = rowsOf (a .dims) (a .rows) (now (a .codes)) (now (a .sums)) (now (a .counts)) in
-    let g : c .before .before .before .before .find-cells .result ≡ length (cells (plain (a .dims)) measure rows (a .set)) = sym (rows-length (a .dims) _ _ _ _) ∙ ap length (c .before .before .before .before .find-cells .ensures .0) in
-    rw (← g) at (cuboid-length (a .dims) rows (a .set) (c .before .before .before .before .before .before .before .before .before .before .before .before .pre .table))
+    let n = rowsOf (a .dims) (a .n) (now (a .rows)) in
+    let g : c .before .before .before .before .find-cells .result ≡ length (cells (plain (a .dims)) measure n (a .set)) = sym (rows-length (a .dims) _ _ _ _) ∙ ap length (c .before .before .before .before .find-cells .ensures .0) in
+    rw (← g) at (cuboid-length (a .dims) n (a .set) (c .before .before .before .before .before .before .before .before .before .before .before .before .pre .table))
 
 returns : tie.Need-returns
 returns c = record { count = sym (long (c .before)); fits = λ h. absurd (omega (arith, h, long (c .before), c .if1 .taken)); short = λ h. refl }
@@ -74,7 +74,7 @@ put-counted-requires : tie.Need-put-counted-requires
 put-counted-requires c κs = (slice-aggregate-put-counted (c .before .before), omega (arith, slice-aggregate-put-counted-2 (c .before)), omega (arith, slice-aggregate-put-counted-3 c), few (c .before .before .before .before .before), omega (arith, c .before .before .before .before .if1 .left))
 
 -- what is written
-wrote : (c : tie.After-slice-known2) → (let a = c .before .before .before .before .before .before .before .before .before .before .before .before .before .before .before .before .before .before .before .before .args in Wrote (cuboidBytes (a .dims) (rowsOf (a .dims) (a .rows) (now (a .codes)) (now (a .sums)) (now (a .counts))) (a .set)) (now (a .out)) (c .before .before .put-counted .last .0) (c .before .before .put-counted .result))
+wrote : (c : tie.After-slice-known2) → (let a = c .before .before .before .before .before .before .before .before .before .before .before .before .before .before .before .before .before .before .before .before .args in Wrote (cuboidBytes (a .dims) (rowsOf (a .dims) (a .n) (now (a .rows))) (a .set)) (now (a .out)) (c .before .before .put-counted .last .0) (c .before .before .put-counted .result))
 unfolding cuboidBytes
 wrote c =
     let g = rows-front (c .before .before .before .before .before .before .before .before .before .before .before .before .before .before .before .before .before .before .before .before .args .dims) (c .before .before .before .before .before .before .before .before .before .before .before .before .find-cells .result) _ _ _ ∙ c .before .before .before .before .before .before .before .before .before .before .before .before .find-cells .ensures .0 in

@@ -22,8 +22,8 @@ cell-counts-requires : tie.Need-cell-counts-requires
 cell-counts-requires c κs =
     let a = c .before .before .before .before .args in
     let p = c .before .before .before .before .pre in
-    let rows = rowsOf (a .dims) (a .rows) (now (a .codes)) (now (a .sums)) (now (a .counts)) in
-    (p .0, omega (arith, some-rows rows (p .3), rows-length (a .dims) (a .rows) (now (a .codes)) (now (a .sums)) (now (a .counts))), search needs)
+    let n = rowsOf (a .dims) (a .n) (now (a .rows)) in
+    (p .0, omega (arith, some-n n (p .3), rows-length (a .dims) (a .n) (now (a .rows))), search needs)
 
 -- the counts are in the front of the array
 front : (c : tie.After-cell-counts) → c .cell-counts .result ≤ length (c .cell-counts .last .1 .1 .1 .1 .1 .1 .0)
@@ -37,8 +37,8 @@ fit-fee-requires c κs =
     let a = c .before .before .before .before .before .before .before .before .args in
     let p = c .before .before .before .before .before .before .before .before .pre in
     let e = c .before .before .before .cell-counts .ensures in
-    let rows = rowsOf (a .dims) (a .rows) (now (a .codes)) (now (a .sums)) (now (a .counts)) in
-    let t : sum (take (c .before .before .before .cell-counts .result) (c .before .before .before .cell-counts .last .1 .1 .1 .1 .1 .1 .0)) ≡ _ = ap sum (e .0) ∙ weights-total (a .dims) rows (p .0 .table) (sets-of (a .dims) (p .1)) in (
+    let n = rowsOf (a .dims) (a .n) (now (a .rows)) in
+    let t : sum (take (c .before .before .before .cell-counts .result) (c .before .before .before .cell-counts .last .1 .1 .1 .1 .1 .1 .0)) ≡ _ = ap sum (e .0) ∙ weights-total (a .dims) n (p .0 .table) (sets-of (a .dims) (p .1)) in (
       p .2,
       omega (arith, slice-aggregate-fit-fee c, e .1, p .0 .few),
       omega (arith, t, p .3),

@@ -21,15 +21,15 @@ abbrev zeros : List ℕ
 zeros = 0 ∷ 0 ∷ 0 ∷ 0 ∷ 0 ∷ 0 ∷ 0 ∷ 0 ∷ []
 
 -- both archives
-one : (c : tie.After-slice-known) → (let a = c .before .before .before .before .before .before .before .args in OpenedIn (now (a .first)) (a .dims1) (a .rows1) (c .before .before .before .before .before .before .before .pre .0 .cells) (now (a .codes1)) (now (a .sums1)) (now (a .counts1)))
+one : (c : tie.After-slice-known) → (let a = c .before .before .before .before .before .before .before .args in OpenedIn (now (a .first)) (a .dims1) (a .rows1) (c .before .before .before .before .before .before .before .pre .0 .cells) (now (a .rows1)))
 one c = opened (bytes-of (now (c .before .before .before .before .before .before .before .args .first)) (λ i. omega (arith, c .before .before .before .before .before .before .shared-slice-known .given i))) (c .before .before .before .before .before .before .before .pre .0 .accepts)
 
-other : (c : tie.After-slice-known) → (let a = c .before .before .before .before .before .before .before .args in OpenedIn (now (a .second)) (a .dims2) (a .rows2) (c .before .before .before .before .before .before .before .pre .1 .cells) (now (a .codes2)) (now (a .sums2)) (now (a .counts2)))
+other : (c : tie.After-slice-known) → (let a = c .before .before .before .before .before .before .before .args in OpenedIn (now (a .second)) (a .dims2) (a .rows2) (c .before .before .before .before .before .before .before .pre .1 .cells) (now (a .rows2)))
 other c = opened (bytes-of (now (c .before .before .before .before .before .before .before .args .second)) (λ i. omega (arith, c .before .before .before .shared-slice-known4 .given i))) (c .before .before .before .before .before .before .before .pre .1 .accepts)
 
 -- the second has the first's dimensions
-alike : (c : tie.Else1) → (let a = c .before .before .before .before .before .before .before .before .before .args in OpenedIn (now (a .second)) (a .dims1) (a .rows2) (c .before .before .before .before .before .before .before .before .before .pre .1 .cells) (now (a .codes2)) (now (a .sums2)) (now (a .counts2)))
-alike c = let a = c .before .before .before .before .before .before .before .before .before .args in subst (λ (d : ℕ). OpenedIn (now (a .second)) d (a .rows2) (c .before .before .before .before .before .before .before .before .before .pre .1 .cells) (now (a .codes2)) (now (a .sums2)) (now (a .counts2))) (sym (c .if1 .left)) (other (c .before .before))
+alike : (c : tie.Else1) → (let a = c .before .before .before .before .before .before .before .before .before .args in OpenedIn (now (a .second)) (a .dims1) (a .rows2) (c .before .before .before .before .before .before .before .before .before .pre .1 .cells) (now (a .rows2)))
+alike c = let a = c .before .before .before .before .before .before .before .before .before .args in subst (λ (d : ℕ). OpenedIn (now (a .second)) d (a .rows2) (c .before .before .before .before .before .before .before .before .before .pre .1 .cells) (now (a .rows2))) (sym (c .if1 .left)) (other (c .before .before))
 
 returns : tie.Need-returns
 returns c = stopped (now (c .before .before .before .before .before .before .before .before .before .args .out)) (joins-dims (one (c .before .before)) (other (c .before .before)) (c .if1 .taken))

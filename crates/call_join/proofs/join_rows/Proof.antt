@@ -26,24 +26,24 @@ merge-rows-requires : tie.Need-merge-rows-requires
 merge-rows-requires c κs = (stores-pair (c .before .before .before .before .before .before .before .before .before .before .before .before .before .pre .0) (c .before .before .before .before .before .before .before .before .before .before .before .before .before .pre .1) (few (c .before .before .before)), (search needs, search needs, search needs))
 
 returns-2 : tie.Need-returns-2
-returns-2 c = stopped (now (c .before .before .before .before .before .before .before .before .before .before .before .before .before .before .before .before .before .before .args .out)) (stored-over (c .before .before .before .before .before .before .before .before .before .before .before .before .before .before .before .before .before .before .pre .0) (c .before .before .before .before .before .before .before .before .before .before .before .before .before .before .before .before .before .before .pre .1) (c .before .before .before .before .merge-rows .ensures) (c .if2 .taken))
+returns-2 c = stopped (now (c .before .before .before .before .before .before .before .before .before .before .before .before .before .before .before .before .before .before .args .out)) (stored-over (c .before .before .before .before .before .before .before .before .before .before .before .before .before .before .before .before .before .before .pre .0) (c .before .before .before .before .before .before .before .before .before .before .before .before .before .before .before .before .before .before .pre .1) (c .before .before .before .before .merge-n .ensures) (c .if2 .taken))
 
 -- the arrays have the lengths that they had
-room : (c : tie.After-merge-rows) → (8192 ≤ length (c .merge-rows .last .1 .1 .1 .1 .1 .1 .1 .0)) × (1024 ≤ length (c .merge-rows .last .1 .1 .1 .1 .1 .1 .1 .1 .0)) × (1024 ≤ length (c .merge-rows .last .1 .1 .1 .1 .1 .1 .1 .1 .1 .0))
+room : (c : tie.After-merge-n) → (8192 ≤ length (c .merge-n .last .1 .1 .1 .1 .1 .1 .1 .0)) × (1024 ≤ length (c .merge-n .last .1 .1 .1 .1 .1 .1 .1 .1 .0)) × (1024 ≤ length (c .merge-n .last .1 .1 .1 .1 .1 .1 .1 .1 .1 .0))
 room c = (search needs, search needs, search needs)
 
-small : (c : tie.Else2) → c .before .before .before .before .merge-rows .result * length (now (c .before .before .before .before .before .before .before .before .before .before .before .before .before .before .before .before .before .before .args .sizes)) ≤ 8192
-small c = stored-small (c .before .before .before .before .before .before .before .before .before .before .before .before .before .before .before .before .before .before .pre .0) (c .before .before .before .before .before .before .before .before .before .before .before .before .before .before .before .before .before .before .pre .1) (c .before .before .before .before .merge-rows .ensures) (room (c .before .before .before .before)) (few (c .before .before .before .before .before .before .before .before)) (c .if2 .left)
+small : (c : tie.Else2) → c .before .before .before .before .merge-n .result * length (now (c .before .before .before .before .before .before .before .before .before .before .before .before .before .before .before .before .before .before .args .sizes)) ≤ 8192
+small c = stored-small (c .before .before .before .before .before .before .before .before .before .before .before .before .before .before .before .before .before .before .pre .0) (c .before .before .before .before .before .before .before .before .before .before .before .before .before .before .before .before .before .before .pre .1) (c .before .before .before .before .merge-n .ensures) (room (c .before .before .before .before)) (few (c .before .before .before .before .before .before .before .before)) (c .if2 .left)
 
 -- the fronts of the arrays are ready
-ready : (c : tie.Else2) → (let l = c .before .before .before .before .merge-rows .last in let n = c .before .before .before .before .merge-rows .result in let d = length (now (c .before .before .before .before .before .before .before .before .before .before .before .before .before .before .before .before .before .before .args .sizes)) in Ready d n (take (n * d) (l .1 .1 .1 .1 .1 .1 .1 .0)) (take n (l .1 .1 .1 .1 .1 .1 .1 .1 .0)) (take n (l .1 .1 .1 .1 .1 .1 .1 .1 .1 .0)))
-ready c = stored-ready (c .before .before .before .before .before .before .before .before .before .before .before .before .before .before .before .before .before .before .pre .0) (c .before .before .before .before .before .before .before .before .before .before .before .before .before .before .before .before .before .before .pre .1) (c .before .before .before .before .merge-rows .ensures) (room (c .before .before .before .before)) (few (c .before .before .before .before .before .before .before .before)) (c .if2 .left)
+ready : (c : tie.Else2) → (let l = c .before .before .before .before .merge-n .last in let n = c .before .before .before .before .merge-n .result in let d = length (now (c .before .before .before .before .before .before .before .before .before .before .before .before .before .before .before .before .before .before .args .sizes)) in Ready d n (take (n * d) (l .1 .1 .1 .1 .1 .1 .1 .0)) (take n (l .1 .1 .1 .1 .1 .1 .1 .1 .0)) (take n (l .1 .1 .1 .1 .1 .1 .1 .1 .1 .0)))
+ready c = stored-ready (c .before .before .before .before .before .before .before .before .before .before .before .before .before .before .before .before .before .before .pre .0) (c .before .before .before .before .before .before .before .before .before .before .before .before .before .before .before .before .before .before .pre .1) (c .before .before .before .before .merge-n .ensures) (room (c .before .before .before .before)) (few (c .before .before .before .before .before .before .before .before)) (c .if2 .left)
 
 mul-size : tie.Need-mul-size
 mul-size c = omega (arith, small c)
 
-array-share-prefix-codes : tie.Need-array-share-prefix-codes
-array-share-prefix-codes c = omega (arith, small (c .before), room (c .before .before .before .before .before) .0)
+array-share-prefix-rows : tie.Need-array-share-prefix-rows
+array-share-prefix-rows c = omega (arith, small (c .before), room (c .before .before .before .before .before) .0)
 
 slice-aggregate-fit-archive : tie.Need-slice-aggregate-fit-archive
 slice-aggregate-fit-archive c = ready (c .before .before) .size
@@ -57,14 +57,14 @@ slice-aggregate-fit-archive-3 c = sym (ready (c .before .before .before .before)
 fit-archive-requires : tie.Need-fit-archive-requires
 fit-archive-requires c κs =
     let b = c .before .before .before .before .before in
-    (ready b, stored-limits (b .before .before .before .before .before .before .before .before .before .before .before .before .before .before .before .before .before .before .pre .0) (b .before .before .before .before .before .before .before .before .before .before .before .before .before .before .before .before .before .before .pre .1) (b .before .before .before .before .merge-rows .ensures) (room (b .before .before .before .before)) (few (b .before .before .before .before .before .before .before .before)) (b .if2 .left), c .before .before .before .before .before .before .before .before .before .before .before .before .before .before .before .before .before .before .before .before .before .before .before .pre .2)
+    (ready b, stored-limits (b .before .before .before .before .before .before .before .before .before .before .before .before .before .before .before .before .before .before .pre .0) (b .before .before .before .before .before .before .before .before .before .before .before .before .before .before .before .before .before .before .pre .1) (b .before .before .before .before .merge-n .ensures) (room (b .before .before .before .before)) (few (b .before .before .before .before .before .before .before .before)) (b .if2 .left), c .before .before .before .before .before .before .before .before .before .before .before .before .before .before .before .before .before .before .before .before .before .before .before .pre .2)
 
 returns-3 : tie.Need-returns-3
 returns-3 c =
     let b = c .before .before .before .before .before .before .before .before .before .before in
-    answered-as (stored-filed (b .before .before .before .before .before .before .before .before .before .before .before .before .before .before .before .before .before .before .pre .0) (b .before .before .before .before .before .before .before .before .before .before .before .before .before .before .before .before .before .before .pre .1) (b .before .before .before .before .merge-rows .ensures) (room (b .before .before .before .before)) (few (b .before .before .before .before .before .before .before .before)) (b .if2 .left)) (c .before .before .before .before .fit-archive .ensures)
+    answered-as (stored-filed (b .before .before .before .before .before .before .before .before .before .before .before .before .before .before .before .before .before .before .pre .0) (b .before .before .before .before .before .before .before .before .before .before .before .before .before .before .before .before .before .before .pre .1) (b .before .before .before .before .merge-n .ensures) (room (b .before .before .before .before)) (few (b .before .before .before .before .before .before .before .before)) (b .if2 .left)) (c .before .before .before .before .fit-archive .ensures)
 
 pub join-rows-spec : {M : Type 1} → statement M
 join-rows-spec =
     tie.close
-    (tie.spec (λ c κs. search needs) (λ c κs. search needs) add-if1 returns (λ c. search needs) (λ c. search needs) (λ c. search needs) merge-rows-requires returns-2 mul-size array-share-prefix-codes slice-aggregate-fit-archive (λ c. search needs) slice-aggregate-fit-archive-2 (λ c. search needs) slice-aggregate-fit-archive-3 fit-archive-requires (λ c. search needs) (λ c. search needs) returns-3)
+    (tie.spec (λ c κs. search needs) (λ c κs. search needs) add-if1 returns (λ c. search needs) (λ c. search needs) (λ c. search needs) merge-rows-requires returns-2 mul-size array-share-prefix-rows slice-aggregate-fit-archive (λ c. search needs) slice-aggregate-fit-archive-2 (λ c. search needs) slice-aggregate-fit-archive-3 fit-archive-requires (λ c. search needs) (λ c. search needs) returns-3)

@@ -15,7 +15,7 @@ use borrow.Author.Needs.{needs}
 use Rattle.call_keys.proofs.fixes_read.Statement.{statement}
 use Rattle.call_keys.proofs.fixes_read.Tie as tie
 
-rows-in : (c : tie.After-shared-slice-known) → (let a = c .before .args in OpenedIn (now (a .s)) (a .dims) (a .bases) (a .cells) (now (a .codes)) (now (a .sums)) (now (a .counts)))
+rows-in : (c : tie.After-shared-slice-known) → (let a = c .before .args in OpenedIn (now (a .s)) (a .dims) (a .bases) (a .cells) (now (a .rows)))
 rows-in c = opened (bytes-of (now (c .before .args .s)) (λ i. omega (arith, c .shared-slice-known .given i))) (c .before .pre)
 
 sets-of-requires : tie.Need-sets-of-requires
@@ -48,10 +48,10 @@ rows-fix-requires c κs = laid (rows-in (c .before .before .before .before .befo
 
 -- what the rows tell, of the dimension
 told : (c : tie.After-rows-fix) → (let a = c .before .before .before .before .before .before .before .before .before .before .args in
-    c .rows-fix .result ≡ fixes (plain (a .dims)) (cut (a .dims) (a .bases) (take (a .bases * a .dims) (now (a .codes)))) (a .set) (dimension (a .dimension)))
+    c .rows-fix .result ≡ fixes (plain (a .dims)) (cut (a .dims) (a .bases) (take (a .bases * a .dims) (now (a .rows)))) (a .set) (dimension (a .dimension)))
 told c =
     let a = c .before .before .before .before .before .before .before .before .before .before .args in
-    c .rows-fix .ensures ∙ ap (λ (t : ℕ). fixes (plain (a .dims)) (cut (a .dims) (a .bases) (take (a .bases * a .dims) (now (a .codes)))) (a .set) t) (c .before .before .sets-of2 .ensures)
+    c .rows-fix .ensures ∙ ap (λ (t : ℕ). fixes (plain (a .dims)) (cut (a .dims) (a .bases) (take (a .bases * a .dims) (now (a .rows)))) (a .set) t) (c .before .before .sets-of2 .ensures)
 
 returns-4 : tie.Need-returns-4
 returns-4 c = fixes-told (rows-in (c .before .before .before .before .before .before .before .before .before .before)) (known (c .before .before .before .before .before .before)) (c .before .before .before .before .before .if2 .left) (c .before .before .before .before .if3 .left) {b = true} (sym (c .if4 .taken) ∙ told (c .before))

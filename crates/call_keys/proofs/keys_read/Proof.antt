@@ -17,11 +17,11 @@ use borrow.Author.Needs.{needs}
 use Rattle.call_keys.proofs.keys_read.Statement.{statement}
 use Rattle.call_keys.proofs.keys_read.Tie as tie
 
-rows-in : (c : tie.After-shared-slice-known) → (let a = c .before .args in OpenedIn (now (a .s)) (a .dims) (a .bases) (a .cells) (now (a .codes)) (now (a .sums)) (now (a .counts)))
+rows-in : (c : tie.After-shared-slice-known) → (let a = c .before .args in OpenedIn (now (a .s)) (a .dims) (a .bases) (a .cells) (now (a .rows)))
 rows-in c = opened (bytes-of (now (c .before .args .s)) (λ i. omega (arith, c .shared-slice-known .given i))) (c .before .pre .0)
 
-sharing : (c : tie.After-shared-slice-known) → (let a = c .before .args in Sharing (a .dims) (a .bases) (take (a .bases * a .dims) (now (a .codes))) (now (a .used)))
-sharing c = let a = c .before .args in shared-in (rows-in c) (now (a .codes)) (now (a .used)) refl (c .before .pre .1)
+sharing : (c : tie.After-shared-slice-known) → (let a = c .before .args in Sharing (a .dims) (a .bases) (take (a .bases * a .dims) (now (a .rows))) (now (a .used)))
+sharing c = let a = c .before .args in shared-in (rows-in c) (now (a .rows)) (now (a .used)) refl (c .before .pre .1)
 
 fit-bare-requires : tie.Need-fit-bare-requires
 fit-bare-requires c κs = (rows-in (c .before .before .before .before .before) .ready .dims, sharing (c .before .before .before .before .before) .sets, bare-short (laid (rows-in (c .before .before .before .before .before))) (sharing (c .before .before .before .before .before)))

@@ -10,7 +10,7 @@ use Rattle.call_keys.proofs.pair_fixes.Statement.{statement}
 use Rattle.call_keys.proofs.pair_fixes.Tie as tie
 
 -- the rows that are compared
-compared : (c : tie.After-row-of2) → (let a = c .before .before .before .args in let xs = cut (a .dims) (a .rows) (now (a .codes)) in
+compared : (c : tie.After-row-of2) → (let a = c .before .before .before .args in let xs = cut (a .dims) (a .n) (now (a .rows)) in
     follows (a .set) (a .fixed) (rowAt xs (a .i)) (rowAt xs (a .j)) ≡ follows (a .set) (a .fixed) (now (c .before .row-of .result)) (now (c .row-of2 .result)))
 compared c = let a = c .before .before .before .args in ap₂ (follows (a .set) (a .fixed)) (sym (c .before .row-of .ensures .0)) (sym (c .row-of2 .ensures .0))
 

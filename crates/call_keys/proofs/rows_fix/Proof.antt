@@ -6,7 +6,7 @@ use Rattle.call_keys.proofs.rows_fix.Statement.{statement}
 use Rattle.call_keys.proofs.rows_fix.Tie as tie
 
 slice-aggregate-neighbours-fix : tie.Need-slice-aggregate-neighbours-fix
-slice-aggregate-neighbours-fix c = sym (length-take-le (c .before .before .args .rows) _ (c .before .before .pre .few))
+slice-aggregate-neighbours-fix c = sym (length-take-le (c .before .before .args .n) _ (c .before .before .pre .few))
 
 neighbours-fix-requires : tie.Need-neighbours-fix-requires
 neighbours-fix-requires c κs = let p = c .before .before .pre in (p .size, sym (slice-aggregate-neighbours-fix c), p .few, p .base .valid)

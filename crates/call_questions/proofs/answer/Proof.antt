@@ -20,15 +20,15 @@ use Rattle.call_questions.proofs.answer.Statement.{statement}
 use Rattle.call_questions.proofs.answer.Tie as tie
 
 -- the first row that falls in the cell is a row
-inside : (c : tie.Else1) → c .before .first-row .result < c .before .before .before .before .before .before .args .rows
+inside : (c : tie.Else1) → c .before .first-row .result < c .before .before .before .before .before .before .args .n
 inside c =
     let a = c .before .before .before .before .before .before .args in
-    omega (arith, c .if1 .left, c .before .first-row .ensures .within, cut-length (a .dims) (a .rows) (now (a .codes)))
+    omega (arith, c .if1 .left, c .before .first-row .ensures .within, cut-length (a .dims) (a .n) (now (a .rows)))
 
 -- whether it is single on the cell's set
 alone : (c : tie.After-is-single)
     → (let a = c .before .before .before .before .before .before .before .before .args in
-    let xs = cut (a .dims) (a .rows) (now (a .codes)) in
+    let xs = cut (a .dims) (a .n) (now (a .rows)) in
     c .is-single .result ≡ single (plain (a .dims)) xs (set-of (now (a .cell))) (rowAt xs (c .before .before .before .first-row .result)))
 alone c = rw (c .before .set-of .ensures) at (c .is-single .ensures)
 
@@ -37,7 +37,7 @@ entry : (c : tie.After-find-cell)
     → (let p = c .before .before .before .before .before .before .before .before .before .before in
     let a = p .args in
     let k = c .find-cell .result in
-    Entry (now (a .s)) (a .at + k * (4 * a .dims + 12)) (a .dims) (a .rows + k) (asked (p .pre .0 .0) (now (a .cell))))
+    Entry (now (a .s)) (a .at + k * (4 * a .dims + 12)) (a .dims) (a .n + k) (asked (p .pre .0 .0) (now (a .cell))))
 entry c =
     let p = c .before .before .before .before .before .before .before .before .before .before in
     let f = c .before .before .before .before .before .first-row in
@@ -48,8 +48,8 @@ returns : tie.Need-returns
 returns c =
     let p = c .before .before .before .before .before .before .before in
     let a = p .args in
-    c .without-rows .ensures ∙ ap (λ (d : ℕ). looked (rowless d (a .rows) (now (a .cell)))) (p .pre .0 .1)
-    ∙ asked-none (p .pre .0 .0) (now (a .cell)) (subst (First (now (a .cell)) (cut (a .dims) (a .rows) (now (a .codes)))) (c .before .if1 .taken) (c .before .before .first-row .ensures))
+    c .without-n .ensures ∙ ap (λ (d : ℕ). looked (rowless d (a .n) (now (a .cell)))) (p .pre .0 .1)
+    ∙ asked-none (p .pre .0 .0) (now (a .cell)) (subst (First (now (a .cell)) (cut (a .dims) (a .n) (now (a .rows)))) (c .before .if1 .taken) (c .before .before .first-row .ensures))
 
 is-single-requires : tie.Need-is-single-requires
 is-single-requires c κs =
@@ -111,7 +111,7 @@ returns-3 : tie.Need-returns-3
 returns-3 c =
     let p = c .before .before .before .before .before .before .before .before .before .before .before .before in
     let k = c .before .before .find-cell .result in
-    ap₂ (λ (z : ℤ) (m : ℕ). Cell z m (p .args .rows + k)) (toZ-ofZ {w = w64} (sfits-of (c .before .sum-at .ok)) ∙ c .before .sum-at .ensures) (c .word-at .ensures)
+    ap₂ (λ (z : ℤ) (m : ℕ). Cell z m (p .args .n + k)) (toZ-ofZ {w = w64} (sfits-of (c .before .sum-at .ok)) ∙ c .before .sum-at .ensures) (c .word-at .ensures)
     ∙ entry (c .before .before) .answers
 
 pub answer-spec : {M : Type 1} → statement M

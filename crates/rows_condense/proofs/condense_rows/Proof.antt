@@ -20,13 +20,13 @@ use Rattle.rows_condense.proofs.condense_rows.Statement.{statement}
 use Rattle.rows_condense.proofs.condense_rows.Tie as tie
 
 abbrev Inv-loop : tie.InvT-loop
-Inv-loop codes rows dims store₀ sizes₀ sets₀ lens₀ columns alone₀ passed₀ order₀ marks₀ lone₀ all cells₀ k₀ store sizes sets lens alone passed order marks lone cells k =
+Inv-loop rows n dims store₀ sizes₀ sets₀ lens₀ columns alone₀ passed₀ order₀ marks₀ lone₀ all cells₀ k₀ store sizes sets lens alone passed order marks lone cells k =
     (length store ≡ length store₀) × (length sizes ≡ length sizes₀) × (length sets ≡ length sets₀) × (length alone ≡ 8192) × (length passed ≡ 32)
     × (length order ≡ 1024) × (length marks ≡ 1024) × (length lone ≡ 1024)
-    × Filling 2 dims rows codes store sizes (full dims) k × Listing dims rows codes alone sets lens cells k
+    × Filling 2 dims n rows store sizes (full dims) k × Listing dims n rows alone sets lens cells k
 
 abbrev μ-loop : tie.MeasureT-loop
-μ-loop codes rows dims store₀ sizes₀ sets₀ lens₀ columns alone₀ passed₀ order₀ marks₀ lone₀ all cells₀ k₀ store sizes sets lens alone passed order marks lone cells k = 256 - k
+μ-loop rows n dims store₀ sizes₀ sets₀ lens₀ columns alone₀ passed₀ order₀ marks₀ lone₀ all cells₀ k₀ store sizes sets lens alone passed order marks lone cells k = 256 - k
 
 read-columns-requires : tie.Need-read-columns-requires Inv-loop μ-loop
 read-columns-requires c κs = let p = c .before .before .before .before .before .before .before .before .before .before .pre in (p .0 .2, p .0 .0, p .0 .1, search needs, p .0 .3 .valid)
@@ -41,7 +41,7 @@ sub-all : tie.Need-sub-all Inv-loop μ-loop
 sub-all c = omega (arith, c .sets-of .ensures, pow-pos (c .before .before .before .before .before .before .before .before .before .before .before .before .before .args .dims))
 
 -- the base rows, and how many sets have a turn
-base : (c : tie.After-sets-of Inv-loop μ-loop) → let a = c .before .before .before .before .before .before .before .before .before .before .before .before .before .args in Given (a .dims) (a .rows) (now (a .codes))
+base : (c : tie.After-sets-of Inv-loop μ-loop) → let a = c .before .before .before .before .before .before .before .before .before .before .before .before .before .args in Given (a .dims) (a .n) (now (a .rows))
 base c = let p = c .before .before .before .before .before .before .before .before .before .before .before .before .before .pre .0 in record { dims = p .1; few = p .0; size = p .2; base = p .3 }
 
 few : (c : tie.After-sets-of Inv-loop μ-loop) → full (c .before .before .before .before .before .before .before .before .before .before .before .before .before .args .dims) ≤ 256
@@ -85,7 +85,7 @@ list-set-requires c κs =
 next : (c : tie.After-slice-known9 Inv-loop μ-loop) → let a = c .before .before .before .before .before .before .before .before .before .before .before .before .before .before .before .before .before .before .before .before .before .before .before .before .before .before .before .before .before .before .before .before .before .before .before .before .before .before .before .before .before .args in
     let l = c .before .before .before .before .before .before .before .before .before .before .before .before .before .before .before .before .before .before .before .before .before .before .before .before .before .before .before .loop in
     let r = c .before .before .before .before .before .before .before .before .before .before .before .before .before .list-set in
-    Listing (a .dims) (a .rows) (now (a .codes)) (r .last .1 .1 .1 .1 .1 .0) (r .last .1 .1 .1 .1 .1 .1 .1 .1 .1 .1 .1 .1 .0) (r .last .1 .1 .1 .1 .1 .1 .1 .1 .1 .1 .1 .1 .1 .0) (l .cells + r .result) (l .k + 1)
+    Listing (a .dims) (a .n) (now (a .rows)) (r .last .1 .1 .1 .1 .1 .0) (r .last .1 .1 .1 .1 .1 .1 .1 .1 .1 .1 .1 .1 .0) (r .last .1 .1 .1 .1 .1 .1 .1 .1 .1 .1 .1 .1 .1 .0) (l .cells + r .result) (l .k + 1)
 next c =
     let r = c .before .before .before .before .before .before .before .before .before .before .before .before .before .list-set .ensures in
     listing-more (base (c .before .before .before .before .before .before .before .before .before .before .before .before .before .before .before .before .before .before .before .before .before .before .before .before .before .before .before .before)) (c .before .before .before .before .before .before .before .before .before .before .before .before .before .before .before .before .before .before .before .before .before .before .before .before .before .before .before .loop .inv .9) (c .before .before .before .before .before .before .before .before .before .before .before .before .before .before .before .before .before .before .before .before .before .before .before .before .before .before .loop-test .taken) (c .before .before .before .before .before .before .before .before .before .before .before .before .before .before .before .before .before .before .before .before .before .before .before .before .before .set-at .ensures) (below (c .before .before .before .before .before .before .before .before .before .before .before .before .before .before .before .before .before .before .before .before .before .before .before .before)) (r .1 .0) (r .1 .1 .0) (omega (arith, c .before .before .before .before .before .before .before .before .before .before .before .before .before .list-set .kept .1 .1 .1 .1 .1 .1 .1 .1 .1 .1 .1 .1 .1 .0, c .before .before .before .before .before .before .before .before .before .before .before .before .before .before .before .before .before .before .before .before .before .before .before .before .before .before .before .loop .inv .9 .size)) (r .1 .1 .1)
@@ -103,8 +103,8 @@ one : (n : ℕ) → blanks n ≤ 1
 one zero = omega arith
 one (suc n) = omega arith
 
-all-listed : (c : tie.After-blanks Inv-loop μ-loop) → blanks (c .before .before .before .before .before .before .before .before .before .before .before .before .before .before .before .before .args .rows) + c .before .before .loop .cells ≤ 262145
-all-listed c = omega (arith, one (c .before .before .before .before .before .before .before .before .before .before .before .before .before .before .before .before .args .rows), listing-few (base (c .before .before .before)) (c .before .before .loop .inv .9))
+all-listed : (c : tie.After-blanks Inv-loop μ-loop) → blanks (c .before .before .before .before .before .before .before .before .before .before .before .before .before .before .before .before .args .n) + c .before .before .loop .cells ≤ 262145
+all-listed c = omega (arith, one (c .before .before .before .before .before .before .before .before .before .before .before .before .before .before .before .before .args .n), listing-few (base (c .before .before .before)) (c .before .before .loop .inv .9))
 
 add-result : tie.Need-add-result Inv-loop μ-loop
 add-result c = omega (arith, all-listed c, c .blanks .ensures)
@@ -115,7 +115,7 @@ returns c =
     let v = c .before .before .loop .inv in
     let r = listing-done (base (c .before .before .before)) (v .9) (c .before .loop-test .left) in (
       filling-done (few (c .before .before .before)) (v .8) (c .before .loop-test .left),
-      ((r .0, v .9 .short), ap₂ _+_ (c .blanks .ensures ∙ ap blanks (sym (cut-length (a .dims) (a .rows) (now (a .codes))))) (r .1) ∙ sym (normals-count (plain (a .dims)) (cut (a .dims) (a .rows) (now (a .codes))))),
+      ((r .0, v .9 .short), ap₂ _+_ (c .blanks .ensures ∙ ap blanks (sym (cut-length (a .dims) (a .n) (now (a .rows))))) (r .1) ∙ sym (normals-count (plain (a .dims)) (cut (a .dims) (a .n) (now (a .rows))))),
     )
 
 pub condense-rows-spec : {M : Type 1} → statement M

@@ -29,7 +29,7 @@ returns : tie.Need-returns
 returns c =
     let a = c .before .before .args in
     let e : a .row * 70 + getD (now (a .lens)) (a .row) 0 - a .row * 70 ≡ getD (now (a .lens)) (a .row) 0 = omega arith in
-    ap (λ (n : ℕ). take n (drop (a .row * 70) (now (a .sets)))) e ∙ sym (lists-at (a .rows) (a .row) (now (a .sets)) (now (a .lens)) (c .before .before .pre .2))
+    ap (λ (n : ℕ). take n (drop (a .row * 70) (now (a .sets)))) e ∙ sym (lists-at (a .n) (a .row) (now (a .sets)) (now (a .lens)) (c .before .before .pre .2))
 
 pub list-of-spec : {M : Type 1} → statement M
 list-of-spec =

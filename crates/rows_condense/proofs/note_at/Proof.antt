@@ -9,8 +9,8 @@ returns : tie.Need-returns
 returns c =
     let a = c .before .before .args in
     let p = c .before .before .pre in (
-      lists-put (a .rows) (a .row) (a .set) (now (a .sets)) (now (a .lens)) (p .0) (p .1) (p .2) (p .3) (p .4),
-      short-put (a .rows) (a .row) (a .set) (now (a .sets)) (now (a .lens)) (p .0) (p .1) (p .2) (p .3) (p .4),
+      lists-put (a .n) (a .row) (a .set) (now (a .sets)) (now (a .lens)) (p .0) (p .1) (p .2) (p .3) (p .4),
+      short-put (a .n) (a .row) (a .set) (now (a .sets)) (now (a .lens)) (p .0) (p .1) (p .2) (p .3) (p .4),
     )
 
 pub note-at-spec : {M : Type 1} → statement M

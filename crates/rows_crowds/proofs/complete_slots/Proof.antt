@@ -16,12 +16,12 @@ use Rattle.rows_crowds.proofs.complete_slots.Statement.{statement}
 use Rattle.rows_crowds.proofs.complete_slots.Tie as tie
 
 abbrev Inv-loop : tie.InvT-loop
-Inv-loop codes rows dims store₀ sizes₀ columns order₀ marks₀ lone₀ passed all k₀ store sizes order marks lone k =
+Inv-loop rows n dims store₀ sizes₀ columns order₀ marks₀ lone₀ passed all k₀ store sizes order marks lone k =
     (length store ≡ length store₀) × (length sizes ≡ length sizes₀) × (length order ≡ 1024) × (length marks ≡ 1024) × (length lone ≡ 1024)
-    × ((s : ℕ) → Passing 1 dims rows codes passed s) × Completing dims rows codes store sizes all k
+    × ((s : ℕ) → Passing 1 dims n rows passed s) × Completing dims n rows store sizes all k
 
 abbrev μ-loop : tie.MeasureT-loop
-μ-loop codes rows dims store₀ sizes₀ columns order₀ marks₀ lone₀ passed all k₀ store sizes order marks lone k = 256 - k
+μ-loop rows n dims store₀ sizes₀ columns order₀ marks₀ lone₀ passed all k₀ store sizes order marks lone k = 256 - k
 
 read-columns-requires : tie.Need-read-columns-requires Inv-loop μ-loop
 read-columns-requires c κs = let p = c .before .before .before .before .pre in (p .0 .2, p .0 .0, p .0 .1, search needs, p .0 .3)
@@ -46,7 +46,7 @@ loop-holds : tie.Need-loop-holds Inv-loop μ-loop
 loop-holds c =
     let a = c .before .before .before .before .before .before .before .args in
     let e : full (a .dims) ≡ c .sets-of .result - 1 = omega (arith, all-sets c) in
-    (refl, refl, search needs, search needs, search needs, passing-none 1 (a .dims) (a .rows) (now (a .codes)), completing-start (omega (arith, few c)) (subst (AllHold 2 (a .dims) (a .rows) (now (a .codes)) (now (a .store)) (now (a .sizes))) e (c .before .before .before .before .before .before .before .pre .1 .2)))
+    (refl, refl, search needs, search needs, search needs, passing-none 1 (a .dims) (a .n) (now (a .rows)), completing-start (omega (arith, few c)) (subst (AllHold 2 (a .dims) (a .n) (now (a .rows)) (now (a .store)) (now (a .sizes))) e (c .before .before .before .before .before .before .before .pre .1 .2)))
 
 loop-again : tie.Need-loop-again Inv-loop μ-loop
 loop-again c =
@@ -110,7 +110,7 @@ fill-set-requires-2 c κs =
 returns : tie.Need-returns Inv-loop μ-loop
 returns c =
     let a = c .before .before .before .before .before .before .before .before .before .before .before .before .before .before .before .before .before .before .before .before .before .before .before .before .args in
-    subst (AllHold 1 (a .dims) (a .rows) (now (a .codes)) _ _) (all-sets (c .before .before .before .before .before .before .before .before .before .before .before .before .before .before .before .before .before)) (all-more (filling-done (omega (arith, few (c .before .before .before .before .before .before .before .before .before .before .before .before .before .before .before .before .before))) (c .before .before .before .before .before .before .before .before .before .before .before .before .before .before .before .before .loop .inv .6 .filling) (c .before .before .before .before .before .before .before .before .before .before .before .before .before .before .before .loop-test .left)) (c .before .before .before .before .before .before .before .fill-set2 .ensures .0))
+    subst (AllHold 1 (a .dims) (a .n) (now (a .rows)) _ _) (all-sets (c .before .before .before .before .before .before .before .before .before .before .before .before .before .before .before .before .before)) (all-more (filling-done (omega (arith, few (c .before .before .before .before .before .before .before .before .before .before .before .before .before .before .before .before .before))) (c .before .before .before .before .before .before .before .before .before .before .before .before .before .before .before .before .loop .inv .6 .filling) (c .before .before .before .before .before .before .before .before .before .before .before .before .before .before .before .loop-test .left)) (c .before .before .before .before .before .before .before .fill-set2 .ensures .0))
 
 pub complete-slots-spec : {M : Type 1} → statement M
 complete-slots-spec =

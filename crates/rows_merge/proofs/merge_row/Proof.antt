@@ -14,19 +14,19 @@ use Rattle.rows_merge.proofs.merge_row.Statement.{statement}
 use Rattle.rows_merge.proofs.merge_row.Tie as tie
 
 -- whose turn it is, and that there is a row left
-first : (c : tie.After-enum-told) → (let a = c .before .before .before .before .before .before .before .before .before .args in turn (drop (a .i) (cut (a .dims) (length (now (a .counts1))) (now (a .codes1)))) (drop (a .j) (cut (a .dims) (length (now (a .counts2))) (now (a .codes2)))) ≡ First)
+first : (c : tie.After-enum-told) → (let a = c .before .before .before .before .before .before .before .before .before .args in turn (drop (a .i) (cut (a .dims) (length (now (a .counts1))) (now (a .rows1)))) (drop (a .j) (cut (a .dims) (length (now (a .counts2))) (now (a .rows2)))) ≡ First)
 first c = sym (c .before .before .next-turn .ensures) ∙ c .enum-told .given .1
 
 first-left : (c : tie.After-enum-told) → c .before .before .before .before .before .before .before .before .before .args .i < length (now (c .before .before .before .before .before .before .before .before .before .args .counts1))
 first-left c = turn-first (c .before .before .before .before .before .before .before .before .before .pre .0 .0) (c .before .before .before .before .before .before .before .before .before .args .i) (c .before .before .before .before .before .before .before .before .before .args .j) (first c)
 
-second : (c : tie.After-enum-told2) → (let a = c .before .before .before .before .before .before .before .before .before .args in turn (drop (a .i) (cut (a .dims) (length (now (a .counts1))) (now (a .codes1)))) (drop (a .j) (cut (a .dims) (length (now (a .counts2))) (now (a .codes2)))) ≡ Second)
+second : (c : tie.After-enum-told2) → (let a = c .before .before .before .before .before .before .before .before .before .args in turn (drop (a .i) (cut (a .dims) (length (now (a .counts1))) (now (a .rows1)))) (drop (a .j) (cut (a .dims) (length (now (a .counts2))) (now (a .rows2)))) ≡ Second)
 second c = sym (c .before .before .next-turn .ensures) ∙ c .enum-told2 .given .1
 
 second-left : (c : tie.After-enum-told2) → c .before .before .before .before .before .before .before .before .before .args .j < length (now (c .before .before .before .before .before .before .before .before .before .args .counts2))
 second-left c = let s = c .before .before .before .before .before .before .before .before .before in turn-second (s .pre .0 .0) (s .args .i) (s .args .j) (second c) (s .pre .1 .1 .of-one) (s .pre .0 .1)
 
-two : (c : tie.After-enum-told3) → (let a = c .before .before .before .before .before .before .before .before .before .args in turn (drop (a .i) (cut (a .dims) (length (now (a .counts1))) (now (a .codes1)))) (drop (a .j) (cut (a .dims) (length (now (a .counts2))) (now (a .codes2)))) ≡ Both)
+two : (c : tie.After-enum-told3) → (let a = c .before .before .before .before .before .before .before .before .before .args in turn (drop (a .i) (cut (a .dims) (length (now (a .counts1))) (now (a .rows1)))) (drop (a .j) (cut (a .dims) (length (now (a .counts2))) (now (a .rows2)))) ≡ Both)
 two c = sym (c .before .before .next-turn .ensures) ∙ c .enum-told3 .given .1
 
 both-left : (c : tie.After-enum-told3) → (c .before .before .before .before .before .before .before .before .before .args .i < length (now (c .before .before .before .before .before .before .before .before .before .args .counts1))) × (c .before .before .before .before .before .before .before .before .before .args .j < length (now (c .before .before .before .before .before .before .before .before .before .args .counts2)))

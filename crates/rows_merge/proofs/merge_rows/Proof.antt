@@ -11,12 +11,12 @@ use Rattle.rows_merge.proofs.merge_rows.Statement.{statement}
 use Rattle.rows_merge.proofs.merge_rows.Tie as tie
 
 abbrev Inv-loop : tie.InvT-loop
-Inv-loop codes1 sums1 counts1 codes2 sums2 counts2 dims codes₀ sums₀ counts₀ n m i₀ j₀ k₀ codes sums counts i j k =
-    (length codes ≡ length codes₀) × (length sums ≡ length sums₀) × (length counts ≡ length counts₀) × (k ≤ 1024)
-    × Passed dims codes1 sums1 counts1 codes2 sums2 counts2 i j (rowsOf dims k codes sums counts)
+Inv-loop rows1 rows2 dims codes₀ sums₀ counts₀ n m i₀ j₀ k₀ rows i j k =
+    (length rows ≡ length codes₀) × (length sums ≡ length sums₀) × (length counts ≡ length counts₀) × (k ≤ 1024)
+    × Passed dims rows1 rows2 i j (rowsOf dims k rows)
 
 abbrev μ-loop : tie.MeasureT-loop
-μ-loop codes1 sums1 counts1 codes2 sums2 counts2 dims codes₀ sums₀ counts₀ n m i₀ j₀ k₀ codes sums counts i j k =
+μ-loop rows1 rows2 dims codes₀ sums₀ counts₀ n m i₀ j₀ k₀ rows i j k =
     n + m - (i + j)
 
 loop-holds : tie.Need-loop-holds Inv-loop μ-loop

@@ -46,7 +46,7 @@ fold-table-requires c κs =
     )
 
 returns : tie.Need-returns
-returns c = let a = c .before .before .before .before .before .args in stop-answer (now (a .s)) (seen (c .before .n .given .1) (c .before .before .before .check-table .ensures)) (now (a .codes)) (now (a .sums)) (now (a .counts))
+returns c = let a = c .before .before .before .before .before .args in stop-answer (now (a .s)) (seen (c .before .n .given .1) (c .before .before .before .check-table .ensures)) (now (a .rows))
 
 returns-2 : tie.Need-returns-2
 returns-2 c =

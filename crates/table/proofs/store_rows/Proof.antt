@@ -13,11 +13,11 @@ use Rattle.table.proofs.store_rows.Statement.{statement}
 use Rattle.table.proofs.store_rows.Tie as tie
 
 abbrev Inv-loop : tie.InvT-loop
-Inv-loop s dims count start codes₀ sums₀ counts₀ at₀ i₀ codes sums counts at i =
-    (length codes ≡ length codes₀) × (length sums ≡ length sums₀) × (length counts ≡ length counts₀) × Turn s dims count start codes sums counts at i
+Inv-loop s dims count start codes₀ sums₀ counts₀ at₀ i₀ rows at i =
+    (length rows ≡ length codes₀) × (length sums ≡ length sums₀) × (length counts ≡ length counts₀) × Turn s dims count start rows at i
 
 abbrev μ-loop : tie.MeasureT-loop
-μ-loop s dims count start codes₀ sums₀ counts₀ at₀ i₀ codes sums counts at i = count - i
+μ-loop s dims count start codes₀ sums₀ counts₀ at₀ i₀ rows at i = count - i
 
 loop-holds : tie.Need-loop-holds Inv-loop μ-loop
 loop-holds c = (refl, refl, refl, turn-start _ _ _ _ _ _ _ (c .before .before .before .pre .0))
