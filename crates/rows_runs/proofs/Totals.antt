@@ -4,7 +4,6 @@ use mathlib.Core.List.{List, [], _∷_, foldl, List·Memᴰ·head, List·Memᴰ�
 use Prim.Native.Nat.{ℕ, _+_, _≤_, _<_}
 use native.Mathlib.Numerals.{add-one}
 use native.Mathlib.Omega.{arith}
-use lib.IntN.{ℤ}
 use lib.ListN.{length, getD, take, length-take, drop-of-length-le}
 use lib.Seq.{slice, slice-cons}
 use Rattle.lists.specs.Lists.{_∈_}
@@ -46,7 +45,7 @@ total-from t (r ∷ rows) = total-from (plus t (r .total)) rows
 
 -- ---- the rows that a part of an index names
 
-module _ (sums : List ℤ) (counts index : List ℕ) (k end : ℕ) where
+module _ (totals : ℕ → Total) (index : List ℕ) (k end : ℕ) where
   pub total-start : totalFrom nothing (amountsAt totals (slice k end index)) ≡ runTotal totals (slice k end index)
   unfolding runTotal
   total-start = total-from nothing (amountsAt totals (slice k end index))
