@@ -22,7 +22,7 @@ wide c = cases (c .before .before .before .before .before .before .before .pre .
 returns : tie.Need-returns
 returns c =
     let a = c .before .before .before .before .before .before .before .args in
-    let g = seen (c .before .before .next .given .1) (c .before .before .before .before .check-rows .ensures) in
+    let g = seen (c .before .before .next .given .1) (c .before .before .before .before .check-codes .ensures) in
     let before = wordsAt (now (a .s)) (a .n) (a .p) in
     let mine = wordsAt (now (a .s)) (length (now (a .sizes))) (a .at) in
     let some : 1 ≤ length mine = rw length-wordsAt (search needs) in
@@ -31,26 +31,26 @@ returns c =
 is-after-requires : tie.Need-is-after-requires
 is-after-requires c κs =
     let a = c .before .before .before .before .before .before .before .args in
-    let g = seen (c .before .before .next .given .1) (c .before .before .before .before .check-rows .ensures) in
-    let w = finds-rows (now (a .s)) (now (a .sizes)) (a .at) .found _ _ (search needs) (g .1) .0 in
+    let g = seen (c .before .before .next .given .1) (c .before .before .before .before .check-codes .ensures) in
+    let w = finds-codes (now (a .s)) (now (a .sizes)) (a .at) .found _ _ (search needs) (g .1) .0 in
     rw (wide c) (search needs, rw (wide c) at (c .before .before .before .before .before .before .before .pre .1 .0), w)
 
 returns-2 : tie.Need-returns-2
 returns-2 c =
     let a = c .before .before .before .before .before .before .args in
-    record { says = rising-off (now (a .s)) (now (a .sizes)) (wordsAt (now (a .s)) (a .n) (a .p)) (a .at) (seen (c .before .k .given .1) (c .before .before .before .check-rows .ensures)) }
+    record { says = rising-off (now (a .s)) (now (a .sizes)) (wordsAt (now (a .s)) (a .n) (a .p)) (a .at) (seen (c .before .k .given .1) (c .before .before .before .check-codes .ensures)) }
 
 returns-3 : tie.Need-returns-3
 returns-3 c =
     let a = c .before .before .before .before .before .before .before .before .before .args in
-    let g = seen (c .before .before .before .before .next .given .1) (c .before .before .before .before .before .before .check-rows .ensures) in
+    let g = seen (c .before .before .before .before .next .given .1) (c .before .before .before .before .before .before .check-codes .ensures) in
     let e = ap (λ (n : ℕ). earlier (wordsAt (now (a .s)) (a .n) (a .p)) (wordsAt (now (a .s)) n (a .at))) (sym (wide (c .before .before))) in
     record { says = rising-on (now (a .s)) (now (a .sizes)) (wordsAt (now (a .s)) (a .n) (a .p)) (a .at) (search needs) g (e ∙ sym (c .before .is-after .ensures) ∙ c .if2 .taken) }
 
 returns-4 : tie.Need-returns-4
 returns-4 c =
     let a = c .before .before .before .before .before .before .before .before .before .args in
-    let g = seen (c .before .before .before .before .next .given .1) (c .before .before .before .before .before .before .check-rows .ensures) in
+    let g = seen (c .before .before .before .before .next .given .1) (c .before .before .before .before .before .before .check-codes .ensures) in
     let e = ap (λ (n : ℕ). earlier (wordsAt (now (a .s)) (a .n) (a .p)) (wordsAt (now (a .s)) n (a .at))) (sym (wide (c .before .before))) in
     record { says = rising-not (now (a .s)) (now (a .sizes)) (wordsAt (now (a .s)) (a .n) (a .p)) (a .at) (search needs) g (e ∙ sym (c .before .is-after .ensures) ∙ c .if2 .left) }
 

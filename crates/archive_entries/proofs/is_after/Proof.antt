@@ -44,8 +44,8 @@ slice-aggregate-compare-2 c = front-length _ zeros _ _ (c .before .before .befor
 compare-requires : tie.Need-compare-requires
 compare-requires c κs = sym (front-length _ zeros _ _ (c .before .before .before .before .before .before .before .before .before .pre .0) (c .before .before .before .before .before .before .read-words .ensures)) ∙ front-length _ zeros _ _ (c .before .before .before .before .before .before .before .before .before .pre .0) (c .before .before .before .read-words2 .ensures)
 
-compared-rows : (c : tie.After-compare) → (let a = c .before .before .before .before .before .before .before .before .before .before .args in earlier (wordsAt (now (a .s)) (a .n) (a .p)) (wordsAt (now (a .s)) (a .n) (a .q)) ≡ isBefore (c .compare .result))
-compared-rows c =
+compared-codes : (c : tie.After-compare) → (let a = c .before .before .before .before .before .before .before .before .before .before .args in earlier (wordsAt (now (a .s)) (a .n) (a .p)) (wordsAt (now (a .s)) (a .n) (a .q)) ≡ isBefore (c .compare .result))
+compared-codes c =
     let h = c .before .before .before .before .before .before .before .before .before .before .pre .0 in
     let p = c .before .before .before .before .before .before .before .read-words .ensures in
     let q = c .before .before .before .before .read-words2 .ensures in
@@ -53,13 +53,13 @@ compared-rows c =
     ∙ earlier-compared _ _ (omega (arith, front-length _ zeros _ _ h p)) (omega (arith, front-length _ zeros _ _ h q)) (c .compare .ensures)
 
 returns : tie.Need-returns
-returns c = sym (compared-rows (c .before .before) ∙ ap isBefore (c .enum-told .given .1))
+returns c = sym (compared-codes (c .before .before) ∙ ap isBefore (c .enum-told .given .1))
 
 returns-2 : tie.Need-returns-2
-returns-2 c = sym (compared-rows (c .before .before) ∙ ap isBefore (c .enum-told2 .given .1))
+returns-2 c = sym (compared-codes (c .before .before) ∙ ap isBefore (c .enum-told2 .given .1))
 
 returns-3 : tie.Need-returns-3
-returns-3 c = sym (compared-rows (c .before .before) ∙ ap isBefore (c .enum-told3 .given .1))
+returns-3 c = sym (compared-codes (c .before .before) ∙ ap isBefore (c .enum-told3 .given .1))
 
 pub is-after-spec : {M : Type 1} → statement M
 is-after-spec = tie.close (tie.spec (λ c. search needs) slice-aggregate-read-words read-words-requires (λ c. search needs) slice-aggregate-read-words-2 read-words-requires-2 array-share-prefix-before slice-aggregate-compare array-share-prefix-mine slice-aggregate-compare-2 compare-requires (λ c. search needs) (λ c. search needs) (λ c. search needs) returns returns-2 returns-3)
