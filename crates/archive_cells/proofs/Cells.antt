@@ -1,18 +1,15 @@
--- The cells of the rows in flat lists as bytes, and how a loop writes them: those from row i on are left.
+-- The cells of the rows in a flat list as bytes, and how a loop writes them: those from row i on are left.
 use mathlib.Core.Path.{_≡_, sym, ap, _∙_}
 use mathlib.Core.List.{List, [], _++_, flatMap}
 use Prim.Native.Nat.{ℕ, zero, suc, _+_, _-_, _*_, _≤_, _<_}
 use native.Mathlib.Nat.{zero-mul, suc-mul}
 use native.Mathlib.Numerals.{add-one}
 use native.Mathlib.Omega.{arith}
-use lib.IntN.{ℤ, pos}
-use lib.ListN.{length, take, drop, getD, length-append, length-drop, drop-of-length-le}
+use lib.ListN.{length, drop, length-append, length-drop, drop-of-length-le}
 use lib.Seq.{drop-cons, length-take-le}
 use borrow.Rule.Slice.PartMut.{midOf, putMid}
 use Rattle.fields.specs.Written.{Wrote}
-use Rattle.cube.specs.declared.Total.{Total}
-use Rattle.cube.specs.Measure.{Row}
-use Rattle.rows.specs.Rows.{rowsOf}
+use Rattle.rows.specs.Rows.{width, rowIn, rowsOf}
 use Rattle.rows.proofs.Rows.{row-at, row-length}
 use Rattle.rows.proofs.Flat.{placed, blank, rows-at, rows-length}
 use Rattle.archive_entries.specs.Layout.{cellBytes}
@@ -25,12 +22,11 @@ pub cells-length : (d n : ℕ) (ws : List ℕ) → n * width d ≡ length ws
 unfolding flatMap rowsOf
 cells-length d zero ws e = sym (zero-mul (4 * d + 12))
 cells-length d (suc n) ws e =
-    let r : Row Total = record { codes = take d ws; total = record { sum = getD sums 0 (pos 0); count = getD counts 0 0 } } in
-    let rest = rowsOf d n (drop d ws) (drop 1 sums) (drop 1 counts) in
-    let more : d + n * d ≡ length codes = omega (arith, suc-mul n d, e) in
-    let f = cell-length d r (length-take-le d ws (omega (arith, more))) in
-    let g = cells-length d n (drop d ws) (drop 1 sums) (drop 1 counts) (simp length-drop (omega (arith, more))) in
-    omega (arith, length-append (cellBytes r) (flatMap cellBytes rest), f, g, suc-mul n (4 * d + 12))
+    let rest = drop (width d) ws in
+    let more : width d + n * width d ≡ length ws = omega (arith, suc-mul n (width d), e) in
+    let f = cell-length d (rowIn d ws) (length-take-le d ws (omega (arith, more))) in
+    let g = cells-length d n rest (simp length-drop (omega (arith, more))) in
+    omega (arith, length-append (cellBytes (rowIn d ws)) (flatMap cellBytes (rowsOf d n rest)), f, g, suc-mul n (4 * d + 12))
 
 module _ (d n : ℕ) (ws : List ℕ) (i : ℕ) where
   -- the bytes of all cells, and of those from a row on

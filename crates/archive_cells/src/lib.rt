@@ -33,7 +33,7 @@ pub fn put_header(out: &mut [u8], sizes: &[u32]) -> usize
 
 // Writes a cell: its codes or ALL, its sum and its count.
 pub fn put_cell(out: &mut [u8], codes: &[u32], sum: i64, count: u32) -> usize
-    requires { ⌜ 4 * length (now rows) + 12 ≤ length (now out) ⌝ }
+    requires { ⌜ 4 * length (now codes) + 12 ≤ length (now out) ⌝ }
     ensures { λ r. ⌜ Wrote (cellBytes (record { codes = now (codes .entry); total = record { sum = sum; count = count } })) (now (out .entry)) (now (out .exit)) r ⌝ }
 {
     let mut at = fields::put_words(out, codes);
@@ -75,7 +75,7 @@ fn put_sets(out: &mut [u8], sets: &[u8]) -> usize
 
 // Writes a base entry: a row and its list.
 pub fn put_entry(out: &mut [u8], codes: &[u32], sum: i64, count: u32, list: &[u8]) -> usize
-    requires { ⌜ 4 * length (now rows) + 16 + 4 * length (now list) ≤ length (now out) ⌝ }
+    requires { ⌜ 4 * length (now codes) + 16 + 4 * length (now list) ≤ length (now out) ⌝ }
     requires { ⌜ length (now list) ≤ 70 ⌝ }
     ensures { λ r. ⌜ Wrote (baseBytes (record { row = record { codes = now (codes .entry); total = record { sum = sum; count = count } }; list = now (list .entry) })) (now (out .entry)) (now (out .exit)) r ⌝ }
 {
