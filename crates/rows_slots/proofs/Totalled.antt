@@ -3,7 +3,6 @@ use mathlib.Core.Path.{_≡_, refl, sym, ap, _∙_}
 use mathlib.Core.List.{List, map, map-map}
 use Prim.Native.Nat.{ℕ, suc, _*_, _≤_}
 use native.Mathlib.Omega.{arith}
-use lib.IntN.{ℤ}
 use lib.ListN.{length}
 use borrow.Author.Tests.{le-leb}
 use Rattle.lists.specs.Lists.{keep}
@@ -14,7 +13,7 @@ use Rattle.cube.specs.Codes.{plain}
 use Rattle.cube.specs.Cube.{filled, cuboid}
 use Rattle.cube.specs.Condensed.{shared}
 use Rattle.cube.specs.Table.{Table}
-use Rattle.rows.specs.Rows.{cut, rowsOf}
+use Rattle.rows.specs.Rows.{width, cut, rowsOf, totalAt}
 use Rattle.rows_order.specs.Index.{key, arranged, Indexed}
 use Rattle.rows_runs.specs.Runs.{Run, members, runs}
 use Rattle.rows_runs.specs.Totals.{runTotal}
@@ -28,12 +27,15 @@ use Rattle.rows_slots.proofs.Rising.{split-runs}
 use Rattle.rows_slots.proofs.Entries.{crowds-below}
 use Rattle.rows_slots.proofs.Summing.{summed-runs}
 
-module _ (dims n set : ℕ) (ws : List ℕ) (size : n * dims ≡ length ws) (few : n ≤ 1024) (t : Table dims (rowsOf dims n ws)) where
+module _ (dims n set : ℕ) (ws : List ℕ) (size : n * width dims ≡ length ws) (few : n ≤ 1024) (t : Table dims (rowsOf dims n ws)) where
   abbrev keys : ℕ → List ℕ
   keys = key set (cut dims n ws)
 
   abbrev table : List (Row Total)
   table = rowsOf dims n ws
+
+  abbrev totals : ℕ → Total
+  totals = totalAt dims n ws
 
   abbrev group : List ℕ → Row Total
   group = filled (plain dims) measure table
@@ -48,7 +50,7 @@ module _ (dims n set : ℕ) (ws : List ℕ) (size : n * dims ≡ length ws) (few
       let rs = keep (large least) (runs keys (arranged keys n)) in
       summed-runs totals keys rs (split-runs keys (large least) (arranged keys n) (arranged-ordered keys n)) (λ y m. omega (arith, crowds-below keys n least few y m))
       ∙ map-same (λ r. record { codes = cellOf keys r; total = runTotal totals (members r) }) (λ r. group (cellOf keys r)) rs
-      (λ r m. ap (λ (a : Total). record { codes = cellOf keys r; total = a }) (indexed-total index totals t (keep-in (large least) (runs keys (arranged keys n)) m .0)))
+      (λ r m. ap (λ (a : Total). record { codes = cellOf keys r; total = a }) (indexed-total index t (keep-in (large least) (runs keys (arranged keys n)) m .0)))
       ∙ sym (map-map group (cellOf keys) rs)
 
   pub summed-shared : summed totals keys nothing (packed (crowds 2 keys n)) ≡ map group (shared (plain dims) (cut dims n ws) set)
