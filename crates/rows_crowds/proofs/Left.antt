@@ -19,7 +19,7 @@ use Rattle.cube.specs.Cube.{within}
 use Rattle.cube.specs.Condensed.{single, shared, Base}
 use Rattle.cube.proofs.Codes.{plain-laws}
 use Rattle.cube.proofs.Normals.{shared-single}
-use Rattle.rows.specs.Rows.{cut, rowAt}
+use Rattle.rows.specs.Rows.{width, cut, rowAt}
 use Rattle.rows.proofs.Rows.{cut-length}
 use Rattle.rows_order.specs.Index.{key, arranged, Indexed}
 use Rattle.rows_runs.specs.Runs.{Run, members, runs}
