@@ -18,7 +18,7 @@ use Rattle.lattice.proofs.Turns.{from-full, from-on, from-off, from-done}
 use Rattle.cube.specs.Codes.{plain}
 use Rattle.cube.specs.Condensed.{proper, shared, common, Base}
 use Rattle.cube.proofs.Normals.{common-length}
-use Rattle.rows.specs.Rows.{cut}
+use Rattle.rows.specs.Rows.{width, cut}
 use Rattle.rows.proofs.Rows.{cut-length}
 use Rattle.rows_bits.specs.Rowsets.{has}
 use Rattle.rows_order.specs.Index.{key}

@@ -25,7 +25,7 @@ use Rattle.cube.specs.Condensed.{proper, single, Base}
 use Rattle.cube.proofs.Codes.{plain-laws}
 use Rattle.cube.proofs.Singles.{single-up}
 use Rattle.cube.proofs.Smallest.{smallest-held}
-use Rattle.rows.specs.Rows.{cut, rowAt}
+use Rattle.rows.specs.Rows.{width, cut, rowAt}
 use Rattle.rows.proofs.Rows.{cut-length}
 use Rattle.rows_bits.specs.Rowsets.{has}
 use Rattle.rows_order.specs.Index.{key}

@@ -36,7 +36,7 @@ pass-rows-requires c κs =
 fill-set-requires : tie.Need-fill-set-requires
 fill-set-requires c κs =
     let p = c .before .before .before .before .before .before .before .before .before .before .before .before .before .before .before .before .before .before .before .before .before .before .pre in
-    let r = c .before .before .before .before .before .before .before .before .pass-n in
+    let r = c .before .before .before .before .before .before .before .before .pass-rows in
     ((p .0 .0, omega arith, omega arith, p .0 .1), (p .1 .0, (p .0 .2, p .0 .3, p .0 .4, lower-passing (p .1 .1 .0 .2) (r .last .1 .1 .0) (r .ensures .1) (r .ensures .0), p .0 .5)))
 
 -- the rows that come out alone
@@ -44,7 +44,7 @@ abbrev new : (c : tie.After-fill-set) → List ℕ
 new c = let a = c .before .before .before .before .before .before .before .before .before .before .before .before .before .before .before .before .before .before .before .before .before .before .before .args in keep (isNew (now (a .alone)) (a .set)) (leftOut 2 (cut (a .dims) (a .n) (now (a .rows))) (a .n) (a .set))
 
 new-there : (c : tie.After-fill-set) → take (c .fill-set .result) (c .fill-set .last .1 .1 .1 .1 .1 .1 .1 .1 .1 .1 .1 .0) ≡ new c
-new-there c = let r = c .before .before .before .before .before .before .before .before .before .pass-n in c .fill-set .ensures .1 .0 ∙ lower-new (c .before .before .before .before .before .before .before .before .before .before .before .before .before .before .before .before .before .before .before .before .before .before .before .pre .1 .1 .0 .2) (r .last .1 .1 .0) (r .ensures .1)
+new-there c = let r = c .before .before .before .before .before .before .before .before .before .pass-rows in c .fill-set .ensures .1 .0 ∙ lower-new (c .before .before .before .before .before .before .before .before .before .before .before .before .before .before .before .before .before .before .before .before .before .before .before .pre .1 .1 .0 .2) (r .last .1 .1 .0) (r .ensures .1)
 
 new-named : (c : tie.After-fill-set) → Names (new c) (c .before .before .before .before .before .before .before .before .before .before .before .before .before .before .before .before .before .before .before .before .before .before .before .args .n)
 new-named c i h =
@@ -76,13 +76,13 @@ add-rows-requires c κs =
     let f = c .before .before .before .before .before .before .before .before .before .before .before .before .before .before .before .before .before .before .before in
     let few = c .before .before .before .before .before .before .before .before .before .before .before .before .before .before .before .before .before .before .before .before .before .before .before .before .before .before .before .before .before .before .before .before .before .before .before .before .before .before .before .before .before .before .pre .0 .0 in
     let names : Names (new f) 1024 = λ i h. omega (arith, new-named f i h, few) in
-    (subst (λ (l : List ℕ). Names l 1024) (sym (new-there f)) names, c .before .before .before .before .before .before .before .before .before .before .before .before .before .before .before .before .before .before .before .before .before .before .before .before .before .before .before .before .pass-n .ensures .0)
+    (subst (λ (l : List ℕ). Names l 1024) (sym (new-there f)) names, c .before .before .before .before .before .before .before .before .before .before .before .before .before .before .before .before .before .before .before .before .before .before .before .before .before .before .before .before .pass-rows .ensures .0)
 
 put-words-requires : tie.Need-put-words-requires
 put-words-requires c κs =
     let a = c .before .before .before .before .before .before .before .before .before .before .before .before .before .before .before .before .before .before .before .before .before .before .before .before .before .before .before .before .before .before .before .before .before .before .before .before .before .before .before .before .before .before .before .before .before .before .before .args in
     let p = c .before .before .before .before .before .before .before .before .before .before .before .before .before .before .before .before .before .before .before .before .before .before .before .before .before .before .before .before .before .before .before .before .before .before .before .before .before .before .before .before .before .before .before .before .before .before .before .pre in
-    (c .before .before .before .before .add-n .ensures .0, below-all (a .dims) (p .0 .2) (p .0 .4), p .1 .1 .0 .0)
+    (c .before .before .before .before .add-rows .ensures .0, below-all (a .dims) (p .0 .2) (p .0 .4), p .1 .1 .0 .0)
 
 -- the slot is that of the set
 filled : (c : tie.After-slot-of) → let a = c .before .before .before .before .before .before .before .before .before .before .before .before .before .before .before .before .before .before .before .before .before .before .before .before .before .before .before .before .before .before .before .before .before .before .before .before .before .before .before .before .before .before .before .before .before .before .before .before .before .before .before .before .before .args in now (c .slot-of .result) ≡ packed (crowds 2 (key (a .set) (cut (a .dims) (a .n) (now (a .rows)))) (a .n))
@@ -103,14 +103,14 @@ count-groups-requires c κs =
     omega (arith, ap length (filled c), slot-length keys (a .n) 2 (p .0 .0), flat-few keys (a .n) 2 (p .0 .0), p .0 .0)
 
 same-length-2 : tie.Need-same-length-2
-same-length-2 c = c .before .before .before .before .before .before .before .before .before .before .before .add-n .ensures .0 ∙ sym (c .before .before .before .before .before .before .before .before .before .before .before .before .before .before .before .before .before .before .before .before .before .before .before .before .before .before .before .before .before .before .before .before .before .before .before .before .before .before .before .before .before .before .before .before .before .before .before .before .before .before .before .before .before .before .pre .1 .1 .0 .1)
+same-length-2 c = c .before .before .before .before .before .before .before .before .before .before .before .add-rows .ensures .0 ∙ sym (c .before .before .before .before .before .before .before .before .before .before .before .before .before .before .before .before .before .before .before .before .before .before .before .before .before .before .before .before .before .before .before .before .before .before .before .before .before .before .before .before .before .before .before .before .before .before .before .before .before .before .before .before .before .before .pre .1 .1 .0 .1)
 
 returns : tie.Need-returns
 returns c =
     let a = c .before .before .before .before .before .before .before .before .before .before .before .before .before .before .before .before .before .before .before .before .before .before .before .before .before .before .before .before .before .before .before .before .before .before .before .before .before .before .before .before .before .before .before .before .before .before .before .before .before .before .before .before .before .before .args in
     let f = c .before .before .before .before .before .before .before .before .before .before .before .before .before .before .before .before .before .before .before .before .before .before .before .before .before .before .before .before .before .before .before in
-    let r = c .before .before .before .before .before .before .before .before .before .before .before .before .before .before .before .before .before .before .before .before .before .before .before .before .before .before .before .before .before .before .before .before .before .before .before .before .before .before .before .before .pass-n in
-    let w = c .before .before .before .before .before .before .before .before .before .before .before .add-n in
+    let r = c .before .before .before .before .before .before .before .before .before .before .before .before .before .before .before .before .before .before .before .before .before .before .before .before .before .before .before .before .before .before .before .before .before .before .before .before .before .before .before .before .pass-rows in
+    let w = c .before .before .before .before .before .before .before .before .before .before .before .add-rows in
     let m = c .before .before .before .before .before .before .before .before .before .before .before .before .before .before .before .before .before .note-lone .ensures in
     let passed = r .last .1 .1 .0 in
     let n : (x : ℕ) → has (w .last .1 .0) x ≡ some (eqb x) (new f) || has passed x = λ x. w .ensures .1 x ∙ ap (λ (l : List ℕ). some (eqb x) l || has passed x) (new-there f) in (
