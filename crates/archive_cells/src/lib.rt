@@ -42,12 +42,7 @@ pub fn put_cell(out: &mut [u8], codes: &[u32], sum: i64, count: u32) -> usize
 }
 
 // Writes the cells of n rows one straight after the other.
-pub fn put_cells(
-    out: &mut [u8],
-    rows: &[u32],
-    n: usize,
-    dims: usize,
-) -> usize
+pub fn put_cells(out: &mut [u8], rows: &[u32], n: usize, dims: usize) -> usize
     requires { ⌜ (n * width dims ≡ length (now rows)) × (n * (4 * dims + 12) ≤ length (now out)) ⌝ }
     ensures { λ r. ⌜ Wrote (flatMap cellBytes (rowsOf dims n (now (rows .entry)))) (now (out .entry)) (now (out .exit)) r ⌝ }
 {

@@ -3,7 +3,6 @@ use mathlib.Core.Path.{_≡_, refl, sym, ap, ap₂, subst, _∙_}
 use mathlib.Core.List.{List, [], _∷_, _++_, map, append-nil}
 use Prim.Native.Nat.{ℕ, zero, suc, _+_, _-_, _*_, _≤_, _<_}
 use native.Mathlib.Nat.{sub-zero}
-use native.Mathlib.Numerals.{add-one}
 use native.Mathlib.Omega.{arith}
 use lib.ListN.{length, getD, take, drop}
 use lib.Seq.{append-snoc, getD-drop}
@@ -45,10 +44,9 @@ row-words s d at =
 
 -- they are read over row k
 pub row-read : (s : List ℕ) (d at k : ℕ) (ws m : List ℕ) → k * width d + width d ≤ length ws → m ≡ wordsAt s (width d) at
-    → rowsOf d (suc k) (putMid (k * width d) (k * width d + width d - k * width d) ws m) ≡ rowsOf d k ws ++ rowThere s d at ∷ []
+    → rowsOf d (k + 1) (putMid (k * width d) (k * width d + width d - k * width d) ws m) ≡ rowsOf d k ws ++ rowThere s d at ∷ []
 row-read s d at k ws m h e =
-    ap (λ (j : ℕ). rowsOf d j (putMid (k * width d) (k * width d + width d - k * width d) ws m)) (sym (add-one k))
-    ∙ row-stored d k ws m (ap length e ∙ length-wordsAt s (width d) at) h
+    row-stored d k ws m (ap length e ∙ length-wordsAt s (width d) at) h
     ∙ ap (λ (r : Row Total). rowsOf d k ws ++ r ∷ []) (ap (rowIn d) e ∙ row-words s d at)
 
 -- one row goes from those left to those stored
@@ -101,7 +99,7 @@ module _ (b : List ℕ) (d n : ℕ) (ws : List ℕ) where
     pub turn-whole : i < n → at + widthThere b d at ≤ length b
     turn-whole h = there h .whole
 
-    pub turn-on : (us : List ℕ) {next : ℕ} → i < n → rowsOf d (suc i) us ≡ rowsOf d i ws ++ rowThere b d at ∷ []
+    pub turn-on : (us : List ℕ) {next : ℕ} → i < n → rowsOf d (i + 1) us ≡ rowsOf d i ws ++ rowThere b d at ∷ []
         → next ≡ at + widthThere b d at → Turn b d n us next (i + 1)
     turn-on us {next} h e f =
         let g = here h in
@@ -116,7 +114,7 @@ module _ (b : List ℕ) (d n : ℕ) (ws : List ℕ) where
           left = g .1;
           end = t .end;
           read = ap (entries (t .archive .held .sizes) (n - (i + 1)) (g .0 .row .codes) (t .total + g .0 .row .total .count)) (sym l) ∙ g .4;
-          rows = moved (rowsOf d i ws) (rowThere b d at) (map (λ x. x .row) (g .1)) (ap (λ (j : ℕ). rowsOf d j us) (add-one i) ∙ e) (t .rows ∙ ap (λ (m : List Based). rowsOf d i ws ++ map (λ x. x .row) m) (g .5) ∙ ap (λ (r : Row Total). rowsOf d i ws ++ r ∷ map (λ x. x .row) (g .1)) (q .row));
+          rows = moved (rowsOf d i ws) (rowThere b d at) (map (λ x. x .row) (g .1)) e (t .rows ∙ ap (λ (m : List Based). rowsOf d i ws ++ map (λ x. x .row) m) (g .5) ∙ ap (λ (r : Row Total). rowsOf d i ws ++ r ∷ map (λ x. x .row) (g .1)) (q .row));
         }
 
     pub turn-done : n ≤ i → Stored (walkArchive b) ws

@@ -4,7 +4,7 @@ use rows::Order;
 ghost use mathlib.Core.Logic.{_⊎_};
 ghost use mathlib.Core.Path.{_≡_};
 ghost use mathlib.Core.List.{[], _∷_, _++_};
-ghost use Prim.Native.Nat.{ℕ, suc, _+_, _*_, _≤_, _<_};
+ghost use Prim.Native.Nat.{ℕ, _+_, _*_, _≤_, _<_};
 ghost use lib.ListN.{length, drop};
 ghost use Rattle.lists.specs.Order.{earlier};
 ghost use Rattle.fields.specs.Words.{wordsAt};
@@ -177,8 +177,8 @@ pub fn check_cells(s: &[u8], dims: usize, at: usize) -> Walk
 
 // The row of the base entry at a place, stored as row i: its words are those of the file.
 fn store_row(s: &[u8], dims: usize, at: usize, i: usize, rows: &mut [u32])
-    requires { ⌜ (at + 4 * width dims ≤ length (now s)) × (suc i * width dims ≤ length (now rows)) ⌝ }
-    ensures { λ r. ⌜ rowsOf dims (suc i) (now (rows .exit)) ≡ rowsOf dims i (now (rows .entry)) ++ rowThere (now (s .entry)) dims at ∷ [] ⌝ }
+    requires { ⌜ (at + 4 * width dims ≤ length (now s)) × (i * width dims + width dims ≤ length (now rows)) ⌝ }
+    ensures { λ r. ⌜ rowsOf dims (i + 1) (now (rows .exit)) ≡ rowsOf dims i (now (rows .entry)) ++ rowThere (now (s .entry)) dims at ∷ [] ⌝ }
 {
     let width = dims + 3;
     let from = i * width;
@@ -187,12 +187,7 @@ fn store_row(s: &[u8], dims: usize, at: usize, i: usize, rows: &mut [u32])
 }
 
 // The base rows of an archive whose fields are right.
-pub fn store_rows(
-    s: &[u8],
-    dims: u32,
-    bases: u32,
-    rows: &mut [u32],
-)
+pub fn store_rows(s: &[u8], dims: u32, bases: u32, rows: &mut [u32])
     requires { ⌜ ((n : ℕ) × (archiveAnswer (walkArchive (now s)) ≡ ArchiveRead.Entries dims bases n)) ⌝ }
     requires { ⌜ 11264 ≤ length (now rows) ⌝ }
     ensures { λ r. ⌜ Stored (walkArchive (now (s .entry))) (now (rows .exit)) ⌝ }

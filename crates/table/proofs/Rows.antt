@@ -105,16 +105,16 @@ rowed-table s t {rest} b e =
       });
     }
 
--- the answer for a table that was read, where arrays have its base rows
+-- the answer for a table that was read, where words have its base rows
 pub read-answer : (s : List ℕ) (t : Records) {rest : List ℕ} → readTable s ≡ got t rest → (d n r : ℕ) → d ≡ length (t .sizes) → n ≡ length (t .rows)
-    → (c : List ℕ) (z : List ℤ) (k : List ℕ) → rowsOf d r c z k ≡ folded sums d (rowsAt s d n (12 + 4 * d))
-    → (Answer.Rows d r ≡ tableAnswer (readTable s)) × Stored (readTable s) c z k
-read-answer s t {rest} e d n r p q c z k f =
+    → (ws : List ℕ) → rowsOf d r ws ≡ folded sums d (rowsAt s d n (12 + 4 * d))
+    → (Answer.Rows d r ≡ tableAnswer (readTable s)) × Stored (readTable s) ws
+read-answer s t {rest} e d n r p q ws f =
     let w = placed s t e .rows in
-    let base : rowsOf d r c z k ≡ baseRows t
+    let base : rowsOf d r ws ≡ baseRows t
     = f ∙ ap₂ (λ (i j : ℕ). folded sums i (rowsAt s i j (12 + 4 * i))) p q ∙ ap (folded sums (length (t .sizes))) (sym w) in
-    let size : r ≡ length (baseRows t) = sym (rows-length d r c z k) ∙ ap length base in
-    rw e (ap₂ Answer.Rows p size, sym (ap₂ (λ (i j : ℕ). rowsOf i j c z k) p size) ∙ base)
+    let size : r ≡ length (baseRows t) = sym (rows-length d r ws) ∙ ap length base in
+    rw e (ap₂ Answer.Rows p size, sym (ap₂ (λ (i j : ℕ). rowsOf i j ws) p size) ∙ base)
 
-pub stop-answer : (s : List ℕ) {n : ℕ} → readTable s ≡ stop n → (c : List ℕ) (z : List ℤ) (k : List ℕ) → (Answer.Stop n ≡ tableAnswer (readTable s)) × Stored (readTable s) c z k
-stop-answer s e c z k = rw e (refl, tt)
+pub stop-answer : (s : List ℕ) {n : ℕ} → readTable s ≡ stop n → (ws : List ℕ) → (Answer.Stop n ≡ tableAnswer (readTable s)) × Stored (readTable s) ws
+stop-answer s e ws = rw e (refl, tt)

@@ -4,7 +4,6 @@ use mathlib.Core.List.{List, [], _∷_, _++_, append-nil}
 use Prim.Native.Nat.{ℕ, suc, _+_, _-_, _*_, _≤_, _<_}
 use native.Mathlib.Nat.{suc-mul, sub-zero}
 use native.Mathlib.Omega.{arith}
-use lib.IntN.{ℤ}
 use lib.ListN.{length}
 use lib.Seq.{append-snoc}
 use Rattle.cube.specs.declared.Total.{Total}
@@ -13,17 +12,17 @@ use Rattle.rows.specs.Rows.{rowsOf}
 use Rattle.table.specs.Reading.{recordThere, rowsAt}
 
 -- the rows that are stored and those left are the rows
-pub record Turn (b : List ℕ) (d n start : ℕ) (c : List ℕ) (s : List ℤ) (k : List ℕ) (at i : ℕ) : Type 0 where
+pub record Turn (b : List ℕ) (d n start : ℕ) (ws : List ℕ) (at i : ℕ) : Type 0 where
   pub below : i ≤ n
   pub place : at + (n - i) * (4 * d + 4) ≤ length b
-  pub rows : rowsAt b d n start ≡ rowsOf d i c s k ++ rowsAt b d (n - i) at
+  pub rows : rowsAt b d n start ≡ rowsOf d i ws ++ rowsAt b d (n - i) at
 
-module _ (b : List ℕ) (d n start : ℕ) (c : List ℕ) (s : List ℤ) (k : List ℕ) where
-  pub turn-start : start + n * (4 * d + 4) ≤ length b → Turn b d n start c s k start 0
+module _ (b : List ℕ) (d n start : ℕ) (ws : List ℕ) where
+  pub turn-start : start + n * (4 * d + 4) ≤ length b → Turn b d n start ws start 0
   unfolding rowsOf
   turn-start h = record { below = omega arith; place = rw sub-zero h; rows = rw sub-zero }
 
-  module _ {at i : ℕ} (t : Turn b d n start c s k at i) where
+  module _ {at i : ℕ} (t : Turn b d n start ws at i) where
     next : i < n → (n - i) * (4 * d + 4) ≡ (4 * d + 4) + (n - (i + 1)) * (4 * d + 4)
     next h =
         let e : n - i ≡ suc (n - (i + 1)) = omega arith in
@@ -33,22 +32,22 @@ module _ (b : List ℕ) (d n start : ℕ) (c : List ℕ) (s : List ℤ) (k : Lis
     pub turn-room : i < n → at + (4 * d + 4) ≤ length b
     turn-room h = omega (arith, next h, t .place)
 
-    pub turn-on : (c′ : List ℕ) (s′ : List ℤ) (k′ : List ℕ) → i < n → rowsOf d (i + 1) c′ s′ k′ ≡ rowsOf d i c s k ++ recordThere b d at ∷ []
-        → Turn b d n start c′ s′ k′ (at + (4 * d + 4)) (i + 1)
+    pub turn-on : (us : List ℕ) → i < n → rowsOf d (i + 1) us ≡ rowsOf d i ws ++ recordThere b d at ∷ []
+        → Turn b d n start us (at + (4 * d + 4)) (i + 1)
     unfolding rowsAt
-    turn-on c′ s′ k′ h e =
+    turn-on us h e =
         let f : n - i ≡ suc (n - (i + 1)) = omega arith in
         let left = rowsAt b d (n - (i + 1)) (at + (4 * d + 4)) in
         record {
           below = omega arith;
           place = omega (arith, next h, t .place);
-          rows = t .rows ∙ ap (λ (j : ℕ). rowsOf d i c s k ++ rowsAt b d j at) f ∙ sym (append-snoc (rowsOf d i c s k) (recordThere b d at) left)
+          rows = t .rows ∙ ap (λ (j : ℕ). rowsOf d i ws ++ rowsAt b d j at) f ∙ sym (append-snoc (rowsOf d i ws) (recordThere b d at) left)
               ∙ ap (λ (l : List (Row Total)). l ++ left) (sym e);
         }
 
-    pub turn-done : n ≤ i → rowsOf d n c s k ≡ rowsAt b d n start
+    pub turn-done : n ≤ i → rowsOf d n ws ≡ rowsAt b d n start
     unfolding rowsAt
     turn-done h =
         let f : n - i ≡ 0 = omega arith in
         let g : i ≡ n = let z = t .below in omega arith in
-        sym (t .rows ∙ ap (λ (j : ℕ). rowsOf d i c s k ++ rowsAt b d j at) f ∙ append-nil (rowsOf d i c s k) ∙ ap (λ (j : ℕ). rowsOf d j c s k) g)
+        sym (t .rows ∙ ap (λ (j : ℕ). rowsOf d i ws ++ rowsAt b d j at) f ∙ append-nil (rowsOf d i ws) ∙ ap (λ (j : ℕ). rowsOf d j ws) g)

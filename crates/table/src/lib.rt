@@ -1,6 +1,7 @@
 // A table read from its bytes: its stops, and its base rows.
 use fields_walk::Walk;
 ghost use mathlib.Core.Path.{_≡_};
+ghost use mathlib.Core.List.{[], _∷_, _++_};
 ghost use Prim.Native.Nat.{_+_, _*_, _≤_};
 ghost use lib.ListN.{length, drop};
 ghost use Rattle.fields.specs.Words.{wordsAt};
@@ -10,7 +11,7 @@ ghost use Rattle.cube.specs.Measure.{sums as measure};
 ghost use Rattle.cube.specs.Bounds.{Summable};
 ghost use Rattle.cube.specs.Table.{Table, folded};
 ghost use Rattle.rows.specs.Rows.{width, rowIn, rowsOf};
-ghost use Rattle.table.specs.Reading.{row, body, readTable, rowsAt, Rowed, tableAnswer, Stored};
+ghost use Rattle.table.specs.Reading.{row, body, readTable, recordThere, rowsAt, Rowed, tableAnswer, Stored};
 
 // What reading a table answers: a stop's number, or D and the number of base rows.
 pub enum TableRead {
@@ -83,7 +84,7 @@ fn check_table(s: &[u8]) -> Walk
     }
 }
 
-// The row at a place, stored as a row: its codes, its reading as a sum, and a count of one.
+// The row at a place as words: its codes, its reading as a sum, and a count of one.
 fn fill_row(row: &mut [u32], s: &[u8], dims: usize, at: usize)
     requires { ⌜ (length (now row) ≡ width dims) × (at + (4 * dims + 4) ≤ length (now s)) ⌝ }
     ensures { λ _. ⌜ rowIn dims (now (row .exit)) ≡ recordThere (now (s .entry)) dims at ⌝ }
@@ -105,7 +106,7 @@ fn store_row(s: &[u8], dims: usize, at: usize, i: usize, rows: &mut [u32])
     fill_row(&mut rows[from..to], s, dims, at);
 }
 
-// The rows from a place on into the arrays that are lent.
+// The rows from a place on into the array that is lent.
 fn store_rows(s: &[u8], dims: usize, count: usize, start: usize, rows: &mut [u32])
     requires { ⌜ (start + count * (4 * dims + 4) ≤ length (now s)) × (count * width dims ≤ length (now rows)) ⌝ }
     ensures { λ _. ⌜ rowsOf dims count (now (rows .exit)) ≡ rowsAt (now (s .entry)) dims count start ⌝ }
@@ -119,7 +120,7 @@ fn store_rows(s: &[u8], dims: usize, count: usize, start: usize, rows: &mut [u32
     }
 }
 
-// The base rows of the rows from a place on, which are first stored in buffers of their own, into the arrays that are lent. Returns how many there are.
+// The base rows of the rows from a place on, which are first stored in a buffer of their own, into the array that is lent. Returns how many there are.
 fn fold_rows(
     s: &[u8],
     dims: usize,
@@ -137,23 +138,11 @@ fn fold_rows(
 {
     store_rows(s, dims, count, start, own);
     let full = lattice::sets_of(dims as u32) - 1;
-    rows_runs::group_rows(
-        own,
-        count,
-        dims,
-        full,
-        index,
-        rows,
-    )
+    rows_runs::group_rows(own, count, dims, full, index, rows)
 }
 
 // The base rows of n rows of d codes behind the header. Returns how many there are.
-fn fold_table(
-    s: &[u8],
-    d: usize,
-    n: usize,
-    rows: &mut [u32],
-) -> usize
+fn fold_table(s: &[u8], d: usize, n: usize, rows: &mut [u32]) -> usize
     requires { ⌜ Rowed (now s) d n × (11264 ≤ length (now rows)) ⌝ }
     ensures { λ r. ⌜ rowsOf d r (now (rows .exit)) ≡ folded measure d (rowsAt (now (s .entry)) d n (12 + 4 * d)) ⌝ }
     ensures { λ r. ⌜ r ≤ n ⌝ }
@@ -162,22 +151,11 @@ fn fold_table(
     let mut index = [0u32; 1024];
     let size = n * (d + 3);
     let start = 12 + 4 * d;
-    fold_rows(
-        s,
-        d,
-        n,
-        start,
-        &mut own[..size],
-        &mut index[..n],
-        rows,
-    )
+    fold_rows(s, d, n, start, &mut own[..size], &mut index[..n], rows)
 }
 
-// Reads a table: its stops, and its base rows into the arrays that are lent.
-pub fn read_table(
-    s: &[u8],
-    rows: &mut [u32; 11264],
-) -> TableRead
+// Reads a table: its stops, and its base rows into the array that is lent.
+pub fn read_table(s: &[u8], rows: &mut [u32; 11264]) -> TableRead
     ensures { λ r. ⌜ r ≡ tableAnswer (readTable (now (s .entry))) ⌝ }
     ensures { λ r. ⌜ Stored (readTable (now (s .entry))) (now (rows .exit)) ⌝ }
 {
@@ -187,10 +165,10 @@ pub fn read_table(
             let dims = fields::word_at(s, 4);
             let d = dims as usize;
             let n = fields::word_at(s, 8 + 4 * d) as usize;
-            let rows = fold_table(s, d, n, rows);
+            let count = fold_table(s, d, n, rows);
             TableRead::Rows {
                 dims,
-                rows: rows as u32,
+                rows: count as u32,
             }
         }
     }

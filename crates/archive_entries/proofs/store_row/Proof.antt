@@ -1,7 +1,6 @@
 -- `archive_entries::store_row` meets its contract: the row's words are those of the entry's fields.
 use mathlib.Core.Path.{_≡_, ap, _∙_}
-use Prim.Native.Nat.{ℕ, suc, _+_, _*_, _-_, _≤_}
-use native.Mathlib.Nat.{suc-mul}
+use Prim.Native.Nat.{ℕ, _+_, _*_, _-_}
 use native.Mathlib.Omega.{arith}
 use lib.ListN.{length, take, drop, length-drop}
 use lib.Seq.{length-take-le}
@@ -13,31 +12,12 @@ use Rattle.archive_entries.proofs.Storing.{row-read}
 use Rattle.archive_entries.proofs.store_row.Statement.{statement}
 use Rattle.archive_entries.proofs.store_row.Tie as tie
 
--- the words of row i are within the slice
-within : (c : tie.Start) → c .args .i * width (c .args .dims) + width (c .args .dims) ≤ length (now (c .args .rows))
-within c = rw suc-mul at (c .pre .1)
-
--- and as many as a row has
+-- the words of row i are as many as a row has
 part : (c : tie.Start) → (let a = c .args in length (take (a .i * width (a .dims) + width (a .dims) - a .i * width (a .dims)) (drop (a .i * width (a .dims)) (now (a .rows)))) ≡ width (a .dims))
 part c =
     let a = c .args in
     let e : a .i * width (a .dims) + width (a .dims) - a .i * width (a .dims) ≡ width (a .dims) = omega arith in
-    rw e (length-take-le (width (a .dims)) (drop (a .i * width (a .dims)) (now (a .rows))) (simp length-drop (omega (arith, within c))))
-
-add-width : tie.Need-add-width
-add-width c = omega (arith, within (c .before .before))
-
-mul-from : tie.Need-mul-from
-mul-from c = omega (arith, within (c .before .before))
-
-add-to : tie.Need-add-to
-add-to c = omega (arith, within (c .before .before))
-
-mul-read-words : tie.Need-mul-read-words
-mul-read-words c = omega (arith, within (c .before .before))
-
-part-read-words-end : tie.Need-part-read-words-end
-part-read-words-end c = omega (arith, within (c .before .before))
+    rw e (length-take-le (width (a .dims)) (drop (a .i * width (a .dims)) (now (a .rows))) (simp length-drop (omega (arith, c .pre .1))))
 
 read-words-requires : tie.Need-read-words-requires
 read-words-requires c κs = rw (part (c .before .before .before)) (c .before .before .before .pre .0)
@@ -46,8 +26,9 @@ returns : tie.Need-returns
 returns c =
     let s = c .before .before .before .before .before .before in
     let a = s .args in
-    row-read (now (a .s)) (a .dims) (a .at) (a .i) (now (a .rows)) _ (within s) (c .before .before .read-words .ensures ∙ ap (λ (n : ℕ). wordsAt (now (a .s)) n (a .at)) (part s))
+    row-read (now (a .s)) (a .dims) (a .at) (a .i) (now (a .rows)) _ (s .pre .1) (c .before .before .read-words .ensures ∙ ap (λ (n : ℕ). wordsAt (now (a .s)) n (a .at)) (part s))
 
 pub store-row-spec : {M : Type 1} → statement M
 store-row-spec =
-    tie.close (tie.spec add-width mul-from add-to mul-read-words (λ c. search needs) (λ c. search needs) part-read-words-end read-words-requires (λ c. search needs) returns)
+    tie.close
+    (tie.spec (λ c. search needs) (λ c. search needs) (λ c. search needs) (λ c. search needs) (λ c. search needs) (λ c. search needs) (λ c. search needs) read-words-requires (λ c. search needs) returns)

@@ -7,6 +7,7 @@ use borrow.Author.Needs.{needs}
 use lib.ListN.{length}
 use denote.Ref.{now}
 use Rattle.rows.specs.Rows.{width}
+use Rattle.rows.proofs.Rows.{row-within}
 use Rattle.archive_entries.specs.Places.{widthThere}
 use Rattle.archive_entries.proofs.Fields.{accepted}
 use Rattle.archive_entries.proofs.Storing.{Turn, turn-start, turn-whole, turn-on, turn-done}
@@ -24,10 +25,12 @@ loop-holds c = let a = c .before .before .args in (refl, turn-start _ _ _ _ (acc
 
 store-row-requires : tie.Need-store-row-requires Inv-loop μ-loop
 store-row-requires c κs =
-    let l = c .before .before .loop .inv in
+    let s = c .before .before .before .before .before in
+    let l = c .before .before .loop in
     let h = c .before .loop-test .taken in
-    let few : width (c .before .before .before .before .before .args .dims) ≤ 11 = omega (arith, l .1 .archive .few) in
-    (omega (arith, turn-whole _ _ _ _ (l .1) h), omega (arith, l .0, l .1 .archive .few-bases, c .before .before .before .before .before .pre .1, mul-le-mul h few))
+    let few : width (s .args .dims) ≤ 11 = omega (arith, l .inv .1 .archive .few) in
+    let all = mul-le-mul (l .inv .1 .archive .few-bases) few in
+    (omega (arith, turn-whole _ _ _ _ (l .inv .1) h), omega (arith, l .inv .0, s .pre .1, all, row-within (width (s .args .dims)) (s .args .bases) (l .i) h))
 
 -- the entry whose row was stored is there
 room : (c : tie.After-slice-known2 Inv-loop μ-loop) → (let l = c .before .before .before .before .before .loop in let a = c .before .before .before .before .before .before .before .before .args in l .at + widthThere (now (a .s)) (a .dims) (l .at) ≤ length (now (a .s)))

@@ -1,35 +1,35 @@
--- `table::fold_table` meets its contract: the buffers are cut to the rows there are.
+-- `table::fold_table` meets its contract: the buffer is cut to the rows there are.
 use mathlib.Core.Path.{sym}
 use Prim.Native.Nat.{_*_, _≤_}
 use native.Mathlib.Nat.{mul-le-mul}
 use native.Mathlib.Omega.{arith}
 use lib.Seq.{length-take-le}
 use borrow.Author.Needs.{needs}
+use Rattle.rows.specs.Rows.{width}
 use Rattle.table.proofs.fold_table.Statement.{statement}
 use Rattle.table.proofs.fold_table.Tie as tie
 
--- the codes of all rows
-rows-few : (c : tie.After-slice-known2) → c .before .before .before .args .n * c .before .before .before .args .d ≤ 8192
-rows-few c = let m = mul-le-mul (c .before .before .before .pre .0 .few) (c .before .before .before .pre .0 .dims) in omega (arith, m)
+-- the words of all rows
+words-few : (c : tie.Start) → c .args .n * width (c .args .d) ≤ 11264
+words-few c = let w : width (c .args .d) ≤ 11 = omega (arith, c .pre .0 .dims) in omega (arith, mul-le-mul (c .pre .0 .few) w)
 
-slice-aggregate-fold-n : tie.Need-slice-aggregate-fold-n
-slice-aggregate-fold-n c = sym (length-take-le (c .before .before .before .before .args .n * c .before .before .before .before .args .d) _ (rows-few (c .before)))
+array-borrow-prefix-own : tie.Need-array-borrow-prefix-own
+array-borrow-prefix-own c = words-few (c .before .before)
+
+slice-aggregate-fold-rows : tie.Need-slice-aggregate-fold-rows
+slice-aggregate-fold-rows c = let s = c .before .before .before in sym (length-take-le (s .args .n * width (s .args .d)) _ (words-few s))
 
 slice-aggregate-fold-rows-2 : tie.Need-slice-aggregate-fold-rows-2
-slice-aggregate-fold-rows-2 c = sym (length-take-le (c .before .before .before .before .before .args .n) _ (c .before .before .before .before .before .pre .0 .few))
-
-slice-aggregate-fold-rows-3 : tie.Need-slice-aggregate-fold-rows-3
-slice-aggregate-fold-rows-3 c = sym (length-take-le (c .before .before .before .before .before .before .args .n) _ (c .before .before .before .before .before .before .pre .0 .few))
-
-slice-aggregate-fold-rows-4 : tie.Need-slice-aggregate-fold-rows-4
-slice-aggregate-fold-rows-4 c = sym (length-take-le (c .before .before .before .before .before .before .before .args .n) _ (c .before .before .before .before .before .before .before .pre .0 .few))
+slice-aggregate-fold-rows-2 c = let s = c .before .before .before .before in sym (length-take-le (s .args .n) _ (s .pre .0 .few))
 
 fold-rows-requires : tie.Need-fold-rows-requires
 fold-rows-requires c κs =
-    let p = c .before .before .before .before .before .before .before .before .before .before .pre in (
-      (slice-aggregate-fold-n (c .before .before .before .before .before .before), sym (slice-aggregate-fold-rows-2 (c .before .before .before .before .before)), sym (slice-aggregate-fold-rows-3 (c .before .before .before .before)), sym (slice-aggregate-fold-rows-4 (c .before .before .before)), p .0 .few, p .0 .dims),
-      ((p .0 .inside, p .1, p .2, p .3), (p .0 .table, p .0 .summable)),
+    let p = c .before .before .before .before .before .pre in (
+      (slice-aggregate-fold-rows (c .before .before), sym (slice-aggregate-fold-rows-2 (c .before)), p .0 .few, p .0 .dims),
+      ((p .0 .inside, p .1), (p .0 .table, p .0 .summable)),
     )
 
 pub fold-table-spec : {M : Type 1} → statement M
-fold-table-spec = tie.close (tie.spec (λ c. search needs) (λ c. search needs) (λ c. search needs) rows-few slice-aggregate-fold-n (λ c. search needs) slice-aggregate-fold-rows-2 (λ c. search needs) slice-aggregate-fold-rows-3 (λ c. search needs) slice-aggregate-fold-rows-4 fold-rows-requires (λ c. search needs) (λ c. search needs) (λ c. search needs) (λ c. search needs))
+fold-table-spec =
+    tie.close
+    (tie.spec (λ c. search needs) (λ c. search needs) (λ c. search needs) (λ c. search needs) array-borrow-prefix-own slice-aggregate-fold-rows (λ c. search needs) slice-aggregate-fold-rows-2 fold-rows-requires (λ c. search needs) (λ c. search needs))

@@ -36,22 +36,18 @@ count c = c .word-at2 .ensures ∙ ap (λ (d : ℕ). wordAt (now (c .before .bef
 
 fold-table-requires : tie.Need-fold-table-requires
 fold-table-requires c κs =
-    let s = now (c .before .before .before .before .before .before .before .before .before .before .args .s) in
-    let g = seen (c .before .before .before .before .before .before .place .given .1) (c .before .before .before .before .before .before .before .before .check-table .ensures) in
-    let r = rowed-table s (g .0) (bytes (c .before .before .before .before .before .before .before .before .before)) (g .1) in (
-      subst (λ (d : ℕ). Rowed s d (c .before .before .before .word-at2 .result)) (sym (dims (c .before .before .before .before))) (subst (Rowed s (length (g .0 .sizes))) (sym (count (c .before .before .before))) r),
-      search needs,
-      search needs,
-      search needs,
-    )
+    let s = now (c .before .before .before .before .before .before .before .before .args .s) in
+    let g = seen (c .before .before .before .before .place .given .1) (c .before .before .before .before .before .before .check-table .ensures) in
+    let r = rowed-table s (g .0) (bytes (c .before .before .before .before .before .before .before)) (g .1) in
+    (subst (λ (d : ℕ). Rowed s d (c .before .word-at2 .result)) (sym (dims (c .before .before))) (subst (Rowed s (length (g .0 .sizes))) (sym (count (c .before))) r), search needs)
 
 returns : tie.Need-returns
 returns c = let a = c .before .before .before .before .before .args in stop-answer (now (a .s)) (seen (c .before .n .given .1) (c .before .before .before .check-table .ensures)) (now (a .rows))
 
 returns-2 : tie.Need-returns-2
 returns-2 c =
-    let g = seen (c .before .before .before .before .before .before .before .place .given .1) (c .before .before .before .before .before .before .before .before .before .check-table .ensures) in
-    read-answer (now (c .before .before .before .before .before .before .before .before .before .before .before .args .s)) (g .0) (g .1) (c .before .before .before .before .before .word-at .result) (c .before .before .before .before .word-at2 .result) (c .fold-table .result) (dims (c .before .before .before .before .before)) (count (c .before .before .before .before)) _ _ _ (c .fold-table .ensures .0)
+    let g = seen (c .before .before .before .before .before .place .given .1) (c .before .before .before .before .before .before .before .check-table .ensures) in
+    read-answer (now (c .before .before .before .before .before .before .before .before .before .args .s)) (g .0) (g .1) (c .before .before .before .word-at .result) (c .before .before .word-at2 .result) (c .fold-table .result) (dims (c .before .before .before)) (count (c .before .before)) _ (c .fold-table .ensures .0)
 
 pub read-table-spec : {M : Type 1} → statement M
 read-table-spec = tie.close (tie.spec (λ c κs. search needs) (λ c. search needs) (λ c. search needs) word-at-requires (λ c. search needs) (λ c. search needs) (λ c. search needs) word-at-requires-2 (λ c. search needs) fold-table-requires (λ c. search needs) returns returns-2)
