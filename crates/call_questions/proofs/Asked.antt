@@ -1,11 +1,10 @@
--- The answer to a question to base rows in flat lists, by the first row that falls in the cell.
+-- The answer to a question to base rows in a flat list, by the first row that falls in the cell.
 use mathlib.Core.Path.{_≡_, sym, ap, _∙_}
 use mathlib.Core.Bool.{Bool, true, false}
 use mathlib.Core.List.{List}
 use Prim.Native.Nat.{ℕ, _+_, _*_, _^_, _≤_, _<_}
 use native.Mathlib.Omega.{arith}
-use lib.IntN.{ℤ, pos}
-use lib.ListN.{length, getD}
+use lib.ListN.{length}
 use Rattle.lists.specs.Lists.{_∈_}
 use Rattle.lists.specs.Search.{Between}
 use Rattle.fields.specs.Words.{wordAt}
@@ -13,10 +12,10 @@ use Rattle.fields.specs.Twos.{sumAt}
 use Rattle.cube.specs.declared.Total.{Total}
 use Rattle.cube.specs.Measure.{Row, sums as measure, codesOf}
 use Rattle.cube.specs.Codes.{falls, set-of, plain}
-use Rattle.cube.specs.Condensed.{found, single, normals, Base, lookup, ours}
-use Rattle.rows.specs.Rows.{cut, rowAt, rowsOf}
+use Rattle.cube.specs.Condensed.{single, normals, Base, lookup, ours}
+use Rattle.rows.specs.Rows.{cut, rowAt, rowsOf, totalAt}
 use Rattle.rows.proofs.Rows.{cut-length, rows-codes}
-use Rattle.rows.proofs.Flat.{rows-length, rows-at}
+use Rattle.rows.proofs.Flat.{rows-length}
 use Rattle.archive_entries.proofs.Limits.{normals-few}
 use Rattle.rows_ready.specs.Ready.{Ready}
 use Rattle.rows_ready.proofs.Ready.{ready-base}
@@ -66,10 +65,9 @@ module _ {d n : ℕ} {ws : List ℕ} (ready : Ready d n ws) (c : List ℕ) where
     alone = single (plain d) (cut d n ws) (set-of c) (rowAt (cut d n ws) i)
 
     -- one row does
-    pub asked-row : alone ≡ true → Cell (getD sums i (pos 0)) (getD counts i 0) i ≡ asked
-    asked-row e =
-        sym (ap looked (answer-row d table base c i inside falls-here (rw same-codes e)
-        ∙ ap (λ (r : Row Total). found i (r .total)) (rows-at d n i ws h)))
+    pub asked-row : alone ≡ true → Cell (totalAt d n ws i .sum) (totalAt d n ws i .count) i ≡ asked
+    unfolding totalAt
+    asked-row e = sym (ap looked (answer-row d table base c i inside falls-here (rw same-codes e)))
 
     -- two or more do
     module _ {s : List ℕ} {at m k : ℕ} (held : NormalsAt s at m d table) (e : length c ≡ d) (g : Between (entryBefore s at c) m k k) (p : alone ≡ false) where
