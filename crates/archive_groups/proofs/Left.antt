@@ -2,7 +2,6 @@
 use mathlib.Core.Path.{_≡_, ap}
 use mathlib.Core.List.{List, [], _++_, flatMap}
 use Prim.Native.Nat.{ℕ, _+_, _≤_, _<_}
-use lib.IntN.{ℤ}
 use lib.ListN.{length, getD, drop}
 use Rattle.cube.specs.declared.Total.{Total}
 use Rattle.cube.specs.Measure.{nothing}
