@@ -1,9 +1,7 @@
 -- `table::fill_row` meets its contract: the codes stand in front, and behind them the total of one reading.
 use mathlib.Core.Path.{_≡_, sym, ap, ap₂, _∙_}
-use mathlib.Core.List.{List}
 use Prim.Native.Nat.{ℕ}
 use native.Mathlib.Omega.{arith}
-use lib.IntN.{ℤ}
 use lib.ListN.{length, take}
 use lib.Seq.{length-take-le, take-at}
 use mir.Syntax.{w64}
