@@ -4,7 +4,6 @@ use mathlib.Core.List.{List, [], _∷_, map}
 use Prim.Native.Nat.{ℕ, _+_, _*_, _≤_, _<_}
 use native.Mathlib.Numerals.{add-one}
 use native.Mathlib.Omega.{arith}
-use lib.IntN.{ℤ, pos}
 use lib.ListN.{length, getD, drop, length-map, drop-of-length-le, List·getD-map}
 use lib.Seq.{drop-cons}
 use Rattle.lists.proofs.Places.{map-at}
@@ -12,9 +11,9 @@ use Rattle.cube.specs.declared.Total.{Total}
 use Rattle.cube.specs.Measure.{Row}
 use Rattle.cube.specs.Codes.{plain}
 use Rattle.cube.specs.Condensed.{listed}
-use Rattle.rows.specs.Rows.{cut, rowAt, rowsOf}
+use Rattle.rows.specs.Rows.{cut, rowAt, rowsOf, totalAt}
 use Rattle.rows.proofs.Rows.{cut-length, rows-codes, row-at, row-length}
-use Rattle.rows.proofs.Flat.{blank, rows-length, rows-at}
+use Rattle.rows.proofs.Flat.{blank, rows-length, rows-at, total-at}
 use Rattle.rows_condense.specs.Lists.{listsOf, ourLists}
 use Rattle.rows_condense.proofs.Lists.{list-length}
 use Rattle.archive_entries.specs.Layout.{baseBytes, setsIn, based}
@@ -52,12 +51,12 @@ module _ {d n : ℕ} {ws sets lens : List ℕ} (rows : Listed d n ws sets lens) 
           ∙ ap₂ (λ (ys : List (List ℕ)) (x : List ℕ). listed (plain d) ys x) (sym (rows-codes d n ws)) codes-at
 
       -- codes, sum, count and list of a row make its base entry
-      pub base-at : {x list : List ℕ} → x ≡ rowAt (cut d n ws) i → list ≡ getD (listsOf n sets lens) i []
-          → record { row = record { codes = x; total = record { sum = getD sums i (pos 0); count = getD counts i 0 } }; list = list } ≡ ourBase d table i
+      pub base-at : {x list : List ℕ} {u : Total} → x ≡ rowAt (cut d n ws) i → u ≡ totalAt d n ws i → list ≡ getD (listsOf n sets lens) i []
+          → record { row = record { codes = x; total = u }; list = list } ≡ ourBase d table i
       unfolding ourBase
-      base-at {x} {list} e f =
-          let same : record { codes = x; total = record { sum = getD sums i (pos 0); count = getD counts i 0 } } ≡ getD table i blank =
-          ap (λ (c : List ℕ). record { codes = c; total = record { sum = getD sums i (pos 0); count = getD counts i 0 } }) (e ∙ row-at d n i ws h)
+      base-at {x} {list} {u} e g f =
+          let same : record { codes = x; total = u } ≡ getD table i blank =
+          ap₂ (λ (c : List ℕ) (t : Total). record { codes = c; total = t }) (e ∙ row-at d n i ws h) (g ∙ total-at d n i ws h)
           ∙ sym (rows-at d n i ws h) in
           ap₂ (λ (r : Row Total) (l : List ℕ). record { row = r; list = l }) same (f ∙ list-at)
 
