@@ -21,18 +21,18 @@ whole c =
 
 returns : tie.Need-returns
 returns c =
-    let a = c .before .before .before .before .before .before .before .before .before .args in
+    let a = c .before .before .before .before .before .before .before .before .args in
     let n = rowsOf (a .dims) (a .n) (now (a .rows)) in
-    matched-as (whole (c .before .before .before .before .before .before .before .before .before)) (matched-stop (commonBytes (a .dims) n) (matched-told (c .before .stop .given .1) (c .before .before .before .match-blank .ensures)))
+    matched-as (whole (c .before .before .before .before .before .before .before .before)) (matched-stop (commonBytes (a .dims) n) (matched-told (c .before .stop .given .1) (c .before .before .before .match-blank .ensures)))
 
 match-common-requires : tie.Need-match-common-requires
-match-common-requires c κs = (c .before .before .before .before .before .before .before .before .before .pre .0, matched-told (c .before .next .given .1) (c .before .before .before .match-blank .ensures) .meets .2)
+match-common-requires c κs = (c .before .before .before .before .before .before .before .before .pre .0, matched-told (c .before .next .given .1) (c .before .before .before .match-blank .ensures) .meets .2)
 
 returns-2 : tie.Need-returns-2
 returns-2 c =
-    let a = c .before .before .before .before .before .before .before .before .before .before .args in
+    let a = c .before .before .before .before .before .before .before .before .before .args in
     let n = rowsOf (a .dims) (a .n) (now (a .rows)) in
-    matched-as (whole (c .before .before .before .before .before .before .before .before .before .before)) (matched-then (commonBytes (a .dims) n) (c .match-common .result) (matched-told (c .before .before .next .given .1) (c .before .before .before .before .match-blank .ensures)) (c .match-common .ensures))
+    matched-as (whole (c .before .before .before .before .before .before .before .before .before)) (matched-then (commonBytes (a .dims) n) (c .match-common .result) (matched-told (c .before .before .next .given .1) (c .before .before .before .before .match-blank .ensures)) (c .match-common .ensures))
 
 pub match-normals-spec : {M : Type 1} → statement M
 match-normals-spec =

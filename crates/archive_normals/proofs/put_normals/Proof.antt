@@ -31,22 +31,22 @@ room c =
     omega (arith, c .pre .1, ap length (whole c), length-append (blankBytes (a .dims) (a .n)) (commonBytes (a .dims) n))
 
 put-blank-requires : tie.Need-put-blank-requires
-put-blank-requires c κs = (c .before .before .before .before .before .before .pre .0 .ready .dims, omega (arith, room (c .before .before .before .before .before .before)))
+put-blank-requires c κs = (c .before .before .before .before .before .pre .0 .ready .dims, omega (arith, room (c .before .before .before .before .before)))
 
 sub-put-common : tie.Need-sub-put-common
-sub-put-common c = omega (arith, room (c .before .before .before .before .before .before .before .before .before), c .before .before .put-blank .ensures .count, c .before .before .put-blank .ensures .same)
+sub-put-common c = omega (arith, room (c .before .before .before .before .before .before .before .before), c .before .before .put-blank .ensures .count, c .before .before .put-blank .ensures .same)
 
 part-put-common-start : tie.Need-part-put-common-start
-part-put-common-start c = omega (arith, room (c .before .before .before .before .before .before .before .before .before), c .before .before .put-blank .ensures .count, c .before .before .put-blank .ensures .same)
+part-put-common-start c = omega (arith, room (c .before .before .before .before .before .before .before .before), c .before .before .put-blank .ensures .count, c .before .before .put-blank .ensures .same)
 
 put-common-requires : tie.Need-put-common-requires
-put-common-requires c κs = (c .before .before .before .before .before .before .before .before .before .before .pre .0, simp (length-take, length-drop) (omega (arith, room (c .before .before .before .before .before .before .before .before .before .before), c .before .before .before .put-blank .ensures .count, c .before .before .before .put-blank .ensures .same)))
+put-common-requires c κs = (c .before .before .before .before .before .before .before .before .before .pre .0, simp (length-take, length-drop) (omega (arith, room (c .before .before .before .before .before .before .before .before .before), c .before .before .before .put-blank .ensures .count, c .before .before .before .put-blank .ensures .same)))
 
 add-result : tie.Need-add-result
-add-result c = omega (arith, room (c .before .before .before .before .before .before .before .before .before .before .before .before .before), c .before .before .before .before .before .before .put-blank .ensures .count, c .before .before .put-common .ensures .count)
+add-result c = omega (arith, room (c .before .before .before .before .before .before .before .before .before .before .before .before), c .before .before .before .before .before .before .put-blank .ensures .count, c .before .before .put-common .ensures .count)
 
 returns : tie.Need-returns
-returns c = wrote-as (whole (c .before .before .before .before .before .before .before .before .before .before .before .before .before)) (wrote-then (c .before .before .before .before .before .before .put-blank .ensures) (c .before .before .put-common .ensures))
+returns c = wrote-as (whole (c .before .before .before .before .before .before .before .before .before .before .before .before)) (wrote-then (c .before .before .before .before .before .before .put-blank .ensures) (c .before .before .put-common .ensures))
 
 pub put-normals-spec : {M : Type 1} → statement M
 put-normals-spec =
