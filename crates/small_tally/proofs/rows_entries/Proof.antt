@@ -1,5 +1,5 @@
 -- `small_tally::rows_entries` meets its contract: the rows are condensed, and their normal entries counted.
-use mathlib.Core.Path.{sym, ap, _∙_}
+use mathlib.Core.Path.{sym, ap}
 use Prim.Native.Nat.{ℕ, _+_}
 use native.Mathlib.Omega.{arith}
 use lib.Seq.{length-take-le}
@@ -21,10 +21,10 @@ add-result : tie.Need-add-result
 add-result c =
     let a = c .before .before .before .before .before .before .before .before .before .before .args in
     let p = c .before .before .before .before .before .before .before .before .before .before .pre in
-    omega (arith, c .before .before .before .before .condense-n .ensures .1 .1, normals-fit (a .dims) (a .n) (now (a .rows)) (p .0) (p .1), p .1)
+    omega (arith, c .before .before .before .before .condense-rows .ensures .1 .1, normals-fit (a .dims) (a .n) (now (a .rows)) (p .0) (p .1), p .1)
 
 returns : tie.Need-returns
-returns c = ap (λ (n : ℕ). c .before .before .before .before .before .before .before .before .before .before .args .n + n) (c .before .before .before .before .condense-n .ensures .1 .1)
+returns c = ap (λ (n : ℕ). c .before .before .before .before .before .before .before .before .before .before .args .n + n) (c .before .before .before .before .condense-rows .ensures .1 .1)
 
 pub rows-entries-spec : {M : Type 1} → statement M
 rows-entries-spec =
