@@ -5,7 +5,6 @@ use mathlib.Core.List.{List, []}
 use Prim.Native.Nat.{ℕ, _+_, _*_, _≤_}
 use native.Mathlib.Nat.{mul-le-mul, mul-le-mul-right}
 use native.Mathlib.Omega.{arith}
-use lib.IntN.{ℤ}
 use lib.ListN.{length, take, drop, getD, length-drop}
 use lib.Pow.{pow-mono}
 use lib.Seq.{length-take-le}
@@ -23,7 +22,7 @@ use Rattle.archive_entries.proofs.Fields.{Accepted, accepted}
 use Rattle.archive_entries.proofs.Walkable.{walk-forth}
 use Rattle.rows_ready.proofs.Ready.{rows-front}
 use Rattle.lattice.proofs.Sets.{full-lt}
-use Rattle.rows.specs.Rows.{cut, rowsOf}
+use Rattle.rows.specs.Rows.{width, cut, rowsOf}
 use Rattle.rows_order.specs.Index.{key}
 use Rattle.rows_slots.proofs.Entries.{slot-length}
 use Rattle.archive_normals.specs.Grouped.{Grouped}
@@ -31,8 +30,8 @@ use Rattle.archive_judge.specs.Read.{Read}
 use Rattle.archive_judge.specs.Sharing.{Sharing, Shares}
 use Rattle.archive_judge.proofs.Judged.{sizes-at}
 
-stored-walked : (p : Parsed Held) {a : Held} {rest : List ℕ} (c : List ℕ) (t : List ℤ) (k : List ℕ) → p ≡ got a rest → Stored p c t k → rowsOf (length (a .sizes)) (length (a .bases)) c t k ≡ rowsIn a
-stored-walked p c t k e h = subst (λ (q : Parsed Held). Stored q c t k) e h
+stored-walked : (p : Parsed Held) {a : Held} {rest : List ℕ} (ws : List ℕ) → p ≡ got a rest → Stored p ws → rowsOf (length (a .sizes)) (length (a .bases)) ws ≡ rowsIn a
+stored-walked p ws e h = subst (λ (q : Parsed Held). Stored q ws) e h
 
 module _ {s : List ℕ} {d n m : ℕ} (b : Bytes s) (e : archiveAnswer (walkArchive s) ≡ Answer.Entries d n m) where
   abbrev walk : Accepted s d n
@@ -41,29 +40,23 @@ module _ {s : List ℕ} {d n m : ℕ} (b : Bytes s) (e : archiveAnswer (walkArch
   walked : walkArchive s ≡ got (walk .held) []
   walked = walk .walked ∙ ap (got (walk .held)) (walk-forth s (walk .held) (walk .rest) b (walk .walked) .2)
 
-  pub read-small : n * d ≤ 8192
-  read-small = let k = mul-le-mul (walk .few-bases) (walk .few) in omega (arith, k)
+  pub read-small : n * width d ≤ 11264
+  read-small =
+      let few : width d ≤ 11 = omega (arith, walk .few) in
+      let k = mul-le-mul (walk .few-bases) few in
+      omega (arith, k)
 
-  module _ (ws : List ℕ) (room : (8192 ≤ length ws) × (1024 ≤ length sums) × (1024 ≤ length counts))
-      (h : Stored (walkArchive s) ws) where
-    pub read-size : n * d ≤ length ws
-    read-size = omega (arith, read-small, room .0)
+  module _ (ws : List ℕ) (room : 11264 ≤ length ws) (h : Stored (walkArchive s) ws) where
+    pub read-size : n * width d ≤ length ws
+    read-size = omega (arith, read-small, room)
 
-    pub read-amounts : n ≤ length sums
-    read-amounts = omega (arith, walk .few-bases, room .1)
-
-    pub read-tallies : n ≤ length counts
-    read-tallies = omega (arith, walk .few-bases, room .2)
-
-    -- the rows that were read, in parts of the arrays that they fill
-    pub read-of : Read s d n (take (n * d) ws) (take n sums) (take n counts)
+    -- the rows that were read, in the part of the array that they fill
+    pub read-of : Read s d n (take (n * width d) ws)
     read-of = record {
       held = walk .held;
       walked = walked;
       dims = walk .dims;
-      size = sym (length-take-le (n * d) ws read-size);
-      amounts = length-take-le n sums read-amounts;
-      tallies = length-take-le n counts read-tallies;
+      size = sym (length-take-le (n * width d) ws read-size);
       rows = rows-front d n ws
           ∙ ap₂ (λ (i j : ℕ). rowsOf i j ws) (sym (walk .dims)) (sym (walk .count)) ∙ stored-walked (walkArchive s) ws (walk .walked) h;
     }
@@ -92,11 +85,11 @@ stop-required s {n} e = go (walkArchive s) e
     go (got a rest) f = let z : false ≡ true = cc in absurd (false≢true z)
 
 -- the rows stay stored
-pub stored-required : (s c : List ℕ) (t : List ℤ) (k : List ℕ) → Stored (walkArchive s) c t k → Stored (readArchive s) c t k
+pub stored-required : (s ws : List ℕ) → Stored (walkArchive s) ws → Stored (readArchive s) ws
 unfolding readArchive
-stored-required s c t k h = go (walkArchive s) h
+stored-required s ws h = go (walkArchive s) h
   where
-    go : (p : Parsed Held) → Stored p c t k → Stored (andThen p (judged s)) c t k
+    go : (p : Parsed Held) → Stored p ws → Stored (andThen p (judged s)) ws
     go (stop n) f = tt
     go (got a rest) f = cases (truth (same s (archiveBytes (a .sizes) (rowsIn a)))) (λ e. rw e f) (λ e. rw e tt)
 
@@ -117,7 +110,7 @@ sharing-held {d} {n} {ws} {store = store} {used = used} a = record {
 }
 
 -- as an answer tells the archive's numbers
-pub shares-told : (p : Parsed Held) {d n m : ℕ} (ws used : List ℕ) → archiveAnswer p ≡ Answer.Entries d n m → Sharing d n (take (n * d) ws) used → Shares p ws used
+pub shares-told : (p : Parsed Held) {d n m : ℕ} (ws used : List ℕ) → archiveAnswer p ≡ Answer.Entries d n m → Sharing d n (take (n * width d) ws) used → Shares p ws used
 shares-told (stop k) ws used e h = tt
 shares-told (got a rest) {d} {n} ws used e h =
     let f : length (a .sizes) ≡ d = cc e in

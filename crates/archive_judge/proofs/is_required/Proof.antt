@@ -15,13 +15,13 @@ ready : (c : tie.After-shared-slice-known) → (let a = c .before .args in Ready
 ready c = read-ready (bytes-of (now (c .before .args .s)) (λ i. omega (arith, c .shared-slice-known .given i))) (c .before .pre .0)
 
 array-borrow-prefix-lens : tie.Need-array-borrow-prefix-lens
-array-borrow-prefix-lens c = ready (c .before .before .before .before .before) .few
+array-borrow-prefix-lens c = ready (c .before .before .before .before) .few
 
 slice-aggregate-judge-2 : tie.Need-slice-aggregate-judge-2
-slice-aggregate-judge-2 c = sym (length-take-le (c .before .before .before .before .before .before .before .args .n) _ (ready (c .before .before .before .before .before .before) .few))
+slice-aggregate-judge-2 c = sym (length-take-le (c .before .before .before .before .before .before .args .n) _ (ready (c .before .before .before .before .before) .few))
 
 judge-requires : tie.Need-judge-requires
-judge-requires c κs = let p = c .before .before .before .before .before .before .before .before .before .pre in (p .0, omega (arith, ready (c .before .before .before .before .before .before .before .before) .few), sym (slice-aggregate-judge-2 (c .before .before)), p .1, p .2)
+judge-requires c κs = let p = c .before .before .before .before .before .before .before .before .pre in (p .0, omega (arith, ready (c .before .before .before .before .before .before .before) .few), sym (slice-aggregate-judge-2 (c .before .before)), p .1, p .2)
 
 returns : tie.Need-returns
 returns c = c .before .before .before .before .before .before .judge .ensures

@@ -8,9 +8,9 @@ use Rattle.archive_judge.proofs.judge_sharing.Tie as tie
 
 returns : tie.Need-returns
 returns c =
-    let s = now (c .before .before .before .before .before .before .before .args .s) in
+    let s = now (c .before .before .before .before .before .args .s) in
     let e = c .read-judged .ensures in
-    (e .0, (e .1 .0, shares-required s _ _ (shares-told (walkArchive s) _ _ (c .before .before .before .before .before .before .before .pre) (sharing-held (e .1 .1)))))
+    (e .0, (e .1 .0, shares-required s _ _ (shares-told (walkArchive s) _ _ (c .before .before .before .before .before .pre) (sharing-held (e .1 .1)))))
 
 pub judge-sharing-spec : {M : Type 1} → statement M
 judge-sharing-spec =

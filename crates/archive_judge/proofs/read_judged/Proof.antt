@@ -7,15 +7,15 @@ use Rattle.archive_judge.proofs.read_judged.Statement.{statement}
 use Rattle.archive_judge.proofs.read_judged.Tie as tie
 
 judge-read-requires : tie.Need-judge-read-requires
-judge-read-requires c κs = (c .before .before .before .before .before .before .before .before .before .before .before .before .before .pre, ((search needs, search needs, search needs, c .before .before .before .before .before .before .before .before .store-rows .ensures), (search needs, search needs)))
+judge-read-requires c κs = (c .before .before .before .before .before .before .before .pre, ((search needs, c .before .before .before .before .store-rows .ensures), (search needs, search needs)))
 
 store-rows-requires : tie.Need-store-rows-requires
-store-rows-requires c κs = ((_, c .before .before .before .before .pre), (search needs, search needs, search needs))
+store-rows-requires c κs = ((_, c .before .before .pre), search needs)
 
 returns : tie.Need-returns
 returns c =
-    let s = now (c .before .before .before .before .before .before .before .before .before .before .before .before .before .before .args .s) in
-    (c .judge-read .ensures .0, (stored-required s _ _ _ (c .before .before .before .before .before .before .before .before .before .store-rows .ensures), c .judge-read .ensures .1))
+    let s = now (c .before .before .before .before .before .before .before .before .args .s) in
+    (c .judge-read .ensures .0, (stored-required s _ (c .before .before .before .before .before .store-rows .ensures), c .judge-read .ensures .1))
 
 pub read-judged-spec : {M : Type 1} → statement M
 read-judged-spec =
