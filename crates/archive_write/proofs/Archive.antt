@@ -4,7 +4,6 @@ use mathlib.Core.List.{List, _++_, map, flatMap, append-assoc}
 use Prim.Native.Nat.{ℕ, _+_, _*_, _≤_}
 use native.Mathlib.Nat.{mul-le-mul}
 use native.Mathlib.Omega.{arith}
-use lib.IntN.{ℤ}
 use lib.ListN.{length, length-append, length-map}
 use Rattle.fields.specs.Words.{wordBytes}
 use Rattle.fields_check.specs.Check.{checkOf, checked}
