@@ -3,7 +3,6 @@ use mathlib.Core.Path.{_≡_, refl, sym, ap, _∙_}
 use mathlib.Core.List.{List, [], _∷_, flatMap, map}
 use Prim.Native.Nat.{ℕ, zero, suc, _^_, _≤_, _<_, _+_, _*_}
 use native.Mathlib.Omega.{arith}
-use lib.IntN.{ℤ}
 use lib.Pow.{pow-mono}
 use lib.ListN.{length, getD, length-map, replicate, length-replicate}
 use borrow.Author.Tests.{le-leb}
@@ -13,7 +12,7 @@ use Rattle.cube.specs.Measure.{codesOf, Row, nothing, sums as measure}
 use Rattle.cube.specs.Codes.{plain}
 use Rattle.cube.specs.Cube.{filled, grouped, cells, existing, blank, cuboid as cuboidOf}
 use Rattle.cube.proofs.Existing.{cells-rows, existing-few}
-use Rattle.rows.specs.Rows.{cut, rowsOf}
+use Rattle.rows.specs.Rows.{cut, rowsOf, totalAt}
 use Rattle.rows.proofs.Rows.{rows-codes}
 use Rattle.rows.proofs.Flat.{rows-length}
 use Rattle.rows_order.specs.Index.{key, arranged, Indexed}
@@ -50,9 +49,9 @@ module _ {d n : ℕ} {ws : List ℕ} (ready : Ready d n ws) (s : ℕ) {slot : Li
         cells-rows (plain d) measure table s (omega (arith, some, rows-length d n ws))
         ∙ ap (λ (xs : List (List ℕ)). map (filled (plain d) measure table) (cuboidOf (plain d) xs s)) (rows-codes d n ws)
 
-    pub slot-bytes : groupBytes totals keys slot ≡ flatMap cellBytes (cells (plain d) measure table s)
+    pub slot-bytes : groupBytes (totalAt d n ws) keys slot ≡ flatMap cellBytes (cells (plain d) measure table s)
     unfolding groupBytes
-    slot-bytes = ap (flatMap cellBytes) (ap (summed totals keys nothing) e ∙ summed-cuboid d n s ws (ready .size) (ready .few) (ready .table) ∙ sym cells-grouped)
+    slot-bytes = ap (flatMap cellBytes) (ap (summed (totalAt d n ws) keys nothing) e ∙ summed-cuboid d n s ws (ready .size) (ready .few) (ready .table) ∙ sym cells-grouped)
 
     index : Indexed n d s ws (arranged keys n)
     index = record { size = ready .size; places = arranged-length keys n; order = refl }
@@ -70,7 +69,7 @@ module _ {d n : ℕ} {ws : List ℕ} (ready : Ready d n ws) (s : ℕ) {slot : Li
   -- where there are none
   module _ (none : n ≡ 0) where
     pub blank-cells : cells (plain d) measure [] s ≡ cells (plain d) measure table s
-    blank-cells = ap (λ (l : List (Row Total)). cells (plain d) measure l s) (sym (no-rows d n ws counts sums none))
+    blank-cells = ap (λ (l : List (Row Total)). cells (plain d) measure l s) (sym (no-rows d n ws none))
 
 -- how many cells there are
 pub slot-count : (d n : ℕ) {ws : List ℕ} → Ready d n ws → (s : ℕ) {slot : List ℕ} → slot ≡ packed (crowds 1 (key s (cut d n ws)) n)

@@ -17,7 +17,7 @@ ghost use Rattle.archive_normals.specs.Grouped.{Grouped};
 ghost use Rattle.call_cuboids.specs.Cuboids.{cuboidBytes, expansionBytes};
 ghost use Rattle.call_cuboids.specs.Slotted.{Slotted, cellCount};
 
-// The cell of an empty table, if it is one of a set, into the arrays that are lent. Returns how many there are.
+// The cell of an empty table, if it is one of a set, into the array that is lent. Returns how many there are.
 fn blank_cells(
     cells: &mut [u32],
     dims: usize,
@@ -37,7 +37,7 @@ fn blank_cells(
     1
 }
 
-// The cells of a set that exist, by codes, each with its total, into the arrays that are lent. Returns how many there are.
+// The cells of a set that exist, by codes, each with its total, into the array that is lent. Returns how many there are.
 fn find_cells(
     rows: &[u32],
     n: usize,

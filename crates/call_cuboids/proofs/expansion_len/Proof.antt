@@ -22,19 +22,19 @@ abbrev μ-loop : tie.MeasureT-loop
 μ-loop rows n dims store used all len₀ k₀ len k = 256 - k
 
 cast-sets-of : tie.Need-cast-sets-of Inv-loop μ-loop
-cast-sets-of c = omega (arith, c .before .before .before .before .pre .ready .dims)
+cast-sets-of c = omega (arith, c .before .before .before .pre .ready .dims)
 
 sets-of-requires : tie.Need-sets-of-requires Inv-loop μ-loop
-sets-of-requires c κs = c .before .before .before .before .pre .ready .dims
+sets-of-requires c κs = c .before .before .before .pre .ready .dims
 
 loop-holds : tie.Need-loop-holds Inv-loop μ-loop
 loop-holds c =
-    let a = c .before .before .before .before .before .args in
-    (omega arith, omega arith, omega (arith, ap length (turns-start (a .dims) (rowsOf (a .dims) (a .n) (now (a .rows))) (c .before .before .before .before .before .pre .ready .dims))))
+    let a = c .before .before .before .before .args in
+    (omega arith, omega arith, omega (arith, ap length (turns-start (a .dims) (rowsOf (a .dims) (a .n) (now (a .rows))) (c .before .before .before .before .pre .ready .dims))))
 
 loop-again : tie.Need-loop-again Inv-loop μ-loop
 loop-again c =
-    let a = c .before .before .before .before .before .before .before .before .before .args in
+    let a = c .before .before .before .before .before .before .before .before .args in
     let l = c .before .before .before .loop in
     let f = cuboidBytes (a .dims) (rowsOf (a .dims) (a .n) (now (a .rows))) in
     let at = c .before .set-at .ensures in
@@ -54,7 +54,7 @@ loop-again c =
 
 returns : tie.Need-returns Inv-loop μ-loop
 returns c =
-    let a = c .before .before .before .before .before .before .before .args in
+    let a = c .before .before .before .before .before .before .args in
     omega (arith, c .before .loop .inv .2, turns-over (cuboidBytes (a .dims) (rowsOf (a .dims) (a .n) (now (a .rows)))) (2 ^ a .dims) (c .loop-test .left))
 
 pub expansion-len-spec : {M : Type 1} → statement M

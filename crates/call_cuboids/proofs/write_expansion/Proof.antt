@@ -9,10 +9,10 @@ use Rattle.call_cuboids.proofs.write_expansion.Statement.{statement}
 use Rattle.call_cuboids.proofs.write_expansion.Tie as tie
 
 complete-slots-requires : tie.Need-complete-slots-requires
-complete-slots-requires c κs = let p = c .before .before .before .before .before .before .before .pre in let r = p .ready in ((r .few, r .dims, r .size, ready-base r .valid), (p .room, p .sets, p .slots))
+complete-slots-requires c κs = let p = c .before .before .before .before .before .before .pre in let r = p .ready in ((r .few, r .dims, r .size, ready-base r .valid), (p .room, p .sets, p .slots))
 
-slotted : (c : tie.After-complete-slots) → (let a = c .before .before .before .before .before .before .before .before .args in Slotted (a .dims) (a .n) (now (a .rows)) (c .complete-slots .last .1 .1 .1 .0) (c .complete-slots .last .1 .1 .1 .1 .0))
-slotted c = let p = c .before .before .before .before .before .before .before .before .pre in let k = c .complete-slots .kept in record { ready = p .ready; room = omega (arith, k .1 .1 .1 .0, p .room); sets = omega (arith, k .1 .1 .1 .1 .0, p .sets); slots = c .complete-slots .ensures }
+slotted : (c : tie.After-complete-slots) → (let a = c .before .before .before .before .before .before .before .args in Slotted (a .dims) (a .n) (now (a .rows)) (c .complete-slots .last .1 .1 .1 .0) (c .complete-slots .last .1 .1 .1 .1 .0))
+slotted c = let p = c .before .before .before .before .before .before .before .pre in let k = c .complete-slots .kept in record { ready = p .ready; room = omega (arith, k .1 .1 .1 .0, p .room); sets = omega (arith, k .1 .1 .1 .1 .0, p .sets); slots = c .complete-slots .ensures }
 
 expansion-len-requires : tie.Need-expansion-len-requires
 expansion-len-requires c κs = slotted (c .before .before .before .before .before .before)
