@@ -5,7 +5,6 @@ use mathlib.Core.List.{List}
 use Prim.Native.Nat.{ℕ, _+_, _*_, _≤_}
 use native.Mathlib.Nat.{mul-le-mul}
 use native.Mathlib.Omega.{arith}
-use lib.IntN.{ℤ}
 use lib.ListN.{length, take}
 use lib.Seq.{length-take-le}
 use Rattle.fields.specs.Words.{wordsAt}
@@ -13,7 +12,7 @@ use Rattle.fields_walk.specs.Parsed.{Parsed, stop, got}
 use Rattle.fields_walk.specs.Limits.{Bytes}
 use Rattle.cube.specs.declared.Total.{Total}
 use Rattle.cube.specs.Measure.{Row}
-use Rattle.rows.specs.Rows.{rowsOf}
+use Rattle.rows.specs.Rows.{width, rowsOf}
 use Rattle.table.specs.Layout.{Records}
 use Rattle.table.specs.Reading.{readTable, baseRows, tableAnswer, Stored}
 use Rattle.table.specs.declared.TableRead.the-variants as Read
@@ -44,16 +43,16 @@ told : (p : Parsed Records) {d n : ℕ} → tableAnswer p ≡ Read.Rows d n → 
 told (stop k) e = let z : false ≡ true = cc in absurd (false≢true z)
 told (got t rest) e = (t, rest, refl, cc e, cc e)
 
--- flat lists have the base rows of a table that was read
+-- a flat list has the base rows of a table that was read
 pub record Tabled (s : List ℕ) (d n : ℕ) (ws : List ℕ) : Type 0 where
-  pub small : n * d ≤ 8192
+  pub small : n * width d ≤ 11264
   pub headed : 8 + 4 * d ≤ length s
   pub ready : Ready d n ws
   pub limits : Limits (wordsAt s d 8) (rowsOf d n ws)
   pub built : builds s ≡ bytes (archiveBytes (wordsAt s d 8) (rowsOf d n ws))
 
 pub tabled : {s : List ℕ} {d n : ℕ} → Bytes s → tableAnswer (readTable s) ≡ Read.Rows d n → (ws : List ℕ)
-    → (8192 ≤ length ws) × (1024 ≤ length sums) × (1024 ≤ length counts) → Stored (readTable s) ws → Tabled s d n (take (n * d) ws) (take n sums) (take n counts)
+    → 11264 ≤ length ws → Stored (readTable s) ws → Tabled s d n (take (n * width d) ws)
 unfolding builds
 tabled {s} {d} {n} b e ws room h =
     let x = told (readTable s) e in
@@ -61,18 +60,18 @@ tabled {s} {d} {n} b e ws room h =
     let l = folded-within t (table-forth s t (x .1) b (x .2) .0) in
     let few : n ≤ 1024 = omega (arith, l .few, x .4) in
     let dims : d ≤ 8 = omega (arith, l .sized .few, x .3) in
-    let k = mul-le-mul few dims in
-    let small : n * d ≤ 8192 = omega (arith, k) in
+    let wide : width d ≤ 11 = omega (arith, dims) in
+    let k = mul-le-mul few wide in
+    let small : n * width d ≤ 11264 = omega (arith, k) in
     let stored : rowsOf (length (t .sizes)) (length (baseRows t)) ws ≡ baseRows t = subst (λ (p : Parsed Records). Stored p ws) (x .2) h in
-    let rows : rowsOf d n (take (n * d) ws) (take n sums) (take n counts) ≡ baseRows t
+    let rows : rowsOf d n (take (n * width d) ws) ≡ baseRows t
     = rows-front d n ws ∙ ap₂ (λ (i j : ℕ). rowsOf i j ws) (sym (x .3)) (sym (x .4)) ∙ stored in
     let at = placed s t (x .2) in
     let sizes : t .sizes ≡ wordsAt s d 8 = at .sizes ∙ ap (λ (k : ℕ). wordsAt s k 8) (x .3) in
     record {
       small = small;
       headed = omega (arith, at .whole, x .3);
-      ready = limits-ready l rows (x .3) (sym (length-take-le (n * d) ws (omega (arith, small, room .0)))) (length-take-le n sums (omega (arith, few, room .1)))
-          (length-take-le n counts (omega (arith, few, room .2)));
-      limits = subst (λ (zs : List ℕ). Limits zs (rowsOf d n (take (n * d) ws) (take n sums) (take n counts))) sizes (subst (Limits (t .sizes)) (sym rows) l);
+      ready = limits-ready l rows (x .3) (sym (length-take-le (n * width d) ws (omega (arith, small, room))));
+      limits = subst (λ (zs : List ℕ). Limits zs (rowsOf d n (take (n * width d) ws))) sizes (subst (Limits (t .sizes)) (sym rows) l);
       built = rw (x .2) (ap₂ (λ (zs : List ℕ) (r : List (Row Total)). bytes (archiveBytes zs r)) sizes (sym rows));
     }
