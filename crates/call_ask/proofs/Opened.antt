@@ -1,15 +1,14 @@
--- An accepted archive: the base rows that its arrays hold are ready, and its bytes and entries are those that they require.
+-- An accepted archive: the base rows that its array holds are ready, and its bytes and entries are those that they require.
 use mathlib.Core.Path.{_≡_, refl, sym, ap, subst, _∙_}
 use mathlib.Core.Bool.{true, false, false≢true}
 use mathlib.Core.List.{List, []}
 use Prim.Native.Nat.{ℕ, _*_, _≤_}
 use native.Mathlib.Nat.{mul-le-mul}
 use native.Mathlib.Omega.{arith}
-use lib.IntN.{ℤ}
 use lib.ListN.{length, take}
 use Rattle.fields_walk.specs.Parsed.{Parsed, stop, got}
 use Rattle.fields_walk.specs.Limits.{Bytes}
-use Rattle.rows.specs.Rows.{rowsOf}
+use Rattle.rows.specs.Rows.{width, rowsOf}
 use Rattle.archive_entries.specs.Layout.{Held, required, archiveBytes}
 use Rattle.archive_entries.specs.Reading.{walkArchive, readArchive, rowsIn, archiveAnswer, Stored}
 use Rattle.archive_entries.specs.declared.ArchiveRead.the-variants as Read
@@ -32,9 +31,9 @@ pub record Opened (s : List ℕ) (d n m : ℕ) (ws : List ℕ) : Type 0 where
   pub ready : Ready d n ws
   pub rows : rowsOf d n ws ≡ rowsIn held
 
--- the fronts of the arrays
+-- the front of the array
 abbrev pub OpenedIn : (s : List ℕ) (d n m : ℕ) (ws : List ℕ) → Type 0
-OpenedIn s d n m ws = Opened s d n m (take (n * d) ws) (take n sums) (take n counts)
+OpenedIn s d n m ws = Opened s d n m (take (n * width d) ws)
 
 told : (p : Parsed Held) {d n m : ℕ} → archiveAnswer p ≡ Read.Entries d n m
     → (a : Held) × (rest : List ℕ) × (p ≡ got a rest) × (length (a .sizes) ≡ d) × (length (a .bases) ≡ n) × (length (a .cells) ≡ m)
@@ -43,7 +42,7 @@ told (got a rest) e = (a, rest, refl, cc e, cc e, cc e)
 
 -- the slots of the rows that the walk told of are those of the rows that were read
 pub grouped-read : (s : List ℕ) {d n m i j k : ℕ} (ws : List ℕ) {store used : List ℕ} → archiveAnswer (walkArchive s) ≡ Read.Entries d n m → archiveAnswer (readArchive s) ≡ Read.Entries i j k
-    → Grouped d n (take (n * d) ws) (take n sums) (take n counts) store used → Grouped i j (take (j * i) ws) (take j sums) (take j counts) store used
+    → Grouped d n (take (n * width d) ws) store used → Grouped i j (take (j * width i) ws) store used
 grouped-read s {d} {n} {m} {i} {j} {k} ws e f g =
     let t = told (readArchive s) f in
     let h : Read.Entries d n m ≡ Read.Entries i j k = sym e ∙ ap archiveAnswer (read-forth s (t .2) .0 ∙ sym (t .2)) ∙ f in
@@ -51,7 +50,7 @@ grouped-read s {d} {n} {m} {i} {j} {k} ws e f g =
     let rows : n ≡ j = cc h in
     rw (← dims, ← rows) g
 
-pub opened : {s ws : List ℕ} {totals : ℕ → Total} {d n m : ℕ} → Bytes s → Accepts s ws d n m → OpenedIn s d n m ws
+pub opened : {s ws : List ℕ} {d n m : ℕ} → Bytes s → Accepts s ws d n m → OpenedIn s d n m ws
 opened {s} {ws} {d} {n} {m} b x =
     let t = told (readArchive s) (x .told) in
     let a = t .0 in
@@ -75,8 +74,11 @@ opened {s} {ws} {d} {n} {m} b x =
     }
 
 module _ {s : List ℕ} {d n m : ℕ} {ws : List ℕ} (o : Opened s d n m ws) where
-  pub opened-small : n * d ≤ 8192
-  opened-small = let k = mul-le-mul (o .ready .few) (o .ready .dims) in omega (arith, k)
+  pub opened-small : n * width d ≤ 11264
+  opened-small =
+      let wide : width d ≤ 11 = omega (arith, o .ready .dims) in
+      let k = mul-le-mul (o .ready .few) wide in
+      omega (arith, k)
 
   pub opened-bytes : s ≡ archiveBytes (o .held .sizes) (rowsOf d n ws)
   opened-bytes = archive-forth s (o .held) [] (o .are) (o .read) .1 ∙ ap (archiveBytes (o .held .sizes)) (sym (o .rows))

@@ -8,11 +8,11 @@ use Rattle.call_ask.proofs.look_in.Tie as tie
 
 look-read-requires : tie.Need-look-read-requires
 look-read-requires c κs =
-    let r = c .before .before .before .before .before .before .before .before .before .read-required .ensures in
-    record { told = sym (r .0) ∙ c .before .before .before .before .before .before .before .dims .given .1; room = (search needs, search needs, search needs); stored = r .1 }
+    let r = c .before .before .before .before .before .read-required .ensures in
+    record { told = sym (r .0) ∙ c .before .before .before .dims .given .1; room = search needs; stored = r .1 }
 
 returns : tie.Need-returns
-returns c = look-refused (now (c .before .before .before .before .before .before .before .before .before .args .s)) (sym (c .before .before .before .read-required .ensures .0) ∙ c .before .n .given .1) (now (c .before .before .before .before .before .before .before .before .before .args .question))
+returns c = look-refused (now (c .before .before .before .before .before .before .before .args .s)) (sym (c .before .before .before .read-required .ensures .0) ∙ c .before .n .given .1) (now (c .before .before .before .before .before .before .before .args .question))
 
 pub look-in-spec : {M : Type 1} → statement M
 look-in-spec =
