@@ -4,14 +4,13 @@ use mathlib.Core.Bool.{Bool, and-false}
 use mathlib.Core.List.{List}
 use Prim.Native.Nat.{ℕ, _*_, _^_, _≤_, _<_}
 use native.Mathlib.Omega.{arith}
-use lib.IntN.{ℤ}
 use lib.Dec.{leb}
 use lib.ListN.{take}
 use borrow.Author.Tests.{lt-ltb, le-ltb, le-leb, lt-leb}
 use Rattle.cube.specs.Measure.{codesOf}
 use Rattle.cube.specs.Codes.{plain}
 use Rattle.cube.specs.Keys.{leastKeys, fixes, dimension}
-use Rattle.rows.specs.Rows.{cut}
+use Rattle.rows.specs.Rows.{width, cut}
 use Rattle.rows.proofs.Rows.{rows-codes}
 use Rattle.fields_walk.specs.Parsed.{Parsed}
 use Rattle.archive_entries.specs.Layout.{Held}
@@ -52,7 +51,7 @@ module _ {s : List ℕ} {d n m : ℕ} {ws : List ℕ} (o : Opened s d n m ws) wh
   keys-bytes = rw (o .read, o .dims) (ap (λ (l : List (List ℕ)). bytes (listBytes (leastKeys (plain d) l))) (sym codes-in))
 
   -- how many of its rows share a cell
-  pub shared-in : (array used : List ℕ) → ws ≡ take (n * d) array → Shares (readArchive s) array used → Sharing d n ws used
+  pub shared-in : (array used : List ℕ) → ws ≡ take (n * width d) array → Shares (readArchive s) array used → Sharing d n ws used
   shared-in array used e h =
       let f = subst (λ (p : Parsed Held). Shares p array used) (o .read) h in
       rw (e, ← o .dims, ← o .bases) f
