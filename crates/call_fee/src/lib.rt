@@ -3,7 +3,8 @@
 use archive_entries::ArchiveRead;
 use call_answers::Written;
 ghost use mathlib.Core.Path.{_≡_};
-ghost use Prim.Native.Nat.{_^_, _≤_, _<_};
+ghost use mathlib.Core.List.{map};
+ghost use Prim.Native.Nat.{_*_, _^_, _≤_, _<_};
 ghost use lib.ListN.{length, take};
 ghost use Rattle.lists.specs.Lists.{sum};
 ghost use Rattle.cube.specs.Bounds.{countOf};
@@ -12,7 +13,7 @@ ghost use Rattle.rows_ready.specs.Ready.{Ready};
 ghost use Rattle.call_answers.specs.Answers.{bytes, Answered};
 ghost use Rattle.call_ask.specs.Accepts.{Accepts};
 ghost use Rattle.fee_list.specs.Listed.{feeBytes};
-ghost use Rattle.call_fee.specs.Fees.{weights, sharesFee};
+ghost use Rattle.call_fee.specs.Fees.{countIn, weights, sharesFee};
 
 // Copies the counts of rows over the front of a lent list.
 fn copy_counts(rows: &[u32], n: usize, dims: usize, counts: &mut [u32])
@@ -102,7 +103,7 @@ fn share_read(
     )
 }
 
-// Reads an archive into the arrays that are lent, and shares a fee over the cells of a set.
+// Reads an archive into the array that is lent, and shares a fee over the cells of a set.
 fn share_in(
     s: &[u8],
     rows: &mut [u32; 11264],
