@@ -11,13 +11,7 @@ ghost use Rattle.archive_cells.specs.Matched.{Matched};
 ghost use Rattle.archive_bases.specs.Listed.{Listed, ourBase, ourBases};
 
 // How many sets the base entries list.
-pub fn sets_in(
-    rows: &[u32],
-    n: usize,
-    dims: usize,
-    sets: &[u8],
-    lens: &[u32],
-) -> usize
+pub fn sets_in(rows: &[u32], n: usize, dims: usize, sets: &[u8], lens: &[u32]) -> usize
     requires { ⌜ Listed dims n (now rows) (now sets) (now lens) ⌝ }
     ensures { λ r. ⌜ r ≡ setsIn (ourBases dims (rowsOf dims n (now (rows .entry)))) ⌝ }
     ensures { λ r. ⌜ r ≤ 71680 ⌝ }
@@ -66,15 +60,7 @@ pub fn put_bases(
 {
     let mut at = 0;
     for row in 0..n {
-        at += put_base(
-            &mut out[at..],
-            rows,
-            n,
-            dims,
-            sets,
-            lens,
-            row,
-        );
+        at += put_base(&mut out[at..], rows, n, dims, sets, lens, row);
     }
     at
 }

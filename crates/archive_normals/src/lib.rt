@@ -47,15 +47,7 @@ fn put_common(
         if all <= set {
             continue;
         }
-        at += put_shared(
-            &mut out[at..],
-            rows,
-            n,
-            dims,
-            set,
-            store,
-            used,
-        );
+        at += put_shared(&mut out[at..], rows, n, dims, set, store, used);
     }
     at
 }

@@ -51,14 +51,7 @@ fn put_archive(
     at += fields::put_word(&mut out[at..], n as u32);
     at += archive_bases::put_bases(&mut out[at..], rows, n, dims, sets, lens);
     at += fields::put_word(&mut out[at..], cells as u32);
-    at += archive_normals::put_normals(
-        &mut out[at..],
-        rows,
-        n,
-        dims,
-        store,
-        used,
-    );
+    at += archive_normals::put_normals(&mut out[at..], rows, n, dims, store, used);
     fields_check::put_check(out, at)
 }
 
@@ -86,26 +79,9 @@ pub fn write_archive(
         &mut sets,
         &mut lens[..n],
     );
-    let len = archive_len(
-        sizes,
-        rows,
-        n,
-        &sets,
-        &lens[..n],
-        cells,
-    );
+    let len = archive_len(sizes, rows, n, &sets, &lens[..n], cells);
     if len <= out.len() {
-        put_archive(
-            out,
-            sizes,
-            rows,
-            n,
-            &sets,
-            &lens[..n],
-            store,
-            &used,
-            cells,
-        )
+        put_archive(out, sizes, rows, n, &sets, &lens[..n], store, &used, cells)
     } else {
         len
     }

@@ -32,13 +32,7 @@ pub fn check(archive: &[u8]) -> Checked
 }
 
 // Writes the cuboid of a set where there is room for it.
-fn fit_cuboid(
-    out: &mut [u8],
-    rows: &[u32],
-    n: usize,
-    dims: usize,
-    set: u32,
-) -> Written
+fn fit_cuboid(out: &mut [u8], rows: &[u32], n: usize, dims: usize, set: u32) -> Written
     requires { ⌜ Ready dims n (now rows) ⌝ }
     ensures { λ r. ⌜ Answered (bytes (cuboidBytes dims (rowsOf dims n (now (rows .entry))) set)) (now (out .entry)) (now (out .exit)) r ⌝ }
 {
@@ -72,12 +66,7 @@ fn list_read(
 }
 
 // Reads an archive into the arrays that are lent, and lists the cuboid of a set.
-fn list_in(
-    s: &[u8],
-    rows: &mut [u32; 11264],
-    set: u32,
-    out: &mut [u8],
-) -> Written
+fn list_in(s: &[u8], rows: &mut [u32; 11264], set: u32, out: &mut [u8]) -> Written
     ensures { λ r. ⌜ Answered (listsCuboid (now (s .entry)) set) (now (out .entry)) (now (out .exit)) r ⌝ }
 {
     match archive_judge::read_required(s, rows) {
@@ -133,14 +122,7 @@ fn expand_read(
     let d = dims as usize;
     let n = bases as usize;
     let size = n * (d + 3);
-    fit_expansion(
-        out,
-        &rows[..size],
-        n,
-        d,
-        store,
-        used,
-    )
+    fit_expansion(out, &rows[..size], n, d, store, used)
 }
 
 // Reads the base rows of an archive whose fields are right into the arrays that are lent, and expands it.
@@ -173,16 +155,7 @@ fn expand_fields(s: &[u8], dims: u32, bases: u32, cells: u32, out: &mut [u8]) ->
     let mut rows = [0u32; 11264];
     let mut store = [0u16; 262144];
     let mut used = [0usize; 256];
-    expand_in(
-        s,
-        &mut rows,
-        &mut store,
-        &mut used,
-        dims,
-        bases,
-        cells,
-        out,
-    )
+    expand_in(s, &mut rows, &mut store, &mut used, dims, bases, cells, out)
 }
 
 // Expands an archive to the complete cube. No array is declared before the first 11 stops are passed.
@@ -198,14 +171,7 @@ pub fn expand(archive: &[u8], out: &mut [u8]) -> Written
 }
 
 // Answers a question to an archive that was accepted.
-fn look_read(
-    s: &[u8],
-    rows: &[u32],
-    dims: u32,
-    bases: u32,
-    cells: u32,
-    question: &[u32],
-) -> Found
+fn look_read(s: &[u8], rows: &[u32], dims: u32, bases: u32, cells: u32, question: &[u32]) -> Found
     requires { ⌜ Accepts (now s) (now rows) dims bases cells ⌝ }
     ensures { λ r. ⌜ r ≡ looksUp (now (s .entry)) (now (question .entry)) ⌝ }
 {
@@ -217,26 +183,14 @@ fn look_read(
     let size = n * (d + 3);
     let m = cells as usize;
     let at = s.len() - 4 - m * (4 * d + 12);
-    match call_questions::answer(
-        s,
-        at,
-        m,
-        &rows[..size],
-        n,
-        d,
-        question,
-    ) {
+    match call_questions::answer(s, at, m, &rows[..size], n, d, question) {
         Look::NoRecord => Found::NoRecord,
         Look::Cell { sum, count, entry } => Found::Cell { sum, count, entry },
     }
 }
 
 // Reads an archive into the arrays that are lent, and looks up a cell.
-fn look_in(
-    s: &[u8],
-    rows: &mut [u32; 11264],
-    question: &[u32],
-) -> Found
+fn look_in(s: &[u8], rows: &mut [u32; 11264], question: &[u32]) -> Found
     ensures { λ r. ⌜ r ≡ looksUp (now (s .entry)) (now (question .entry)) ⌝ }
 {
     match archive_judge::read_required(s, rows) {

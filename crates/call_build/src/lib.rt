@@ -48,13 +48,7 @@ fn write_sized(
 }
 
 // Writes the archive of a table that was accepted; the arrays have its base rows.
-fn build_read(
-    s: &[u8],
-    rows: &[u32],
-    dims: u32,
-    count: u32,
-    out: &mut [u8],
-) -> Written
+fn build_read(s: &[u8], rows: &[u32], dims: u32, count: u32, out: &mut [u8]) -> Written
     requires { ⌜ tableAnswer (readTable (now s)) ≡ TableRead.Rows dims count ⌝ }
     requires { ⌜ (11264 ≤ length (now rows)) × Stored (readTable (now s)) (now rows) ⌝ }
     ensures { λ r. ⌜ Answered (builds (now (s .entry))) (now (out .entry)) (now (out .exit)) r ⌝ }
@@ -64,29 +58,16 @@ fn build_read(
     let size = n * (d + 3);
     let mut sizes = [0u32; 8];
     let mut store = [0u16; 262144];
-    write_sized(
-        s,
-        &mut sizes[..d],
-        &rows[..size],
-        n,
-        &mut store,
-        out,
-    )
+    write_sized(s, &mut sizes[..d], &rows[..size], n, &mut store, out)
 }
 
 // Reads a table into the arrays that are lent, and builds its archive.
-fn build_in(
-    table: &[u8],
-    rows: &mut [u32; 11264],
-    out: &mut [u8],
-) -> Written
+fn build_in(table: &[u8], rows: &mut [u32; 11264], out: &mut [u8]) -> Written
     ensures { λ r. ⌜ Answered (builds (now (table .entry))) (now (out .entry)) (now (out .exit)) r ⌝ }
 {
     match table::read_table(table, rows) {
         TableRead::Stop(n) => Written::Stop(n),
-        TableRead::Rows { dims, rows: count } => {
-            build_read(table, rows, dims, count, out)
-        }
+        TableRead::Rows { dims, rows: count } => { build_read(table, rows, dims, count, out) }
     }
 }
 

@@ -18,11 +18,7 @@ ghost use Rattle.call_cuboids.specs.Cuboids.{cuboidBytes, expansionBytes
 ghost use Rattle.call_cuboids.specs.Slotted.{Slotted, cellCount};
 
 // The cell of an empty table, if it is one of a set, into the array that is lent. Returns how many there are.
-fn blank_cells(
-    cells: &mut [u32],
-    dims: usize,
-    set: u32,
-) -> usize
+fn blank_cells(cells: &mut [u32], dims: usize, set: u32) -> usize
     requires { ⌜ (dims ≤ 8) × (width dims ≤ length (now cells)) ⌝ }
     ensures { λ r. ⌜ (r ≤ 1) × (rowsOf dims r (now (cells .exit)) ≡ cuboid (plain dims) measure [] set) ⌝ }
 {
@@ -54,23 +50,11 @@ fn find_cells(
     if n == 0 {
         return blank_cells(cells, dims, set);
     }
-    rows_runs::group_rows(
-        rows,
-        n,
-        dims,
-        set,
-        index,
-        cells,
-    )
+    rows_runs::group_rows(rows, n, dims, set, index, cells)
 }
 
 // Writes a count, and so many cells.
-fn put_counted(
-    out: &mut [u8],
-    cells: &[u32],
-    n: usize,
-    dims: usize,
-) -> usize
+fn put_counted(out: &mut [u8], cells: &[u32], n: usize, dims: usize) -> usize
     requires { ⌜ (n * width dims ≡ length (now cells)) × (n ≤ 1024) × (4 + n * (4 * dims + 12) ≤ length (now out)) ⌝ }
     ensures { λ r. ⌜ Wrote (section cellBytes (rowsOf dims n (now (cells .entry)))) (now (out .entry)) (now (out .exit)) r ⌝ }
 {
@@ -79,13 +63,7 @@ fn put_counted(
 }
 
 // Writes the listed cuboid of a set where there is room for it. Returns how long it is.
-pub fn write_cuboid(
-    out: &mut [u8],
-    rows: &[u32],
-    n: usize,
-    dims: usize,
-    set: u32,
-) -> usize
+pub fn write_cuboid(out: &mut [u8], rows: &[u32], n: usize, dims: usize, set: u32) -> usize
     requires { ⌜ Ready dims n (now rows) ⌝ }
     ensures { λ r. ⌜ Fitted (cuboidBytes dims (rowsOf dims n (now (rows .entry))) set) (now (out .entry)) (now (out .exit)) r ⌝ }
 {
@@ -112,14 +90,7 @@ fn count_cells(slot: &[u16], n: usize, set: u32) -> usize
 }
 
 // The length of a listed cuboid.
-fn cuboid_len(
-    rows: &[u32],
-    n: usize,
-    dims: usize,
-    set: u32,
-    store: &[u16],
-    used: &[usize],
-) -> usize
+fn cuboid_len(rows: &[u32], n: usize, dims: usize, set: u32, store: &[u16], used: &[usize]) -> usize
     requires { ⌜ Slotted dims n (now rows) (now store) (now used) × (set < 2 ^ dims) ⌝ }
     ensures { λ r. ⌜ r ≡ length (cuboidBytes dims (rowsOf dims n (now (rows .entry))) set) ⌝ }
     ensures { λ r. ⌜ r ≤ 45060 ⌝ }
@@ -130,13 +101,7 @@ fn cuboid_len(
 }
 
 // The length of the expansion.
-fn expansion_len(
-    rows: &[u32],
-    n: usize,
-    dims: usize,
-    store: &[u16],
-    used: &[usize],
-) -> usize
+fn expansion_len(rows: &[u32], n: usize, dims: usize, store: &[u16], used: &[usize]) -> usize
     requires { ⌜ Slotted dims n (now rows) (now store) (now used) ⌝ }
     ensures { λ r. ⌜ r ≡ length (expansionBytes dims (rowsOf dims n (now (rows .entry)))) ⌝ }
 {
@@ -224,15 +189,7 @@ fn put_expansion(
         if all <= set {
             continue;
         }
-        at += put_cuboid(
-            &mut out[at..],
-            rows,
-            n,
-            dims,
-            set,
-            store,
-            used,
-        );
+        at += put_cuboid(&mut out[at..], rows, n, dims, set, store, used);
     }
     at
 }

@@ -51,14 +51,7 @@ fn fit_fee(out: &mut [u8], fee: u64, counts: &[u32]) -> Written
 }
 
 // Shares a fee over the cells of a set, by base rows with at least one reading in all.
-fn share_rows(
-    out: &mut [u8],
-    rows: &[u32],
-    n: usize,
-    dims: usize,
-    set: u32,
-    fee: u64,
-) -> Written
+fn share_rows(out: &mut [u8], rows: &[u32], n: usize, dims: usize, set: u32, fee: u64) -> Written
     requires { ⌜ Ready dims n (now rows) × (set < 2 ^ dims) × (fee ≤ 1000000000) × (0 < countOf (rowsOf dims n (now rows))) ⌝ }
     ensures { λ r. ⌜ Answered (bytes (feeBytes fee (weights dims (rowsOf dims n (now (rows .entry))) set))) (now (out .entry)) (now (out .exit)) r ⌝ }
 {
@@ -93,24 +86,11 @@ fn share_read(
     let d = dims as usize;
     let n = bases as usize;
     let size = n * (d + 3);
-    share_rows(
-        out,
-        &rows[..size],
-        n,
-        d,
-        set,
-        fee,
-    )
+    share_rows(out, &rows[..size], n, d, set, fee)
 }
 
 // Reads an archive into the array that is lent, and shares a fee over the cells of a set.
-fn share_in(
-    s: &[u8],
-    rows: &mut [u32; 11264],
-    fee: u64,
-    set: u32,
-    out: &mut [u8],
-) -> Written
+fn share_in(s: &[u8], rows: &mut [u32; 11264], fee: u64, set: u32, out: &mut [u8]) -> Written
     ensures { λ r. ⌜ Answered (sharesFee (now (s .entry)) fee set) (now (out .entry)) (now (out .exit)) r ⌝ }
 {
     match archive_judge::read_required(s, rows) {
@@ -126,11 +106,5 @@ pub fn share_fee(archive: &[u8], fee: u32, set: u32, out: &mut [u8]) -> Written
     ensures { λ r. ⌜ Answered (sharesFee (now (archive .entry)) fee set) (now (out .entry)) (now (out .exit)) r ⌝ }
 {
     let mut rows = [0u32; 11264];
-    share_in(
-        archive,
-        &mut rows,
-        fee as u64,
-        set,
-        out,
-    )
+    share_in(archive, &mut rows, fee as u64, set, out)
 }

@@ -145,12 +145,5 @@ pub fn join(first: &[u8], second: &[u8], out: &mut [u8]) -> Written
     let mut rows1 = [0u32; 11264];
     let mut rows2 = [0u32; 11264];
     let mut store = [0u16; 262144];
-    join_in(
-        first,
-        &mut rows1,
-        second,
-        &mut rows2,
-        &mut store,
-        out,
-    )
+    join_in(first, &mut rows1, second, &mut rows2, &mut store, out)
 }

@@ -40,15 +40,7 @@ fn agrees(mine: &[u32], other: &[u32], set: u32) -> bool
 }
 
 // Whether rows i and j agree on a set of `fixed` dimensions if they agree on a set.
-fn pair_fixes(
-    rows: &[u32],
-    n: usize,
-    dims: usize,
-    set: u32,
-    fixed: u32,
-    i: usize,
-    j: usize,
-) -> bool
+fn pair_fixes(rows: &[u32], n: usize, dims: usize, set: u32, fixed: u32, i: usize, j: usize) -> bool
     requires { ⌜ (n * width dims ≡ length (now rows)) × (i < n) × (j < n) ⌝ }
     ensures { λ r. ⌜ r ≡ follows set fixed (rowAt (cut dims n (now (rows .entry))) i) (rowAt (cut dims n (now (rows .entry))) j) ⌝ }
 {
@@ -178,12 +170,7 @@ fn keys_read(
 }
 
 // Reads an archive into the arrays that are lent, and lists its smallest keys.
-fn keys_in(
-    s: &[u8],
-    rows: &mut [u32; 11264],
-    used: &mut [usize; 256],
-    out: &mut [u8],
-) -> Written
+fn keys_in(s: &[u8], rows: &mut [u32; 11264], used: &mut [usize; 256], out: &mut [u8]) -> Written
     ensures { λ r. ⌜ Answered (listsKeys (now (s .entry))) (now (out .entry)) (now (out .exit)) r ⌝ }
 {
     match archive_judge::read_sharing(s, rows, used) {
@@ -237,12 +224,7 @@ fn fixes_read(
 }
 
 // Reads an archive into the arrays that are lent, and tells whether a set fixes a dimension.
-fn fixes_in(
-    s: &[u8],
-    rows: &mut [u32; 11264],
-    set: u32,
-    dimension: u32,
-) -> Fixed
+fn fixes_in(s: &[u8], rows: &mut [u32; 11264], set: u32, dimension: u32) -> Fixed
     ensures { λ r. ⌜ r ≡ tellsFixed (now (s .entry)) set dimension ⌝ }
 {
     match archive_judge::read_required(s, rows) {

@@ -289,9 +289,9 @@ pub added-has : (d s t i : ℕ) → i ≤ d → s < 2 ^ d → holds d t s ≡ tr
 added-has = carrying.added-has
 
 -- So grouping carries over to a longer set, each of whose added dimensions comes after all of the shorter set. Let two indexes have the rows' numbers in the order of these sets.
-module _ {n d s t : ℕ} {ws short long : List ℕ} (x : Indexed n d s ws short) (y : Indexed n d t ws long) (h : Longer d s t) where
+module _ {n d s t : ℕ} {codes short long : List ℕ} (x : Indexed n d s codes short) (y : Indexed n d t codes long) (h : Longer d s t) where
   abbrev keys : ℕ → ℕ → List ℕ
-  keys u = key u (cut d n ws)
+  keys u = key u (cut d n codes)
 
   -- The longer set's is the shorter set's with the rows of each group ordered anew by the added dimensions alone,
   pub order-carried : long ≡ flatMap (again (keys (added t s))) (runs (keys s) short)

@@ -4,7 +4,6 @@ use mathlib.Core.List.{List, [], _∷_, _++_, map, foldl, List·Memᴰ·head, Li
 use Prim.Native.Nat.{ℕ, zero, suc, _+_, _≤_, _<_}
 use native.Mathlib.Numerals.{add-one}
 use native.Mathlib.Omega.{arith}
-
 use lib.ListN.{length, getD, drop, length-map, drop-of-length-le}
 use lib.Seq.{drop-cons}
 use Rattle.lists.specs.Lists.{_∈_}
