@@ -17,7 +17,7 @@ use Rattle.cube.specs.Cube.{grouped, cells}
 use Rattle.cube.specs.Table.{Table}
 use Rattle.cube.proofs.Existing.{cells-rows}
 use Rattle.cube.proofs.Readings.{count-cells}
-use Rattle.rows.specs.Rows.{width, rowsOf, totalAt}
+use Rattle.rows.specs.Rows.{width, rowsOf, rowTotal}
 use Rattle.rows.proofs.Flat.{placed, total-at, rows-more}
 use Rattle.rows_ready.proofs.Ready.{rows-front}
 use Rattle.call_fee.specs.Fees.{countIn, weights}
@@ -33,7 +33,7 @@ pub counts-none : (d : ℕ) (ws l : List ℕ) → take 0 l ≡ map countIn (rows
 unfolding rowsOf
 counts-none d ws l = refl
 
-pub counts-more : (d n i : ℕ) (ws l : List ℕ) {t : Total} → i < n → i < length l → t ≡ totalAt d n ws i → take i l ≡ map countIn (rowsOf d i ws)
+pub counts-more : (d n i : ℕ) (ws l : List ℕ) {t : Total} → i < n → i < length l → t ≡ rowTotal d n ws i → take i l ≡ map countIn (rowsOf d i ws)
     → take (i + 1) (set l i (t .count)) ≡ map countIn (rowsOf d (i + 1) ws)
 counts-more d n i ws l {t} h k e f =
     let one : t .count ≡ placed d ws i .total .count = ap (λ (u : Total). u .count) (e ∙ total-at d n i ws h) in
