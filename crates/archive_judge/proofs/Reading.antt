@@ -8,6 +8,7 @@ use native.Mathlib.Omega.{arith}
 use lib.ListN.{length, take, drop, getD, length-drop}
 use lib.Pow.{pow-mono}
 use lib.Seq.{length-take-le}
+use Rattle.rows.proofs.Rows.{rows-small}
 use Rattle.lists.specs.Order.{same}
 use Rattle.lists.proofs.Tests.{cases, truth}
 use Rattle.fields.specs.Words.{wordsAt}
@@ -41,10 +42,7 @@ module _ {s : List ℕ} {d n m : ℕ} (b : Bytes s) (e : archiveAnswer (walkArch
   walked = walk .walked ∙ ap (got (walk .held)) (walk-forth s (walk .held) (walk .rest) b (walk .walked) .2)
 
   pub read-small : n * width d ≤ 11264
-  read-small =
-      let few : width d ≤ 11 = omega (arith, walk .few) in
-      let k = mul-le-mul (walk .few-bases) few in
-      omega (arith, k)
+  read-small = rows-small d n (walk .few) (walk .few-bases)
 
   module _ (ws : List ℕ) (room : 11264 ≤ length ws) (h : Stored (walkArchive s) ws) where
     pub read-size : n * width d ≤ length ws

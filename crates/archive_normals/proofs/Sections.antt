@@ -3,9 +3,7 @@ use mathlib.Core.Path.{_≡_, refl, sym, ap, _∙_}
 use mathlib.Core.List.{List, [], _∷_, _++_, map, flatMap, map-append, append-nil}
 use Prim.Native.Nat.{ℕ, zero, suc, _+_, _*_, _≤_}
 use native.Mathlib.Omega.{arith}
-use lib.IntN.{pos}
 use lib.ListN.{length, take, replicate, length-replicate}
-use lib.Seq.{take-all}
 use Rattle.lists.proofs.Members.{flat-append}
 use Rattle.lattice.specs.Sets.{full}
 use Rattle.lattice.proofs.Turns.{from-full}
@@ -14,10 +12,8 @@ use Rattle.cube.specs.Measure.{nothing, Row, sums as measure, codesOf}
 use Rattle.cube.specs.Codes.{ALL, plain}
 use Rattle.cube.specs.Cube.{blank, filled}
 use Rattle.cube.specs.Condensed.{proper, shared, common, normals}
-use Rattle.rows.specs.Rows.{rowsOf}
 use Rattle.archive_entries.specs.Layout.{cellBytes}
 use Rattle.archive_entries.proofs.Lengths.{cell-length}
-use Rattle.rows_ready.specs.Blank.{blanks, blankRows}
 use Rattle.rows_ready.proofs.Blank.{blank-rows}
 use Rattle.rows_condense.specs.Shared.{sharedRows, normalRows}
 use Rattle.archive_cells.proofs.Turns.{turns}

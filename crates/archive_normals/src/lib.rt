@@ -81,7 +81,7 @@ pub fn put_normals(
     at + put_common(&mut out[at..], rows, n, dims, store, used)
 }
 
-// Whether the bytes s have the normal entries of a set from a place on.
+// Whether the bytes s have the normal entries of a set from a place on. Eight parameters: a place in bytes, the rows, and the slot of one set.
 fn match_shared(
     s: &[u8],
     at: usize,

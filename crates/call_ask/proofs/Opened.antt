@@ -3,9 +3,8 @@ use mathlib.Core.Path.{_≡_, refl, sym, ap, subst, _∙_}
 use mathlib.Core.Bool.{true, false, false≢true}
 use mathlib.Core.List.{List, []}
 use Prim.Native.Nat.{ℕ, _*_, _≤_}
-use native.Mathlib.Nat.{mul-le-mul}
-use native.Mathlib.Omega.{arith}
 use lib.ListN.{length, take}
+use Rattle.rows.proofs.Rows.{rows-small}
 use Rattle.fields_walk.specs.Parsed.{Parsed, stop, got}
 use Rattle.fields_walk.specs.Limits.{Bytes}
 use Rattle.rows.specs.Rows.{width, rowsOf}
@@ -75,10 +74,7 @@ opened {s} {ws} {d} {n} {m} b x =
 
 module _ {s : List ℕ} {d n m : ℕ} {ws : List ℕ} (o : Opened s d n m ws) where
   pub opened-small : n * width d ≤ 11264
-  opened-small =
-      let wide : width d ≤ 11 = omega (arith, o .ready .dims) in
-      let k = mul-le-mul (o .ready .few) wide in
-      omega (arith, k)
+  opened-small = rows-small d n (o .ready .dims) (o .ready .few)
 
   pub opened-bytes : s ≡ archiveBytes (o .held .sizes) (rowsOf d n ws)
   opened-bytes = archive-forth s (o .held) [] (o .are) (o .read) .1 ∙ ap (archiveBytes (o .held .sizes)) (sym (o .rows))

@@ -65,7 +65,7 @@ fn list_read(
     fit_cuboid(out, &rows[..size], n, d, set)
 }
 
-// Reads an archive into the arrays that are lent, and lists the cuboid of a set.
+// Reads an archive into the array that is lent, and lists the cuboid of a set.
 fn list_in(s: &[u8], rows: &mut [u32; 11264], set: u32, out: &mut [u8]) -> Written
     ensures { λ r. ⌜ Answered (listsCuboid (now (s .entry)) set) (now (out .entry)) (now (out .exit)) r ⌝ }
 {
@@ -104,7 +104,7 @@ fn fit_expansion(
     Written::Length(needed)
 }
 
-// Expands an archive that was accepted; the slots that are lent are those of its base rows.
+// Expands an archive that was accepted; the slots that are lent are those of its base rows. Eight parameters: what was read of the archive is three numbers, the slots are two arrays.
 fn expand_read(
     s: &[u8],
     rows: &[u32],
@@ -125,7 +125,7 @@ fn expand_read(
     fit_expansion(out, &rows[..size], n, d, store, used)
 }
 
-// Reads the base rows of an archive whose fields are right into the arrays that are lent, and expands it.
+// Reads the base rows of an archive whose fields are right into the array that is lent, and expands it. Eight parameters, as `expand_read`.
 fn expand_in(
     s: &[u8],
     rows: &mut [u32; 11264],
@@ -189,7 +189,7 @@ fn look_read(s: &[u8], rows: &[u32], dims: u32, bases: u32, cells: u32, question
     }
 }
 
-// Reads an archive into the arrays that are lent, and looks up a cell.
+// Reads an archive into the array that is lent, and looks up a cell.
 fn look_in(s: &[u8], rows: &mut [u32; 11264], question: &[u32]) -> Found
     ensures { λ r. ⌜ r ≡ looksUp (now (s .entry)) (now (question .entry)) ⌝ }
 {

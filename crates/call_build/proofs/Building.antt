@@ -3,10 +3,10 @@ use mathlib.Core.Path.{_≡_, refl, sym, ap, ap₂, subst, _∙_}
 use mathlib.Core.Bool.{true, false, false≢true}
 use mathlib.Core.List.{List}
 use Prim.Native.Nat.{ℕ, _+_, _*_, _≤_}
-use native.Mathlib.Nat.{mul-le-mul}
 use native.Mathlib.Omega.{arith}
 use lib.ListN.{length, take}
 use lib.Seq.{length-take-le}
+use Rattle.rows.proofs.Rows.{rows-small}
 use Rattle.fields.specs.Words.{wordsAt}
 use Rattle.fields_walk.specs.Parsed.{Parsed, stop, got}
 use Rattle.fields_walk.specs.Limits.{Bytes}
@@ -60,9 +60,7 @@ tabled {s} {d} {n} b e ws room h =
     let l = folded-within t (table-forth s t (x .1) b (x .2) .0) in
     let few : n ≤ 1024 = omega (arith, l .few, x .4) in
     let dims : d ≤ 8 = omega (arith, l .sized .few, x .3) in
-    let wide : width d ≤ 11 = omega (arith, dims) in
-    let k = mul-le-mul few wide in
-    let small : n * width d ≤ 11264 = omega (arith, k) in
+    let small = rows-small d n dims few in
     let stored : rowsOf (length (t .sizes)) (length (baseRows t)) ws ≡ baseRows t = subst (λ (p : Parsed Records). Stored p ws) (x .2) h in
     let rows : rowsOf d n (take (n * width d) ws) ≡ baseRows t
     = rows-front d n ws ∙ ap₂ (λ (i j : ℕ). rowsOf i j ws) (sym (x .3)) (sym (x .4)) ∙ stored in

@@ -61,7 +61,7 @@ fn build_read(s: &[u8], rows: &[u32], dims: u32, count: u32, out: &mut [u8]) -> 
     write_sized(s, &mut sizes[..d], &rows[..size], n, &mut store, out)
 }
 
-// Reads a table into the arrays that are lent, and builds its archive.
+// Reads a table into the array that is lent, and builds its archive.
 fn build_in(table: &[u8], rows: &mut [u32; 11264], out: &mut [u8]) -> Written
     ensures { λ r. ⌜ Answered (builds (now (table .entry))) (now (out .entry)) (now (out .exit)) r ⌝ }
 {

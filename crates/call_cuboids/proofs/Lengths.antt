@@ -2,7 +2,6 @@
 use mathlib.Core.Path.{_≡_, refl, sym, ap, _∙_}
 use mathlib.Core.List.{List, [], _∷_, _++_, flatMap, append-nil, List·Memᴰ·append-cases}
 use Prim.Native.Nat.{ℕ, zero, suc, _+_, _*_, _^_, _≤_}
-use native.Mathlib.Nat.{mul-le-mul}
 use native.Mathlib.Omega.{arith}
 use lib.Dec.{eqb}
 use borrow.Author.Tests.{ne-eqb}
@@ -20,7 +19,7 @@ use Rattle.cube.specs.Table.{Table}
 use Rattle.cube.proofs.Codes.{set-whole}
 use Rattle.cube.proofs.Existing.{blank-whole, existing-none}
 use Rattle.cube.proofs.Complete.{cuboid-wide, cells-in}
-use Rattle.rows.specs.Rows.{width, rowsOf}
+use Rattle.rows.specs.Rows.{rowsOf}
 use Rattle.fields_walk.proofs.Lengths.{length-flat}
 use Rattle.archive_entries.specs.Layout.{cellBytes}
 use Rattle.archive_entries.proofs.Lengths.{cell-length}
@@ -74,12 +73,6 @@ pub no-rows : (d n : ℕ) (ws : List ℕ) → n ≡ 0 → rowsOf d n ws ≡ []
 unfolding rowsOf
 no-rows d zero ws e = refl
 no-rows d (suc n) ws e = absurd (omega arith)
-
--- no more than 1,024 rows are within 11,264 words
-pub rows-small : (d n : ℕ) → d ≤ 8 → n ≤ 1024 → n * width d ≤ 11264
-rows-small d n h k =
-    let wide : width d ≤ 11 = omega (arith, h) in
-    let m = mul-le-mul k wide in omega (arith, m)
 
 -- at the start all cuboids have their turn
 pub turns-start : (d : ℕ) (rows : List (Row Total)) → d ≤ 8 → turns (cuboidBytes d rows) (2 ^ d) 0 ≡ expansionBytes d rows

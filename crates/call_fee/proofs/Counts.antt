@@ -2,7 +2,6 @@
 use mathlib.Core.Path.{_≡_, refl, sym, _∙_, ap}
 use mathlib.Core.List.{List, [], _∷_, map, map-append, List·Memᴰ·head}
 use Prim.Native.Nat.{ℕ, _+_, _*_, _≤_, _<_}
-use native.Mathlib.Nat.{mul-le-mul}
 use native.Mathlib.Numerals.{add-one}
 use native.Mathlib.Omega.{arith}
 use lib.ListN.{length, take, set}
@@ -21,12 +20,6 @@ use Rattle.rows.specs.Rows.{width, rowsOf, rowTotal}
 use Rattle.rows.proofs.Flat.{placed, total-at, rows-more}
 use Rattle.rows_ready.proofs.Ready.{rows-front}
 use Rattle.call_fee.specs.Fees.{countIn, weights}
-
--- no more than 1,024 rows are within 11,264 words
-pub rows-small : (d n : ℕ) → d ≤ 8 → n ≤ 1024 → n * width d ≤ 11264
-rows-small d n h k =
-    let wide : width d ≤ 11 = omega (arith, h) in
-    let m = mul-le-mul k wide in omega (arith, m)
 
 -- the counts of no rows, and of one row more
 pub counts-none : (d : ℕ) (ws l : List ℕ) → take 0 l ≡ map countIn (rowsOf d 0 ws)

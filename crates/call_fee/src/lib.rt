@@ -60,7 +60,7 @@ fn share_rows(out: &mut [u8], rows: &[u32], n: usize, dims: usize, set: u32, fee
     fit_fee(out, fee, &tallies[..count])
 }
 
-// Shares a fee over the cells of a set of an archive that was accepted.
+// Shares a fee over the cells of a set of an archive that was accepted. Eight parameters: what was read of the archive is three numbers.
 fn share_read(
     s: &[u8],
     rows: &[u32],

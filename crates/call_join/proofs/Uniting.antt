@@ -2,10 +2,10 @@
 use mathlib.Core.Path.{_≡_, refl, sym, _∙_}
 use mathlib.Core.List.{List}
 use Prim.Native.Nat.{ℕ, _+_, _*_, _≤_, _<_}
-use native.Mathlib.Nat.{mul-le-mul}
 use native.Mathlib.Omega.{arith}
 use lib.ListN.{length, take}
 use lib.Seq.{length-take-le}
+use Rattle.rows.proofs.Rows.{rows-small}
 use Rattle.cube.specs.declared.Total.{Total}
 use Rattle.cube.specs.Measure.{Row, sums as totals}
 use Rattle.cube.specs.Bounds.{countOf}
@@ -44,10 +44,7 @@ module _ {zs : List ℕ} {n : ℕ} {ws : List ℕ} {m : ℕ} {ws′ : List ℕ} 
 
     module _ (room : 11264 ≤ length cells) (few : countOf first + countOf second ≤ 1048576) (h : k ≤ 1024) where
       pub stored-small : k * width (length zs) ≤ 11264
-      stored-small =
-          let wide : width (length zs) ≤ 11 = omega (arith, p .ready .dims) in
-          let most = mul-le-mul h wide in
-          omega (arith, most)
+      stored-small = rows-small (length zs) k (p .ready .dims) h
 
       -- the rows in the front of the array
       abbrev front : List (Row Total)

@@ -56,7 +56,7 @@ fn join_rows(
     call_build::fit_archive(out, sizes, &rows[..size], k, store)
 }
 
-// Joins two archives that were accepted; the arrays have their base rows.
+// Joins two archives that were accepted; the arrays have their base rows. Ten parameters: two archives with what was read of each.
 fn join_read(
     first: &[u8],
     rows1: &[u32],

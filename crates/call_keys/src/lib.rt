@@ -223,7 +223,7 @@ fn fixes_read(
     }
 }
 
-// Reads an archive into the arrays that are lent, and tells whether a set fixes a dimension.
+// Reads an archive into the array that is lent, and tells whether a set fixes a dimension.
 fn fixes_in(s: &[u8], rows: &mut [u32; 11264], set: u32, dimension: u32) -> Fixed
     ensures { λ r. ⌜ r ≡ tellsFixed (now (s .entry)) set dimension ⌝ }
 {

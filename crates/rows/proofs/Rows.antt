@@ -2,7 +2,7 @@
 use mathlib.Core.Path.{_≡_, refl, ap, _∙_}
 use mathlib.Core.List.{List, _∷_}
 use Prim.Native.Nat.{ℕ, zero, suc, _+_, _*_, _≤_, _<_}
-use native.Mathlib.Nat.{zero-mul, suc-mul, add-comm, mul-le-mul-right, not-suc-le-zero, le-of-suc-le-suc}
+use native.Mathlib.Nat.{zero-mul, suc-mul, add-comm, mul-le-mul, mul-le-mul-right, not-suc-le-zero, le-of-suc-le-suc}
 use native.Mathlib.Omega.{arith}
 use lib.ListN.{length, take, drop, length-drop}
 use lib.Seq.{drop-drop, length-take-le}
@@ -12,6 +12,13 @@ use Rattle.cube.specs.Measure.{codesOf}
 -- the places of a row are within the flat list
 pub row-within : (w n i : ℕ) → i < n → i * w + w ≤ n * w
 row-within w n i h = rw (← suc-mul i w) (mul-le-mul-right w h)
+
+-- as many rows as an archive can have, of as many codes, have room in 11,264 words
+pub rows-small : (d n : ℕ) → d ≤ 8 → n ≤ 1024 → n * width d ≤ 11264
+rows-small d n h k =
+    let wide : width d ≤ 11 = omega (arith, h) in
+    let all = mul-le-mul k wide in
+    omega (arith, all)
 
 pub cut-length : (d n : ℕ) (ws : List ℕ) → length (cut d n ws) ≡ n
 unfolding cut

@@ -2,7 +2,7 @@
 use mathlib.Core.Path.{_≡_, refl, sym, ap, subst, _∙_}
 use mathlib.Core.List.{List, [], _∷_, _++_}
 use Prim.Native.Nat.{ℕ, _+_, _*_, _≤_, _<_}
-use native.Mathlib.Nat.{suc-mul, mul-le-mul}
+use native.Mathlib.Nat.{suc-mul}
 use native.Mathlib.Omega.{arith}
 use lib.ListN.{length, getD, drop, length-drop, drop-of-length-le}
 use Rattle.lists.proofs.Members.{at-in}
@@ -11,7 +11,7 @@ use Rattle.cube.specs.Measure.{Row, plus, sums, codesOf}
 use Rattle.cube.specs.Bounds.{most, Bounded}
 use Rattle.cube.specs.Codes.{cell}
 use Rattle.rows.specs.Rows.{width, cut, rowAt, rowsOf, rowTotal}
-use Rattle.rows.proofs.Rows.{rows-codes}
+use Rattle.rows.proofs.Rows.{rows-codes, rows-small}
 use Rattle.rows.proofs.Flat.{blank, rows-length}
 use Rattle.rows_ready.proofs.Ready.{ready-row}
 use Rattle.archive_entries.proofs.Limits.{count-le}
@@ -25,9 +25,7 @@ use Rattle.rows_merge.proofs.Turns.{left-first, left-second, left-both,
 
 -- a store of 1,024 rows has room for row k
 pub store-room : (d k : ℕ) → d ≤ 8 → k < 1024 → k * width d + width d ≤ 11264
-store-room d k h l =
-    let w : width d ≤ 11 = omega (arith, h) in
-    rw (← suc-mul k (width d)) (omega (arith, mul-le-mul l w))
+store-room d k h l = rw (← suc-mul k (width d)) (rows-small d (suc k) h l)
 
 module _ {d n : ℕ} {ws : List ℕ} {m : ℕ} {ws′ : List ℕ} (p : Pair d n ws m ws′) where
   abbrev first : List (Row Total)

@@ -51,7 +51,7 @@ fn next_turn(
     }
 }
 
-// One row of the merge: the next one of both lists, n rows and m rows, from their rows i and j on, as row k of the array that is lent. Two lists with their places and a third have more than seven parameters.
+// One row of the merge: the next one of both lists, n rows and m rows, from their rows i and j on, as row k of the array that is lent. Nine parameters: three lists with their places.
 fn merge_row(
     rows1: &[u32],
     n: usize,

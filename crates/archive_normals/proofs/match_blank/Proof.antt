@@ -1,5 +1,5 @@
 -- `archive_normals::match_blank` meets its contract: there are rows, and nothing is compared, or one cell is.
-use mathlib.Core.Path.{_≡_, sym}
+use mathlib.Core.Path.{sym}
 use mathlib.Core.List.{[]}
 use denote.Ref.{now}
 use Rattle.archive_cells.specs.MatchedLaws.{matching-none, matching-done, matched-as}

@@ -1,5 +1,5 @@
 -- `archive_normals::put_shared` meets its contract: the groups of the set's slot are written.
-use mathlib.Core.Path.{_≡_, ap}
+use mathlib.Core.Path.{ap}
 use native.Mathlib.Omega.{arith}
 use lib.ListN.{length}
 use Rattle.archive_cells.specs.WritingLaws.{wrote-as}

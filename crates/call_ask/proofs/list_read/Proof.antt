@@ -1,5 +1,4 @@
 -- `call_ask::list_read` meets its contract: the set's number is tested, then the cuboid is written where there is room.
-use mathlib.Core.Path.{sym}
 use native.Mathlib.Omega.{arith}
 use denote.Ref.{now}
 use Rattle.fields_walk.proofs.Limits.{bytes-of}

@@ -5,6 +5,7 @@ use Prim.Native.Nat.{_≤_}
 use native.Mathlib.Omega.{arith}
 use denote.Ref.{now}
 use lib.ListN.{length}
+use Rattle.rows.proofs.Rows.{rows-small}
 use Rattle.cube.specs.declared.Total.{Total}
 use Rattle.cube.specs.Measure.{Row, sums as measure}
 use Rattle.cube.specs.Codes.{plain}
@@ -12,7 +13,7 @@ use Rattle.cube.specs.Cube.{cells}
 use Rattle.cube.proofs.Existing.{cells-rows}
 use Rattle.rows.specs.Rows.{rowsOf}
 use Rattle.rows.proofs.Flat.{rows-length}
-use Rattle.call_cuboids.proofs.Lengths.{no-rows, rows-small}
+use Rattle.call_cuboids.proofs.Lengths.{no-rows}
 use borrow.Author.Needs.{needs}
 use Rattle.call_cuboids.proofs.find_cells.Statement.{statement}
 use Rattle.call_cuboids.proofs.find_cells.Tie as tie

@@ -6,6 +6,7 @@ use native.Mathlib.Omega.{arith}
 use denote.Ref.{now}
 use lib.ListN.{length}
 use lib.Seq.{length-take-le}
+use Rattle.rows.proofs.Rows.{rows-small}
 use Rattle.cube.specs.Measure.{sums as measure}
 use Rattle.cube.specs.Codes.{plain}
 use Rattle.cube.specs.Cube.{cells}
@@ -16,7 +17,7 @@ use Rattle.archive_entries.specs.Layout.{section, cellBytes}
 use Rattle.rows_ready.proofs.Ready.{rows-front}
 use Rattle.archive_cells.specs.WritingLaws.{wrote-as}
 use Rattle.call_cuboids.specs.Cuboids.{cuboidBytes}
-use Rattle.call_cuboids.proofs.Lengths.{cuboid-length, rows-small}
+use Rattle.call_cuboids.proofs.Lengths.{cuboid-length}
 use borrow.Author.Needs.{needs}
 use Rattle.call_cuboids.proofs.write_cuboid.Statement.{statement}
 use Rattle.call_cuboids.proofs.write_cuboid.Tie as tie

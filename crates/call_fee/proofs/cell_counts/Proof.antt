@@ -5,9 +5,10 @@ use native.Mathlib.Omega.{arith}
 use denote.Ref.{now}
 use lib.ListN.{length}
 use lib.Seq.{length-take-le}
+use Rattle.rows.proofs.Rows.{rows-small}
 use Rattle.rows.specs.Rows.{width, rowsOf}
 use Rattle.rows.proofs.Flat.{rows-length}
-use Rattle.call_fee.proofs.Counts.{weights-grouped, rows-small}
+use Rattle.call_fee.proofs.Counts.{weights-grouped}
 use borrow.Author.Needs.{needs}
 use Rattle.call_fee.proofs.cell_counts.Statement.{statement}
 use Rattle.call_fee.proofs.cell_counts.Tie as tie

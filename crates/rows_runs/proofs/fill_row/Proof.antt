@@ -7,7 +7,6 @@ use denote.Ref.{now}
 use Prim.Native.Nat.{ℕ}
 use lib.ListN.{length, take}
 use lib.Seq.{length-take-le, take-at}
-use Rattle.cube.specs.Codes.{cell}
 use Rattle.cube.proofs.Codes.{length-cell}
 use Rattle.rows_runs.proofs.fill_row.Statement.{statement}
 use Rattle.rows_runs.proofs.fill_row.Tie as tie

@@ -1,17 +1,16 @@
 -- `table::fold_table` meets its contract: the buffer is cut to the rows there are.
 use mathlib.Core.Path.{sym}
 use Prim.Native.Nat.{_*_, _≤_}
-use native.Mathlib.Nat.{mul-le-mul}
-use native.Mathlib.Omega.{arith}
 use lib.Seq.{length-take-le}
 use borrow.Author.Needs.{needs}
+use Rattle.rows.proofs.Rows.{rows-small}
 use Rattle.rows.specs.Rows.{width}
 use Rattle.table.proofs.fold_table.Statement.{statement}
 use Rattle.table.proofs.fold_table.Tie as tie
 
 -- the words of all rows
 words-few : (c : tie.Start) → c .args .n * width (c .args .d) ≤ 11264
-words-few c = let w : width (c .args .d) ≤ 11 = omega (arith, c .pre .0 .dims) in omega (arith, mul-le-mul (c .pre .0 .few) w)
+words-few c = rows-small (c .args .d) (c .args .n) (c .pre .0 .dims) (c .pre .0 .few)
 
 array-borrow-prefix-own : tie.Need-array-borrow-prefix-own
 array-borrow-prefix-own c = words-few (c .before .before)
