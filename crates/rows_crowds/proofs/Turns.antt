@@ -1,7 +1,7 @@
 -- A loop over the 256 sets in lattice order, of which those below m have a turn: the slots of the sets that had one are filled.
 use mathlib.Core.Path.{_≡_, refl, sym, ap, subst, _∙_}
 use mathlib.Core.Bool.{true}
-use mathlib.Core.List.{List, [], _∷_, _++_, append-nil, List·Memᴰ·head, List·Memᴰ·tail, List·Memᴰ·append-cases, List·Memᴰ·not-nil}
+use mathlib.Core.List.{List, [], _∷_, _++_, append-nil, List·Memᴰ·append-cases, List·Memᴰ·not-nil, List·Memᴰ·eq-of-singleton}
 use Prim.Native.Nat.{ℕ, _+_, _≤_, _<_}
 use native.Mathlib.Omega.{arith}
 use lib.Dec.{eqb, ltb}
@@ -18,10 +18,6 @@ use Rattle.lattice.proofs.Sets.{sets-of, sets-rising}
 use Rattle.lattice.proofs.Turns.{from-on, from-off, from-done}
 use Rattle.rows_crowds.specs.Crowds.{shorter, Holds, AllHold, Filled}
 use Rattle.rows_crowds.proofs.Shorter.{shorter-before, rising-front, shorter-less}
-
-only-one : {s t : ℕ} → t ∈ s ∷ [] → t ≡ s
-only-one (List·Memᴰ·head q) = q
-only-one (List·Memᴰ·tail j) = absurd (List·Memᴰ·not-nil j)
 
 pub all-rising : (m : ℕ) → Rising before (setsFrom m 0)
 unfolding setsFrom
@@ -78,5 +74,5 @@ module _ {least d n : ℕ} {ws : List ℕ} {m : ℕ} (few : m ≤ 256) where
           left = append-snoc (f .done) s (setsFrom m (k + 1)) ∙ next;
           held = λ t i. cases (truth (eqb t s))
               (λ q. rw (eqb-true t s q) (g .here))
-              (λ q. g .others least t (eqb-false t s q) (cases (List·Memᴰ·append-cases (f .done) i) (λ j. f .held t j) (λ j. absurd (eqb-false t s q (only-one j)))));
+              (λ q. g .others least t (eqb-false t s q) (cases (List·Memᴰ·append-cases (f .done) i) (λ j. f .held t j) (λ j. absurd (eqb-false t s q (List·Memᴰ·eq-of-singleton j)))));
         }
