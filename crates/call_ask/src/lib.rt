@@ -1,10 +1,8 @@
-// An archive checked, asked for a cell, listed by cuboid, expanded.
+// An archive checked, listed by cuboid, expanded.
 // Every call answers for whatever bytes it is lent, looks at the output last, and leaves every byte of it alone when it stops.
 use archive_entries::ArchiveRead;
 use call_answers::Checked;
-use call_answers::Found;
 use call_answers::Written;
-use call_questions::Look;
 ghost use mathlib.Core.Path.{_≡_};
 ghost use Prim.Native.Nat.{_*_};
 ghost use lib.ListN.{take};
@@ -14,7 +12,7 @@ ghost use Rattle.rows_ready.specs.Ready.{Ready};
 ghost use Rattle.archive_normals.specs.Grouped.{Grouped};
 ghost use Rattle.call_cuboids.specs.Cuboids.{cuboidBytes, expansionBytes};
 ghost use Rattle.call_answers.specs.Answers.{bytes, Answered};
-ghost use Rattle.call_answers.specs.Calls.{checks, listsCuboid, expands, looksUp};
+ghost use Rattle.call_answers.specs.Calls.{checks, listsCuboid, expands};
 ghost use Rattle.call_ask.specs.Accepts.{Accepts};
 
 // Checks an archive: all its stops, 1 to 12.
@@ -97,7 +95,7 @@ fn fit_expansion(
     requires { ⌜ Grouped dims n (now rows) (now store) (now used) ⌝ }
     ensures { λ r. ⌜ Answered (bytes (expansionBytes dims (rowsOf dims n (now (rows .entry))))) (now (out .entry)) (now (out .exit)) r ⌝ }
 {
-    let needed = call_cuboids::write_expansion(out, rows, n, dims, store, used);
+    let needed = call_expansion::write_expansion(out, rows, n, dims, store, used);
     if out.len() < needed {
         return Written::Stop(15);
     }
@@ -168,43 +166,4 @@ pub fn expand(archive: &[u8], out: &mut [u8]) -> Written
             expand_fields(archive, dims, bases, cells, out)
         }
     }
-}
-
-// Answers a question to an archive that was accepted.
-fn look_read(s: &[u8], rows: &[u32], dims: u32, bases: u32, cells: u32, question: &[u32]) -> Found
-    requires { ⌜ Accepts (now s) (now rows) dims bases cells ⌝ }
-    ensures { λ r. ⌜ r ≡ looksUp (now (s .entry)) (now (question .entry)) ⌝ }
-{
-    let d = dims as usize;
-    if !call_questions::fits(s, d, question) {
-        return Found::Stop(13);
-    }
-    let n = bases as usize;
-    let size = n * (d + 3);
-    let m = cells as usize;
-    let at = s.len() - 4 - m * (4 * d + 12);
-    match call_questions::answer(s, at, m, &rows[..size], n, d, question) {
-        Look::NoRecord => Found::NoRecord,
-        Look::Cell { sum, count, entry } => Found::Cell { sum, count, entry },
-    }
-}
-
-// Reads an archive into the array that is lent, and looks up a cell.
-fn look_in(s: &[u8], rows: &mut [u32; 11264], question: &[u32]) -> Found
-    ensures { λ r. ⌜ r ≡ looksUp (now (s .entry)) (now (question .entry)) ⌝ }
-{
-    match archive_judge::read_required(s, rows) {
-        ArchiveRead::Stop(n) => Found::Stop(n),
-        ArchiveRead::Entries { dims, bases, cells } => {
-            look_read(s, rows, dims, bases, cells, question)
-        }
-    }
-}
-
-// Looks up a cell: a code or ALL (65,535) for each dimension.
-pub fn look_up(archive: &[u8], question: &[u32]) -> Found
-    ensures { λ r. ⌜ r ≡ looksUp (now (archive .entry)) (now (question .entry)) ⌝ }
-{
-    let mut rows = [0u32; 11264];
-    look_in(archive, &mut rows, question)
 }

@@ -17,7 +17,7 @@ use Rattle.table.specs.Layout.{Records}
 use Rattle.table.specs.Reading.{readTable, baseRows, tableAnswer, Stored}
 use Rattle.table.specs.declared.TableRead.the-variants as Read
 use Rattle.table.proofs.Accepted.{table-forth}
-use Rattle.table.proofs.Rows.{placed}
+use Rattle.table_rows.proofs.Rows.{placed}
 use Rattle.archive_entries.specs.Layout.{archiveBytes, Limits}
 use Rattle.rows_ready.specs.Ready.{Ready}
 use Rattle.rows_ready.proofs.Ready.{rows-front}

@@ -65,7 +65,7 @@ fn build_read(s: &[u8], rows: &[u32], dims: u32, count: u32, out: &mut [u8]) -> 
 fn build_in(table: &[u8], rows: &mut [u32; 11264], out: &mut [u8]) -> Written
     ensures { λ r. ⌜ Answered (builds (now (table .entry))) (now (out .entry)) (now (out .exit)) r ⌝ }
 {
-    match table::read_table(table, rows) {
+    match table_rows::read_table(table, rows) {
         TableRead::Stop(n) => Written::Stop(n),
         TableRead::Rows { dims, rows: count } => { build_read(table, rows, dims, count, out) }
     }

@@ -6,5 +6,3 @@ pub mod Left
 pub mod First
 pub mod Column
 pub mod Filling
-pub mod Turns
-pub mod Completing
