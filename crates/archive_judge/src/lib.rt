@@ -24,13 +24,12 @@ fn match_sections(
     rows: &[u32],
     n: usize,
     dims: usize,
-    sets: &[u8],
-    lens: &[u32],
+    lists: &[u8],
     store: &[u16],
     used: &[usize],
     cells: usize,
 ) -> Walk
-    requires { ⌜ Listed dims n (now rows) (now sets) (now lens) × Grouped dims n (now rows) (now store) (now used) × (start ≤ length (now s)) ⌝ }
+    requires { ⌜ Listed dims n (now rows) (now lists) × Grouped dims n (now rows) (now store) (now used) × (start ≤ length (now s)) ⌝ }
     requires { ⌜ cells ≡ length (normals (plain dims) (cut dims n (now rows))) ⌝ }
     ensures { λ r. ⌜ Matched (now (s .entry)) start (sections dims (rowsOf dims n (now (rows .entry)))) r ⌝ }
 {
@@ -38,7 +37,7 @@ fn match_sections(
         Walk::Stop(stop) => return Walk::Stop(stop),
         Walk::At(at) => at,
     };
-    let end = match archive_bases::match_bases(s, at, rows, n, dims, sets, lens) {
+    let end = match archive_bases::match_bases(s, at, rows, n, dims, lists) {
         Walk::Stop(stop) => return Walk::Stop(stop),
         Walk::At(end) => end,
     };
@@ -55,29 +54,17 @@ fn judge(
     rows: &[u32],
     n: usize,
     dims: usize,
-    sets: &mut [u8],
-    lens: &mut [u32],
+    lists: &mut [u8],
     store: &mut [u16],
     used: &mut [usize],
 ) -> bool
-    requires { ⌜ Read (now s) dims n (now rows) × (n * 70 ≤ length (now sets)) × (length (now lens) ≡ n) × (262144 ≤ length (now store)) × (256 ≤ length (now used)) ⌝ }
+    requires { ⌜ Read (now s) dims n (now rows) × (n * 71 ≤ length (now lists)) × (262144 ≤ length (now store)) × (256 ≤ length (now used)) ⌝ }
     ensures { λ r. ⌜ r ≡ same (now (s .entry)) (archiveBytes (wordsAt (now (s .entry)) dims 8) (rowsOf dims n (now (rows .entry)))) ⌝ }
     ensures { λ r. ⌜ Grouped dims n (now (rows .entry)) (now (store .exit)) (now (used .exit)) ⌝ }
 {
-    let cells = rows_condense::condense_rows(rows, n, dims, store, used, sets, lens);
+    let cells = rows_condense::condense_rows(rows, n, dims, store, used, lists);
     let start = 8 + 4 * dims;
-    match match_sections(
-        s,
-        start,
-        rows,
-        n,
-        dims,
-        sets,
-        lens,
-        store,
-        used,
-        cells,
-    ) {
+    match match_sections(s, start, rows, n, dims, lists, store, used, cells) {
         Walk::Stop(_) => false,
         Walk::At(end) => s.len() - end == 4,
     }
@@ -96,18 +83,8 @@ fn is_required(
     ensures { λ r. ⌜ r ≡ same (now (s .entry)) (archiveBytes (wordsAt (now (s .entry)) dims 8) (rowsOf dims n (now (rows .entry)))) ⌝ }
     ensures { λ r. ⌜ Grouped dims n (now (rows .entry)) (now (store .exit)) (now (used .exit)) ⌝ }
 {
-    let mut sets = [0u8; 71680];
-    let mut lens = [0u32; 1024];
-    judge(
-        s,
-        rows,
-        n,
-        dims,
-        &mut sets,
-        &mut lens[..n],
-        store,
-        used,
-    )
+    let mut lists = [0u8; 72704];
+    judge(s, rows, n, dims, &mut lists, store, used)
 }
 
 // What was read of an archive whose fields are right, or stop 12. The arrays have its base rows; their slots go into the buffers that are lent.
@@ -129,14 +106,7 @@ fn judge_read(
     let d = dims as usize;
     let n = bases as usize;
     let size = n * (d + 3);
-    if is_required(
-        s,
-        &rows[..size],
-        n,
-        d,
-        store,
-        used,
-    ) {
+    if is_required(s, &rows[..size], n, d, store, used) {
         ArchiveRead::Entries { dims, bases, cells }
     } else {
         ArchiveRead::Stop(12)
@@ -170,15 +140,7 @@ fn judge_fields(s: &[u8], dims: u32, bases: u32, cells: u32) -> ArchiveRead
     let mut rows = [0u32; 11264];
     let mut store = [0u16; 262144];
     let mut used = [0usize; 256];
-    read_judged(
-        s,
-        &mut rows,
-        &mut store,
-        &mut used,
-        dims,
-        bases,
-        cells,
-    )
+    read_judged(s, &mut rows, &mut store, &mut used, dims, bases, cells)
 }
 
 // All stops of an archive, 1 to 12. No array is declared before the first 11 are passed.
@@ -210,11 +172,7 @@ fn judge_sharing(
 }
 
 // Reads an archive with all its stops, 1 to 12; its base rows into the arrays that are lent, and how many of them share the cells of each set but the full one.
-pub fn read_sharing(
-    s: &[u8],
-    rows: &mut [u32; 11264],
-    used: &mut [usize; 256],
-) -> ArchiveRead
+pub fn read_sharing(s: &[u8], rows: &mut [u32; 11264], used: &mut [usize; 256]) -> ArchiveRead
     ensures { λ r. ⌜ r ≡ archiveAnswer (readArchive (now (s .entry))) ⌝ }
     ensures { λ r. ⌜ Stored (readArchive (now (s .entry))) (now (rows .exit)) ⌝ }
     ensures { λ r. ⌜ Shares (readArchive (now (s .entry))) (now (rows .exit)) (now (used .exit)) ⌝ }
@@ -228,11 +186,7 @@ pub fn read_sharing(
 }
 
 // Reads an archive with all its stops, 1 to 12; its base rows into the arrays that are lent. The array for slots is lent too.
-pub fn read_lent(
-    s: &[u8],
-    rows: &mut [u32; 11264],
-    store: &mut [u16; 262144],
-) -> ArchiveRead
+pub fn read_lent(s: &[u8], rows: &mut [u32; 11264], store: &mut [u16; 262144]) -> ArchiveRead
     ensures { λ r. ⌜ r ≡ archiveAnswer (readArchive (now (s .entry))) ⌝ }
     ensures { λ r. ⌜ Stored (readArchive (now (s .entry))) (now (rows .exit)) ⌝ }
 {
@@ -246,10 +200,7 @@ pub fn read_lent(
 }
 
 // The same as `read_lent`, with slots of its own.
-pub fn read_required(
-    s: &[u8],
-    rows: &mut [u32; 11264],
-) -> ArchiveRead
+pub fn read_required(s: &[u8], rows: &mut [u32; 11264]) -> ArchiveRead
     ensures { λ r. ⌜ r ≡ archiveAnswer (readArchive (now (s .entry))) ⌝ }
     ensures { λ r. ⌜ Stored (readArchive (now (s .entry))) (now (rows .exit)) ⌝ }
 {
