@@ -11,7 +11,7 @@ use Rattle.cube.specs.declared.Total.{Total}
 use Rattle.cube.specs.Measure.{Row}
 use Rattle.cube.specs.Codes.{plain}
 use Rattle.cube.specs.Condensed.{listed}
-use Rattle.rows.specs.Rows.{cut, rowAt, rowsOf, totalAt}
+use Rattle.rows.specs.Rows.{cut, rowAt, rowsOf, rowTotal}
 use Rattle.rows.proofs.Rows.{cut-length, rows-codes, row-at, row-length}
 use Rattle.rows.proofs.Flat.{blank, rows-length, rows-at, total-at}
 use Rattle.rows_condense.specs.Lists.{listsOf, ourLists}
@@ -51,7 +51,7 @@ module _ {d n : ℕ} {ws ls : List ℕ} (rows : Listed d n ws ls) where
           ∙ ap₂ (λ (ys : List (List ℕ)) (x : List ℕ). listed (plain d) ys x) (sym (rows-codes d n ws)) codes-at
 
       -- codes, sum, count and list of a row make its base entry
-      pub base-at : {x list : List ℕ} {u : Total} → x ≡ rowAt (cut d n ws) i → u ≡ totalAt d n ws i → list ≡ getD (listsOf n ls) i []
+      pub base-at : {x list : List ℕ} {u : Total} → x ≡ rowAt (cut d n ws) i → u ≡ rowTotal d n ws i → list ≡ getD (listsOf n ls) i []
           → record { row = record { codes = x; total = u }; list = list } ≡ ourBase d table i
       unfolding ourBase
       base-at {x} {list} {u} e g f =

@@ -9,7 +9,7 @@ use lib.ListN.{length, drop, length-append, length-drop, drop-of-length-le}
 use lib.Seq.{drop-cons, length-take-le}
 use borrow.Rule.Slice.PartMut.{midOf, putMid}
 use Rattle.fields.specs.Written.{Wrote}
-use Rattle.rows.specs.Rows.{width, rowIn, rowsOf}
+use Rattle.rows.specs.Rows.{width, rowOf, rowsOf}
 use Rattle.rows.proofs.Rows.{row-at, row-length}
 use Rattle.rows.proofs.Flat.{placed, blank, rows-at, rows-length}
 use Rattle.archive_entries.specs.Layout.{cellBytes}
@@ -24,9 +24,9 @@ cells-length d zero ws e = sym (zero-mul (4 * d + 12))
 cells-length d (suc n) ws e =
     let rest = drop (width d) ws in
     let more : width d + n * width d ≡ length ws = omega (arith, suc-mul n (width d), e) in
-    let f = cell-length d (rowIn d ws) (length-take-le d ws (omega (arith, more))) in
+    let f = cell-length d (rowOf d ws) (length-take-le d ws (omega (arith, more))) in
     let g = cells-length d n rest (simp length-drop (omega (arith, more))) in
-    omega (arith, length-append (cellBytes (rowIn d ws)) (flatMap cellBytes (rowsOf d n rest)), f, g, suc-mul n (4 * d + 12))
+    omega (arith, length-append (cellBytes (rowOf d ws)) (flatMap cellBytes (rowsOf d n rest)), f, g, suc-mul n (4 * d + 12))
 
 module _ (d n : ℕ) (ws : List ℕ) (i : ℕ) where
   -- the bytes of all cells, and of those from a row on

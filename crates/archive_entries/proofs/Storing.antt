@@ -12,7 +12,7 @@ use Rattle.fields.specs.WordsLaws.{length-wordsAt, getD-wordsAt}
 use Rattle.fields.specs.Twos.{sumOf, sumAt}
 use Rattle.cube.specs.declared.Total.{Total}
 use Rattle.cube.specs.Measure.{Row}
-use Rattle.rows.specs.Rows.{width, rowIn, rowsOf}
+use Rattle.rows.specs.Rows.{width, rowOf, rowsOf}
 use Rattle.rows.proofs.Flat.{row-stored}
 use Rattle.fields_walk.specs.Parsed.{got}
 use Rattle.archive_entries.specs.Layout.{Based}
@@ -32,7 +32,7 @@ word-behind : (s : List ℕ) (d at k p : ℕ) → k < 3 → at + 4 * (d + k) ≡
 word-behind s d at k p h e =
     getD-drop d (wordsAt s (width d) at) k 0 ∙ getD-wordsAt s (width d) at (d + k) (omega (arith, h)) ∙ ap (wordAt s) e
 
-row-words : (s : List ℕ) (d at : ℕ) → rowIn d (wordsAt s (width d) at) ≡ rowThere s d at
+row-words : (s : List ℕ) (d at : ℕ) → rowOf d (wordsAt s (width d) at) ≡ rowThere s d at
 unfolding sumAt
 row-words s d at =
     let c = codes-front s d at in
@@ -47,7 +47,7 @@ pub row-read : (s : List ℕ) (d at k : ℕ) (ws m : List ℕ) → k * width d +
     → rowsOf d (k + 1) (putMid (k * width d) (k * width d + width d - k * width d) ws m) ≡ rowsOf d k ws ++ rowThere s d at ∷ []
 row-read s d at k ws m h e =
     row-stored d k ws m (ap length e ∙ length-wordsAt s (width d) at) h
-    ∙ ap (λ (r : Row Total). rowsOf d k ws ++ r ∷ []) (ap (rowIn d) e ∙ row-words s d at)
+    ∙ ap (λ (r : Row Total). rowsOf d k ws ++ r ∷ []) (ap (rowOf d) e ∙ row-words s d at)
 
 -- one row goes from those left to those stored
 moved : {A : Type 0} (xs : List A) (a : A) (left : List A) {ys all : List A} → ys ≡ xs ++ a ∷ [] → all ≡ xs ++ a ∷ left → all ≡ ys ++ left

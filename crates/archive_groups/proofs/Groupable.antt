@@ -14,7 +14,7 @@ use Rattle.rows_deals.specs.Deals.{Names}
 use Rattle.cube.specs.declared.Total.{Total}
 use Rattle.cube.specs.Measure.{Row}
 use Rattle.cube.specs.Bounds.{countOf, Summable}
-use Rattle.rows.specs.Rows.{cut, totalAt}
+use Rattle.rows.specs.Rows.{cut, rowTotal}
 use Rattle.rows_order.specs.Index.{key, arranged}
 use Rattle.rows_runs.specs.Totals.{amountAt, amountsAt}
 use Rattle.rows_order.proofs.Columns.{table-valid}
@@ -56,7 +56,7 @@ module _ {d n : ℕ} {ws : List ℕ} (ready : Ready d n ws) (least s : ℕ) (slo
     few = omega (arith, ap length e, slot-length keys n least (ready .few), flat-few keys n least (ready .few), ready .few);
     names = subst (λ (l : List ℕ). Names l n) (sym rows-flat) (flat-names keys n least (ready .few));
     summable =
-        subst (λ (l : List ℕ). Summable (amountsAt (totalAt d n ws) l)) (sym (rows-flat ∙ crowds-flat keys n least))
-        (keep-summable (totalAt d n ws) (shares least keys n) (arranged keys n)
-        (subst (λ (l : List ℕ). Summable (amountsAt (totalAt d n ws) l)) (take-all n (arranged keys n) (omega (arith, arranged-length keys n))) (arranged-summable d n ws (ready .summable) keys 0 n)));
+        subst (λ (l : List ℕ). Summable (amountsAt (rowTotal d n ws) l)) (sym (rows-flat ∙ crowds-flat keys n least))
+        (keep-summable (rowTotal d n ws) (shares least keys n) (arranged keys n)
+        (subst (λ (l : List ℕ). Summable (amountsAt (rowTotal d n ws) l)) (take-all n (arranged keys n) (omega (arith, arranged-length keys n))) (arranged-summable d n ws (ready .summable) keys 0 n)));
   }

@@ -10,7 +10,7 @@ use Rattle.cube.specs.declared.Total.{Total}
 use Rattle.cube.specs.Measure.{nothing}
 use Rattle.cube.specs.Bounds.{Summable}
 use Rattle.rows_deals.specs.Deals.{Names}
-use Rattle.rows.specs.Rows.{width, cut, totalAt}
+use Rattle.rows.specs.Rows.{width, cut, rowTotal}
 use Rattle.rows_order.specs.Index.{Valid}
 use Rattle.rows_runs.specs.Totals.{amountsAt}
 use Rattle.rows_slots.specs.Slots.{rowIn}
@@ -23,7 +23,7 @@ pub record Groupable (d n : ℕ) (ws slot : List ℕ) : Type 0 where
   pub valid : Valid d (cut d n ws)
   pub few : length slot ≤ 1024
   pub names : Names (map rowIn slot) n
-  pub summable : Summable (amountsAt (totalAt d n ws) (map rowIn slot))
+  pub summable : Summable (amountsAt (rowTotal d n ws) (map rowIn slot))
 
 unfoldable pub groupBytes : (ℕ → Total) → (ℕ → List ℕ) → List ℕ → List ℕ
 groupBytes totals keys slot = flatMap cellBytes (summed totals keys nothing slot)

@@ -6,7 +6,7 @@ ghost use lib.ListN.{length, drop};
 ghost use Rattle.fields.specs.Words.{wordsBytes};
 ghost use Rattle.fields.specs.Opening.{startsWith};
 ghost use Rattle.fields.specs.Written.{Wrote};
-ghost use Rattle.rows.specs.Rows.{cut, totalAt};
+ghost use Rattle.rows.specs.Rows.{cut, rowTotal};
 ghost use Rattle.rows_order.specs.Index.{key};
 ghost use Rattle.archive_entries.specs.Layout.{cellBytes};
 ghost use Rattle.archive_cells.specs.Matched.{Matched};
@@ -58,8 +58,8 @@ pub fn put_groups(
     slot: &[u16],
 ) -> usize
     requires { ⌜ Groupable dims n (now rows) (now slot) ⌝ }
-    requires { ⌜ length (groupBytes (totalAt dims n (now rows)) (key set (cut dims n (now rows))) (now slot)) ≤ length (now out) ⌝ }
-    ensures { λ r. ⌜ Wrote (groupBytes (totalAt dims n (now (rows .entry))) (key set (cut dims n (now (rows .entry)))) (now (slot .entry))) (now (out .entry)) (now (out .exit)) r ⌝ }
+    requires { ⌜ length (groupBytes (rowTotal dims n (now rows)) (key set (cut dims n (now rows))) (now slot)) ≤ length (now out) ⌝ }
+    ensures { λ r. ⌜ Wrote (groupBytes (rowTotal dims n (now (rows .entry))) (key set (cut dims n (now (rows .entry)))) (now (slot .entry))) (now (out .entry)) (now (out .exit)) r ⌝ }
 {
     let missing = mask_of(set);
     let mut at = 0;
@@ -128,7 +128,7 @@ pub fn match_groups(
     slot: &[u16],
 ) -> Walk
     requires { ⌜ Groupable dims n (now rows) (now slot) × (start ≤ length (now s)) ⌝ }
-    ensures { λ r. ⌜ Matched (now (s .entry)) start (groupBytes (totalAt dims n (now (rows .entry))) (key set (cut dims n (now (rows .entry)))) (now (slot .entry))) r ⌝ }
+    ensures { λ r. ⌜ Matched (now (s .entry)) start (groupBytes (rowTotal dims n (now (rows .entry))) (key set (cut dims n (now (rows .entry)))) (now (slot .entry))) r ⌝ }
 {
     let missing = mask_of(set);
     let mut at = start;

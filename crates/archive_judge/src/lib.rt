@@ -87,7 +87,7 @@ fn is_required(
     judge(s, rows, n, dims, &mut lists, store, used)
 }
 
-// What was read of an archive whose fields are right, or stop 12. The arrays have its base rows; their slots go into the buffers that are lent.
+// What was read of an archive whose fields are right, or stop 12. The array has its base rows; their slots go into the buffers that are lent.
 fn judge_read(
     s: &[u8],
     rows: &[u32],
@@ -171,7 +171,7 @@ fn judge_sharing(
     read_judged(s, rows, &mut store, used, dims, bases, cells)
 }
 
-// Reads an archive with all its stops, 1 to 12; its base rows into the arrays that are lent, and how many of them share the cells of each set but the full one.
+// Reads an archive with all its stops, 1 to 12; its base rows into the array that is lent, and how many of them share the cells of each set but the full one.
 pub fn read_sharing(s: &[u8], rows: &mut [u32; 11264], used: &mut [usize; 256]) -> ArchiveRead
     ensures { λ r. ⌜ r ≡ archiveAnswer (readArchive (now (s .entry))) ⌝ }
     ensures { λ r. ⌜ Stored (readArchive (now (s .entry))) (now (rows .exit)) ⌝ }
@@ -185,7 +185,7 @@ pub fn read_sharing(s: &[u8], rows: &mut [u32; 11264], used: &mut [usize; 256]) 
     }
 }
 
-// Reads an archive with all its stops, 1 to 12; its base rows into the arrays that are lent. The array for slots is lent too.
+// Reads an archive with all its stops, 1 to 12; its base rows into the array that is lent. The one for slots is lent too.
 pub fn read_lent(s: &[u8], rows: &mut [u32; 11264], store: &mut [u16; 262144]) -> ArchiveRead
     ensures { λ r. ⌜ r ≡ archiveAnswer (readArchive (now (s .entry))) ⌝ }
     ensures { λ r. ⌜ Stored (readArchive (now (s .entry))) (now (rows .exit)) ⌝ }

@@ -7,7 +7,7 @@ use lib.ListN.{getD}
 use lib.Pow.{pow-mono}
 use Rattle.lattice.specs.Sets.{full}
 use Rattle.lattice.proofs.Sets.{full-lt}
-use Rattle.rows.specs.Rows.{cut, rowsOf, totalAt}
+use Rattle.rows.specs.Rows.{cut, rowsOf, rowTotal}
 use Rattle.archive_entries.specs.Layout.{cellBytes}
 use Rattle.rows_order.specs.Index.{key}
 use Rattle.rows_crowds.specs.Crowds.{part, Holds}
@@ -28,6 +28,6 @@ module _ {d n : ℕ} {ws store used : List ℕ} (rows : Grouped d n ws store use
     pub slot-groupable : Groupable d n ws slot
     slot-groupable = groupable (rows .ready) 2 s slot (e ∙ held .slot)
 
-    pub slot-bytes : groupBytes (totalAt d n ws) (key s (cut d n ws)) slot ≡ sharedBytes d (rowsOf d n ws) s
+    pub slot-bytes : groupBytes (rowTotal d n ws) (key s (cut d n ws)) slot ≡ sharedBytes d (rowsOf d n ws) s
     unfolding groupBytes sharedBytes
     slot-bytes = ap (flatMap cellBytes) (slot-shared (rows .ready) s slot (e ∙ held .slot))

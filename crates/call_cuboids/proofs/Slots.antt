@@ -12,7 +12,7 @@ use Rattle.cube.specs.Measure.{codesOf, Row, nothing, sums as measure}
 use Rattle.cube.specs.Codes.{plain}
 use Rattle.cube.specs.Cube.{filled, grouped, cells, existing, blank, cuboid as cuboidOf}
 use Rattle.cube.proofs.Existing.{cells-rows, existing-few}
-use Rattle.rows.specs.Rows.{cut, rowsOf, totalAt}
+use Rattle.rows.specs.Rows.{cut, rowsOf, rowTotal}
 use Rattle.rows.proofs.Rows.{rows-codes}
 use Rattle.rows.proofs.Flat.{rows-length}
 use Rattle.rows_order.specs.Index.{key, arranged, Indexed}
@@ -49,9 +49,9 @@ module _ {d n : ℕ} {ws : List ℕ} (ready : Ready d n ws) (s : ℕ) {slot : Li
         cells-rows (plain d) measure table s (omega (arith, some, rows-length d n ws))
         ∙ ap (λ (xs : List (List ℕ)). map (filled (plain d) measure table) (cuboidOf (plain d) xs s)) (rows-codes d n ws)
 
-    pub slot-bytes : groupBytes (totalAt d n ws) keys slot ≡ flatMap cellBytes (cells (plain d) measure table s)
+    pub slot-bytes : groupBytes (rowTotal d n ws) keys slot ≡ flatMap cellBytes (cells (plain d) measure table s)
     unfolding groupBytes
-    slot-bytes = ap (flatMap cellBytes) (ap (summed (totalAt d n ws) keys nothing) e ∙ summed-cuboid d n s ws (ready .size) (ready .few) (ready .table) ∙ sym cells-grouped)
+    slot-bytes = ap (flatMap cellBytes) (ap (summed (rowTotal d n ws) keys nothing) e ∙ summed-cuboid d n s ws (ready .size) (ready .few) (ready .table) ∙ sym cells-grouped)
 
     index : Indexed n d s ws (arranged keys n)
     index = record { size = ready .size; places = arranged-length keys n; order = refl }

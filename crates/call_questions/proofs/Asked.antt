@@ -13,7 +13,7 @@ use Rattle.cube.specs.declared.Total.{Total}
 use Rattle.cube.specs.Measure.{Row, sums as measure, codesOf}
 use Rattle.cube.specs.Codes.{falls, set-of, plain}
 use Rattle.cube.specs.Condensed.{single, normals, Base, lookup, ours}
-use Rattle.rows.specs.Rows.{cut, rowAt, rowsOf, totalAt}
+use Rattle.rows.specs.Rows.{cut, rowAt, rowsOf, rowTotal}
 use Rattle.rows.proofs.Rows.{cut-length, rows-codes}
 use Rattle.rows.proofs.Flat.{rows-length}
 use Rattle.archive_entries.proofs.Limits.{normals-few}
@@ -65,8 +65,8 @@ module _ {d n : ℕ} {ws : List ℕ} (ready : Ready d n ws) (c : List ℕ) where
     alone = single (plain d) (cut d n ws) (set-of c) (rowAt (cut d n ws) i)
 
     -- one row does
-    pub asked-row : alone ≡ true → Cell (totalAt d n ws i .sum) (totalAt d n ws i .count) i ≡ asked
-    unfolding totalAt
+    pub asked-row : alone ≡ true → Cell (rowTotal d n ws i .sum) (rowTotal d n ws i .count) i ≡ asked
+    unfolding rowTotal
     asked-row e = sym (ap looked (answer-row d table base c i inside falls-here (rw same-codes e)))
 
     -- two or more do

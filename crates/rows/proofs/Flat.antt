@@ -14,7 +14,7 @@ use Rattle.fields.specs.Twos.{sumOf, lowOf, highOf}
 use Rattle.fields.specs.TwosLaws.{sum-words}
 use Rattle.cube.specs.declared.Total.{Total}
 use Rattle.cube.specs.Measure.{Row, nothing}
-use Rattle.rows.specs.Rows.{width, rowIn, cut, rowAt, rowsOf, totalAt}
+use Rattle.rows.specs.Rows.{width, rowOf, cut, rowAt, rowsOf, rowTotal}
 use Rattle.rows.proofs.Rows.{row-within, row-at}
 use Rattle.lists.proofs.Parts.{part-front}
 
@@ -24,14 +24,14 @@ wordsOf d ws i = take (width d) (drop (i * width d) ws)
 
 -- the row at a place of a flat list
 abbrev pub placed : ℕ → List ℕ → ℕ → Row Total
-placed d ws i = rowIn d (drop (i * width d) ws)
+placed d ws i = rowOf d (drop (i * width d) ws)
 
 -- what stands beyond the rows
 abbrev pub blank : Row Total
 blank = record { codes = []; total = nothing }
 
 placed-next : (d i : ℕ) (ws : List ℕ) → placed d (drop (width d) ws) i ≡ placed d ws (suc i)
-placed-next d i ws = ap (rowIn d) (simp (drop-drop, suc-mul, add-comm (width d) (i * width d)))
+placed-next d i ws = ap (rowOf d) (simp (drop-drop, suc-mul, add-comm (width d) (i * width d)))
 
 pub rows-length : (d n : ℕ) (ws : List ℕ) → length (rowsOf d n ws) ≡ n
 unfolding rowsOf
@@ -44,8 +44,8 @@ rows-at d zero i ws h = absurd (not-suc-le-zero h)
 rows-at d (suc n) zero ws h = simp zero-mul
 rows-at d (suc n) (suc i) ws h = rows-at d n i (drop (width d) ws) (le-of-suc-le-suc h) ∙ placed-next d i ws
 
-pub total-at : (d n i : ℕ) (ws : List ℕ) → i < n → totalAt d n ws i ≡ placed d ws i .total
-unfolding totalAt
+pub total-at : (d n i : ℕ) (ws : List ℕ) → i < n → rowTotal d n ws i ≡ placed d ws i .total
+unfolding rowTotal
 total-at d n i ws h = ap (λ (r : Row Total). r .total) (rows-at d n i ws h)
 
 -- one row more
@@ -53,7 +53,7 @@ pub rows-more : (d n : ℕ) (ws : List ℕ) → rowsOf d (suc n) ws ≡ rowsOf d
 unfolding rowsOf
 rows-more d zero ws = simp zero-mul
 rows-more d (suc n) ws =
-    ap (λ (l : List (Row Total)). rowIn d ws ∷ l)
+    ap (λ (l : List (Row Total)). rowOf d ws ∷ l)
     (rows-more d n (drop (width d) ws) ∙ ap (λ (r : Row Total). rowsOf d n (drop (width d) ws) ++ r ∷ []) (placed-next d n ws))
 
 -- the codes and the total of a row by its words
@@ -67,7 +67,7 @@ word-first : (d : ℕ) (l : List ℕ) → getD (take (width d) l) d 0 ≡ getD (
 word-first d l = ap (λ (k : ℕ). getD (take (width d) l) k 0) (sym (add-zero d)) ∙ word-in d 0 l (omega arith)
 
 pub total-words : (d n i : ℕ) (ws : List ℕ) → i < n
-    → record { sum = sumOf (getD (wordsOf d ws i) d 0) (getD (wordsOf d ws i) (d + 1) 0); count = getD (wordsOf d ws i) (d + 2) 0 } ≡ totalAt d n ws i
+    → record { sum = sumOf (getD (wordsOf d ws i) d 0) (getD (wordsOf d ws i) (d + 1) 0); count = getD (wordsOf d ws i) (d + 2) 0 } ≡ rowTotal d n ws i
 total-words d n i ws h =
     let l = drop (i * width d) ws in
     rw (word-first d l, word-in d 1 l (omega arith), word-in d 2 l (omega arith)) (sym (total-at d n i ws h))
@@ -76,7 +76,7 @@ total-words d n i ws h =
 back-words : (d k : ℕ) (l : List ℕ) → k < 3 → getD (drop d (take (width d) l)) k 0 ≡ getD (drop d l) k 0
 back-words d k l h = getD-drop d (take (width d) l) k 0 ∙ word-in d k l h
 
-pub row-front : (d : ℕ) (l : List ℕ) → rowIn d (take (width d) l) ≡ rowIn d l
+pub row-front : (d : ℕ) (l : List ℕ) → rowOf d (take (width d) l) ≡ rowOf d l
 row-front d l =
     let f = take-take d (width d) l (omega arith) in
     let p = ap₂ sumOf (back-words d 0 l (omega arith)) (back-words d 1 l (omega arith)) in
@@ -108,21 +108,21 @@ module _ (d k : ℕ) (ws m : List ℕ) (e : length m ≡ width d) (h : k * width
       part-front (take (k * width d) ws) (m ++ drop (width d) (drop (k * width d) ws)) (i * width d) (width d) w
       ∙ sym (part-front (take (k * width d) ws) (drop (k * width d) ws) (i * width d) (width d) w)
       ∙ ap (λ (l : List ℕ). wordsOf d l i) (take-append-drop (k * width d) ws) in
-      sym (row-front d (drop (i * width d) over)) ∙ ap (rowIn d) same ∙ row-front d (drop (i * width d) ws)
+      sym (row-front d (drop (i * width d) over)) ∙ ap (rowOf d) same ∙ row-front d (drop (i * width d) ws)
 
-  put-here : placed d over k ≡ rowIn d m
+  put-here : placed d over k ≡ rowOf d m
   put-here =
       let rest = drop (width d) (drop (k * width d) ws) in
-      ap (rowIn d) (drop-at (take (k * width d) ws) (m ++ rest) (k * width d) front)
-      ∙ sym (row-front d (m ++ rest)) ∙ ap (rowIn d) (take-at m rest (width d) e)
+      ap (rowOf d) (drop-at (take (k * width d) ws) (m ++ rest) (k * width d) front)
+      ∙ sym (row-front d (m ++ rest)) ∙ ap (rowOf d) (take-at m rest (width d) e)
 
-  rows-put : rowsOf d (suc k) over ≡ rowsOf d k ws ++ rowIn d m ∷ []
+  rows-put : rowsOf d (suc k) over ≡ rowsOf d k ws ++ rowOf d m ∷ []
   rows-put =
       rows-more d k over ∙ ap₂ (λ (l : List (Row Total)) (r : Row Total). l ++ r ∷ []) (rows-same d k over ws put-before) put-here
 
 -- the same of the part that row k has
 pub row-stored : (d k : ℕ) (ws m : List ℕ) → length m ≡ width d → k * width d + width d ≤ length ws
-    → rowsOf d (k + 1) (putMid (k * width d) (k * width d + width d - k * width d) ws m) ≡ rowsOf d k ws ++ rowIn d m ∷ []
+    → rowsOf d (k + 1) (putMid (k * width d) (k * width d + width d - k * width d) ws m) ≡ rowsOf d k ws ++ rowOf d m ∷ []
 row-stored d k ws m e h =
     let w : k * width d + width d - k * width d ≡ width d = omega arith in
     rw (w, add-one) (rows-put d k ws m e h)
@@ -155,7 +155,7 @@ module _ (d : ℕ) (l : List ℕ) (z : ℤ) (n : ℕ) (e : length l ≡ width d)
   count-there : getD (drop d written) 2 0 ≡ n
   count-there = getD-drop d written 2 0 ∙ getD-set-same high (d + 2) n 0 (simp length-set (omega (arith, e)))
 
-  pub total-put : mag z < 2 ^ 63 → rowIn d written ≡ record { codes = take d l; total = record { sum = z; count = n } }
+  pub total-put : mag z < 2 ^ 63 → rowOf d written ≡ record { codes = take d l; total = record { sum = z; count = n } }
   total-put h =
       let s = ap₂ sumOf low-there high-there ∙ sum-words z h in
       λ j. record { codes = codes-kept j; total = record { sum = s j; count = count-there j } }

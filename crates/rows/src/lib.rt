@@ -6,7 +6,7 @@ ghost use lib.ListN.{length, take, drop};
 ghost use Rattle.lists.specs.Lists.{Distinct};
 ghost use Rattle.cube.specs.Codes.{plain};
 ghost use Rattle.cube.specs.Condensed.{single};
-ghost use Rattle.rows.specs.Rows.{width, rowIn, cut, rowAt, totalAt};
+ghost use Rattle.rows.specs.Rows.{width, rowOf, cut, rowAt, rowTotal};
 ghost use Rattle.rows.specs.Compare.{compared};
 
 // The words of a row.
@@ -32,7 +32,7 @@ pub fn row_of(rows: &[u32], n: usize, dims: usize, row: usize) -> &[u32]
 // The total of a row.
 pub fn total_at(rows: &[u32], n: usize, dims: usize, row: usize) -> Total
     requires { ⌜ (n * width dims ≡ length (now rows)) × (row < n) ⌝ }
-    ensures { λ r. ⌜ r ≡ totalAt dims n (now (rows .entry)) row ⌝ }
+    ensures { λ r. ⌜ r ≡ rowTotal dims n (now (rows .entry)) row ⌝ }
 {
     let words = words_of(rows, n, dims, row);
     let sum = fields::sum_of(words[dims], words[dims + 1]);
@@ -43,7 +43,7 @@ pub fn total_at(rows: &[u32], n: usize, dims: usize, row: usize) -> Total
 // Writes a total behind the codes of a row.
 pub fn put_total(row: &mut [u32], dims: usize, total: Total)
     requires { ⌜ length (now row) ≡ width dims ⌝ }
-    ensures { λ _. ⌜ rowIn dims (now (row .exit)) ≡ record { codes = take dims (now (row .entry)); total = total } ⌝ }
+    ensures { λ _. ⌜ rowOf dims (now (row .exit)) ≡ record { codes = take dims (now (row .entry)); total = total } ⌝ }
 {
     let sum = total.sum;
     row[dims] = fields::low_of(sum);

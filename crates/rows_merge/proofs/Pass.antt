@@ -10,7 +10,7 @@ use Rattle.cube.specs.declared.Total.{Total}
 use Rattle.cube.specs.Measure.{Row, plus, sums, codesOf}
 use Rattle.cube.specs.Bounds.{most, Bounded}
 use Rattle.cube.specs.Codes.{cell}
-use Rattle.rows.specs.Rows.{width, cut, rowAt, rowsOf, totalAt}
+use Rattle.rows.specs.Rows.{width, cut, rowAt, rowsOf, rowTotal}
 use Rattle.rows.proofs.Rows.{rows-codes}
 use Rattle.rows.proofs.Flat.{blank, rows-length}
 use Rattle.rows_ready.proofs.Ready.{ready-row}
@@ -38,14 +38,14 @@ module _ {d n : ℕ} {ws : List ℕ} {m : ℕ} {ws′ : List ℕ} (p : Pair d n 
 
   -- the total of row i of the first list, and of row j of the second
   abbrev mine : ℕ → Total
-  mine = totalAt d n ws
+  mine = rowTotal d n ws
 
   abbrev other : ℕ → Total
-  other = totalAt d m ws′
+  other = rowTotal d m ws′
 
   -- two rows can be added
   pub pair-adds : (i j : ℕ) → i < n → j < m → Bounded (mine i) × Bounded (other j) × (mine i .count + other j .count ≤ most)
-  unfolding totalAt
+  unfolding rowTotal
   pair-adds i j h k =
       let x = at-in blank first i (omega (arith, h, rows-length d n ws)) in
       let y = at-in blank second j (omega (arith, k, rows-length d m ws′)) in
@@ -93,7 +93,7 @@ module _ {d n : ℕ} {ws : List ℕ} {m : ℕ} {ws′ : List ℕ} (p : Pair d n 
       }
 
       pub passed-both : here ≡ Both → x ≡ rowAt (cut d n ws) i → t ≡ plus (mine i) (other j) → Passed d n ws m ws′ (i + 1) (j + 1) done′
-      unfolding totalAt
+      unfolding rowTotal
       passed-both e q f =
           let h = turn-both e in
           let r : record { codes = cell 255 x; total = t } ≡ asOne sums (getD first i blank) (getD second j blank) =

@@ -12,7 +12,7 @@ use Rattle.cube.specs.Measure.{Row}
 use Rattle.cube.specs.Codes.{Coded, cell, plain}
 use Rattle.cube.specs.Condensed.{Base}
 use Rattle.cube.proofs.Codes.{cell-wide}
-use Rattle.rows.specs.Rows.{width, rowIn, cut, rowAt, rowsOf, totalAt}
+use Rattle.rows.specs.Rows.{width, rowOf, cut, rowAt, rowsOf, rowTotal}
 use Rattle.rows.proofs.Rows.{rows-codes, row-at, row-length}
 use Rattle.rows.proofs.Flat.{blank, rows-at, total-at, row-front}
 use Rattle.rows_ready.specs.Ready.{Ready}
@@ -25,8 +25,8 @@ rows-front d zero ws = refl
 rows-front d (suc n) ws =
     let w = width d in
     let e : suc n * w ≡ w + n * w = omega (arith, suc-mul n w) in
-    let first : rowIn d (take (w + n * w) ws) ≡ rowIn d ws =
-    sym (row-front d (take (w + n * w) ws)) ∙ ap (rowIn d) (take-take w (w + n * w) ws (omega arith)) ∙ row-front d ws in
+    let first : rowOf d (take (w + n * w) ws) ≡ rowOf d ws =
+    sym (row-front d (take (w + n * w) ws)) ∙ ap (rowOf d) (take-take w (w + n * w) ws (omega arith)) ∙ row-front d ws in
     rw e (ap₂ (λ (r : Row Total) (l : List (Row Total)). r ∷ l) first (ap (rowsOf d n) (drop-take w (n * w) ws) ∙ rows-front d n (drop w ws)))
 
 -- ---- base rows
@@ -43,7 +43,7 @@ module _ {d n : ℕ} {ws : List ℕ} (ready : Ready d n ws) where
 
   module _ (i : ℕ) (h : i < n) where
     -- the cell of a row on all dimensions, with the row's total, is the row
-    pub ready-row : {x : List ℕ} {t : Total} → x ≡ rowAt (cut d n ws) i → t ≡ totalAt d n ws i
+    pub ready-row : {x : List ℕ} {t : Total} → x ≡ rowAt (cut d n ws) i → t ≡ rowTotal d n ws i
         → record { codes = cell 255 x; total = t } ≡ getD table i blank
     ready-row {x} {t} e f =
         let long : length x ≡ d = ap length e ∙ row-length d n i ws h (ready .size) in

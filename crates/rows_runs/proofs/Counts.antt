@@ -12,7 +12,7 @@ use Rattle.lists.proofs.Members.{at-in}
 use Rattle.cube.specs.declared.Total.{Total}
 use Rattle.cube.specs.Measure.{Row}
 use Rattle.cube.specs.Bounds.{Bounded, countOf, Summable}
-use Rattle.rows.specs.Rows.{rowsOf, totalAt}
+use Rattle.rows.specs.Rows.{rowsOf, rowTotal}
 use Rattle.rows_order.specs.Index.{insert, arranged}
 use Rattle.rows_runs.specs.Totals.{amountAt, amountsAt}
 use Rattle.lists.proofs.Parts.{slice-in}
@@ -49,20 +49,20 @@ module _ (totals : ℕ → Total) where
         omega (arith, count-insert n (arranged key n), ap (λ (t : Total). t .count) (h n (omega arith)), count-arranged d n ws (λ i k. h i (omega arith)), ap countOf (rows-more d n ws), count-append (rowsOf d n ws) (placed d ws n ∷ []))
 
 module _ (d n : ℕ) (ws : List ℕ) (s : Summable (rowsOf d n ws)) where
-  pub total-bounded : (i : ℕ) → i < n → Bounded (totalAt d n ws i)
-  unfolding totalAt
+  pub total-bounded : (i : ℕ) → i < n → Bounded (rowTotal d n ws i)
+  unfolding rowTotal
   total-bounded i h = let rows = rowsOf d n ws in s .each (getD rows i blank) (at-in blank rows i (rw rows-length h))
 
-  amounts-bounded : (l : List ℕ) → ((i : ℕ) → i ∈ l → i < n) → (r : Row Total) → r ∈ amountsAt (totalAt d n ws) l → Bounded (r .total)
+  amounts-bounded : (l : List ℕ) → ((i : ℕ) → i ∈ l → i < n) → (r : Row Total) → r ∈ amountsAt (rowTotal d n ws) l → Bounded (r .total)
   unfolding amountsAt
   amounts-bounded l h r m =
-      let g = Memᴰ·of-map (amountAt (totalAt d n ws)) l m in
+      let g = Memᴰ·of-map (amountAt (rowTotal d n ws)) l m in
       subst (λ (q : Row Total). Bounded (q .total)) (g .2) (total-bounded (g .0) (h (g .0) (g .1)))
 
   -- any part of the rows in order can be totalled, where the rows can
-  pub arranged-summable : (key : ℕ → List ℕ) (from end : ℕ) → Summable (amountsAt (totalAt d n ws) (slice from end (arranged key n)))
+  pub arranged-summable : (key : ℕ → List ℕ) (from end : ℕ) → Summable (amountsAt (rowTotal d n ws) (slice from end (arranged key n)))
   arranged-summable key from end =
-      let totals = totalAt d n ws in
+      let totals = rowTotal d n ws in
       record {
         each = amounts-bounded (slice from end (arranged key n)) (λ i m. arranged-in key n (slice-in from end (arranged key n) m));
         few = omega (arith, count-drop totals from (take end (arranged key n)), count-take totals end (arranged key n), count-arranged totals key d n ws (λ i h. total-at d n i ws h), s .few);

@@ -15,7 +15,7 @@ use Rattle.cube.specs.Cube.{within, total, cuboid}
 use Rattle.cube.specs.Condensed.{shared}
 use Rattle.cube.specs.Bounds.{Summable}
 use Rattle.cube.specs.Table.{Table}
-use Rattle.rows.specs.Rows.{cut, rowsOf, totalAt}
+use Rattle.rows.specs.Rows.{cut, rowsOf, rowTotal}
 use Rattle.rows.proofs.Rows.{cut-length, rows-codes}
 use Rattle.rows_order.specs.Index.{key, arranged, Indexed}
 use Rattle.rows_runs.specs.Runs.{Run, runs}
@@ -29,10 +29,10 @@ use Rattle.rows_runs.proofs.Groups.{cells-are, run-rows}
 
 -- the total of rows at places, by the rows themselves
 total-picked : (d n : ℕ) (ws l : List ℕ) (t : Total)
-    → foldl (λ t r. plus t (r .total)) t (map (amountAt (totalAt d n ws)) l) ≡ foldl (λ t r. plus t (r .total)) t (map (λ i. getD (rowsOf d n ws) i blank) l)
-unfolding totalAt
+    → foldl (λ t r. plus t (r .total)) t (map (amountAt (rowTotal d n ws)) l) ≡ foldl (λ t r. plus t (r .total)) t (map (λ i. getD (rowsOf d n ws) i blank) l)
+unfolding rowTotal
 total-picked d n ws [] t = refl
-total-picked d n ws (i ∷ l) t = total-picked d n ws l (plus t (totalAt d n ws i))
+total-picked d n ws (i ∷ l) t = total-picked d n ws l (plus t (rowTotal d n ws i))
 
 -- two or more rows
 abbrev pub crowded : Run → Bool
@@ -90,7 +90,7 @@ module _ {n dims set : ℕ} {ws index : List ℕ} (x : Indexed n dims set ws ind
   table = rowsOf dims n ws
 
   abbrev totals : ℕ → Total
-  totals = totalAt dims n ws
+  totals = rowTotal dims n ws
 
   -- any part of the index names rows that can be totalled
   pub indexed-summed : Summable table → (from end : ℕ) → end ≤ n → Summed totals n index from end

@@ -13,7 +13,7 @@ use Rattle.cube.specs.Codes.{plain}
 use Rattle.cube.specs.Cube.{filled, cuboid}
 use Rattle.cube.specs.Condensed.{shared}
 use Rattle.cube.specs.Table.{Table}
-use Rattle.rows.specs.Rows.{width, cut, rowsOf, totalAt}
+use Rattle.rows.specs.Rows.{width, cut, rowsOf, rowTotal}
 use Rattle.rows_order.specs.Index.{key, arranged, Indexed}
 use Rattle.rows_runs.specs.Runs.{Run, members, runs}
 use Rattle.rows_runs.specs.Totals.{runTotal}
@@ -35,7 +35,7 @@ module _ (dims n set : ℕ) (ws : List ℕ) (size : n * width dims ≡ length ws
   table = rowsOf dims n ws
 
   abbrev totals : ℕ → Total
-  totals = totalAt dims n ws
+  totals = rowTotal dims n ws
 
   abbrev group : List ℕ → Row Total
   group = filled (plain dims) measure table

@@ -10,7 +10,7 @@ ghost use Rattle.fields_walk.specs.Walked.{Walked};
 ghost use Rattle.cube.specs.Measure.{sums as measure};
 ghost use Rattle.cube.specs.Bounds.{Summable};
 ghost use Rattle.cube.specs.Table.{Table, folded};
-ghost use Rattle.rows.specs.Rows.{width, rowIn, rowsOf};
+ghost use Rattle.rows.specs.Rows.{width, rowOf, rowsOf};
 ghost use Rattle.table.specs.Reading.{row, body, readTable, recordThere, rowsAt, Rowed, tableAnswer, Stored};
 
 // What reading a table answers: a stop's number, or D and the number of base rows.
@@ -87,7 +87,7 @@ fn check_table(s: &[u8]) -> Walk
 // The row at a place as words: its codes, its reading as a sum, and a count of one.
 fn fill_row(row: &mut [u32], s: &[u8], dims: usize, at: usize)
     requires { ⌜ (length (now row) ≡ width dims) × (at + (4 * dims + 4) ≤ length (now s)) ⌝ }
-    ensures { λ _. ⌜ rowIn dims (now (row .exit)) ≡ recordThere (now (s .entry)) dims at ⌝ }
+    ensures { λ _. ⌜ rowOf dims (now (row .exit)) ≡ recordThere (now (s .entry)) dims at ⌝ }
 {
     fields::read_words(s, at, &mut row[..dims]);
     let sum = fields::reading_at(s, at + 4 * dims);

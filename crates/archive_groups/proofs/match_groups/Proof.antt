@@ -7,7 +7,7 @@ use denote.Ref.{now}
 use lib.ListN.{length, getD}
 use Rattle.cube.specs.declared.Total.{Total}
 use Rattle.cube.specs.Measure.{Row, nothing}
-use Rattle.rows.specs.Rows.{cut, rowAt, totalAt}
+use Rattle.rows.specs.Rows.{cut, rowAt, rowTotal}
 use Rattle.rows_order.specs.Index.{key}
 use Rattle.rows_runs.proofs.Totals.{Room}
 use Rattle.archive_entries.specs.Layout.{cellBytes}
@@ -26,8 +26,8 @@ use Rattle.archive_groups.proofs.match_groups.Tie as tie
 
 abbrev Inv-loop : tie.InvT-loop
 Inv-loop s start rows n dims set slot missing at₀ total₀ i₀ i-end at total i =
-    (i ≤ length slot) × Room total (rowsFrom (totalAt dims n rows) (key set (cut dims n rows)) slot i)
-    × Matching (groupBytes (totalAt dims n rows) (key set (cut dims n rows)) slot) (left (totalAt dims n rows) (key set (cut dims n rows)) slot total i) s start at
+    (i ≤ length slot) × Room total (rowsFrom (rowTotal dims n rows) (key set (cut dims n rows)) slot i)
+    × Matching (groupBytes (rowTotal dims n rows) (key set (cut dims n rows)) slot) (left (rowTotal dims n rows) (key set (cut dims n rows)) slot total i) s start at
 
 abbrev μ-loop : tie.MeasureT-loop
 μ-loop s start rows n dims set slot missing at₀ total₀ i₀ i-end at total i = length slot - i
@@ -36,7 +36,7 @@ loop-holds : tie.Need-loop-holds Inv-loop μ-loop
 unfolding left groupBytes
 loop-holds c =
     let a = c .before .before .before .before .args in
-    (search needs, adding-none (totalAt (a .dims) (a .n) (now (a .rows))) (key (a .set) (cut (a .dims) (a .n) (now (a .rows)))) (now (a .slot)) (c .before .before .before .before .pre .0 .summable), matching-none _ _ _ (c .before .before .before .before .pre .1))
+    (search needs, adding-none (rowTotal (a .dims) (a .n) (now (a .rows))) (key (a .set) (cut (a .dims) (a .n) (now (a .rows)))) (now (a .slot)) (c .before .before .before .before .pre .0 .summable), matching-none _ _ _ (c .before .before .before .before .pre .1))
 
 add-row-requires : tie.Need-add-row-requires Inv-loop μ-loop
 add-row-requires c κs =
@@ -45,7 +45,7 @@ add-row-requires c κs =
     let l = c .before .before .before .loop in
     let h : l .i < length (now (a .slot)) = c .before .before .loop-test .taken in
     let n = entry-named (now (a .slot)) (a .n) (l .i) (p .names) h in
-    let b = adding-bounds (totalAt (a .dims) (a .n) (now (a .rows))) (key (a .set) (cut (a .dims) (a .n) (now (a .rows)))) (now (a .slot)) (l .total) (l .i) h (l .inv .1) in
+    let b = adding-bounds (rowTotal (a .dims) (a .n) (now (a .rows))) (key (a .set) (cut (a .dims) (a .n) (now (a .rows)))) (now (a .slot)) (l .total) (l .i) h (l .inv .1) in
     rw (c .row-in .ensures .0) (p .size, n, b .0, b .1, b .2)
 
 loop-again : tie.Need-loop-again Inv-loop μ-loop
@@ -56,8 +56,8 @@ loop-again c =
     let h : l .i < length (now (a .slot)) = c .before .before .before .before .before .loop-test .taken in
     rw (c .before .before .add-row .ensures, c .before .before .before .row-in .ensures .0) (
       search needs,
-      adding-on (totalAt (a .dims) (a .n) (now (a .rows))) keys (now (a .slot)) (l .total) (l .i) h (l .inv .1),
-      rw (left-on (totalAt (a .dims) (a .n) (now (a .rows))) keys (now (a .slot)) (l .total) (l .i) h (sym (c .before .end-in .ensures .0) ∙ c .if1 .taken)) at (l .inv .2),
+      adding-on (rowTotal (a .dims) (a .n) (now (a .rows))) keys (now (a .slot)) (l .total) (l .i) h (l .inv .1),
+      rw (left-on (rowTotal (a .dims) (a .n) (now (a .rows))) keys (now (a .slot)) (l .total) (l .i) h (sym (c .before .end-in .ensures .0) ∙ c .if1 .taken)) at (l .inv .2),
     )
 
 -- the row in hand
@@ -76,17 +76,17 @@ ended c =
     let a = c .before .before .before .before .before .before .before .before .before .before .before .before .before .before .args in
     let l = c .before .before .before .before .before .before .before .before .before .loop in
     let row = rowIn (getD (now (a .slot)) (l .i) 0) in
-    record { codes = key (a .set) (cut (a .dims) (a .n) (now (a .rows))) row; total = plusRow (totalAt (a .dims) (a .n) (now (a .rows))) (l .total) row }
+    record { codes = key (a .set) (cut (a .dims) (a .n) (now (a .rows))) row; total = plusRow (rowTotal (a .dims) (a .n) (now (a .rows))) (l .total) row }
 
 matching : (c : tie.After-match-group Inv-loop μ-loop) → let a = c .before .before .before .before .before .before .before .before .before .before .before .before .before .before .args in
     let l = c .before .before .before .before .before .before .before .before .before .loop in
     let keys = key (a .set) (cut (a .dims) (a .n) (now (a .rows))) in
-    Matching (groupBytes (totalAt (a .dims) (a .n) (now (a .rows))) keys (now (a .slot))) (cellBytes (ended c) ++ left (totalAt (a .dims) (a .n) (now (a .rows))) keys (now (a .slot)) nothing (l .i + 1)) (now (a .s)) (a .start) (l .at)
+    Matching (groupBytes (rowTotal (a .dims) (a .n) (now (a .rows))) keys (now (a .slot))) (cellBytes (ended c) ++ left (rowTotal (a .dims) (a .n) (now (a .rows))) keys (now (a .slot)) nothing (l .i + 1)) (now (a .s)) (a .start) (l .at)
 matching c =
     let a = c .before .before .before .before .before .before .before .before .before .before .before .before .before .before .args in
     let l = c .before .before .before .before .before .before .before .before .before .loop in
     let keys = key (a .set) (cut (a .dims) (a .n) (now (a .rows))) in
-    rw (left-end (totalAt (a .dims) (a .n) (now (a .rows))) keys (now (a .slot)) (l .total) (l .i) (c .before .before .before .before .before .before .before .before .loop-test .taken) (λ z. c .before .before .before .if1 .left (c .before .before .before .before .end-in .ensures .0 ∙ z))) at (l .inv .2)
+    rw (left-end (rowTotal (a .dims) (a .n) (now (a .rows))) keys (now (a .slot)) (l .total) (l .i) (c .before .before .before .before .before .before .before .before .loop-test .taken) (λ z. c .before .before .before .if1 .left (c .before .before .before .before .end-in .ensures .0 ∙ z))) at (l .inv .2)
 
 -- what was compared is that group
 matched : (c : tie.After-match-group Inv-loop μ-loop) → Matched (now (c .before .before .before .before .before .before .before .before .before .before .before .before .before .before .args .s)) (c .before .before .before .before .before .before .before .before .before .loop .at) (cellBytes (ended c)) (c .match-group .result)
@@ -102,7 +102,7 @@ matched c =
     ap (masked m) (c .before .before .row-of .ensures .0)
     ∙ ap (λ (z : ℕ). masked m (rowAt (cut (a .dims) (a .n) (now (a .rows))) z)) e
     ∙ masked-key (a .dims) (a .n) (a .set) r (now (a .rows)) m (p .dims) (p .valid) (c .before .before .before .before .before .before .before .before .before .before .mask-of .ensures) n in
-    let total = c .before .before .before .before .before .add-row .ensures ∙ ap (plusRow (totalAt (a .dims) (a .n) (now (a .rows))) (l .total)) e in
+    let total = c .before .before .before .before .before .add-row .ensures ∙ ap (plusRow (rowTotal (a .dims) (a .n) (now (a .rows))) (l .total)) e in
     matched-as (ap₂ (λ (x : List ℕ) (t : Total). cellBytes (record { codes = x; total = t })) codes total) (c .match-group .ensures)
 
 returns : tie.Need-returns Inv-loop μ-loop
@@ -113,7 +113,7 @@ loop-again-2 c =
     let a = c .before .before .before .before .before .before .before .before .before .before .before .before .before .before .before .before .before .args in
     let l = c .before .before .before .before .before .before .before .before .before .before .before .before .loop in (
       search needs,
-      adding-end (totalAt (a .dims) (a .n) (now (a .rows))) (key (a .set) (cut (a .dims) (a .n) (now (a .rows)))) (now (a .slot)) (l .total) (l .i) (c .before .before .before .before .before .before .before .before .before .before .before .loop-test .taken) (l .inv .1),
+      adding-end (rowTotal (a .dims) (a .n) (now (a .rows))) (key (a .set) (cut (a .dims) (a .n) (now (a .rows)))) (now (a .slot)) (l .total) (l .i) (c .before .before .before .before .before .before .before .before .before .before .before .loop-test .taken) (l .inv .1),
       matching-more (cellBytes (ended (c .before .before .before))) _ (matching (c .before .before .before)) (matched-told (c .before .next .given .1) (matched (c .before .before .before))),
     )
 
@@ -121,7 +121,7 @@ returns-2 : tie.Need-returns-2 Inv-loop μ-loop
 returns-2 c =
     let a = c .before .before .before .before .before .before .args in
     let l = c .before .loop in
-    matching-done (rw (left-none (totalAt (a .dims) (a .n) (now (a .rows))) (key (a .set) (cut (a .dims) (a .n) (now (a .rows)))) (now (a .slot)) (l .total) (l .i) (c .loop-test .left)) at (l .inv .2))
+    matching-done (rw (left-none (rowTotal (a .dims) (a .n) (now (a .rows))) (key (a .set) (cut (a .dims) (a .n) (now (a .rows)))) (now (a .slot)) (l .total) (l .i) (c .loop-test .left)) at (l .inv .2))
 
 add-i-2 : tie.Need-add-i-2 Inv-loop μ-loop
 add-i-2 c = omega (arith, c .before .before .before .before .before .before .before .before .before .before .before .loop-test .taken, c .before .before .before .before .before .before .before .before .before .before .before .before .before .before .before .before .before .pre .0 .few)

@@ -10,7 +10,7 @@ use Rattle.cube.specs.Measure.{Row, nothing}
 use Rattle.fields.specs.Written.{Wrote}
 use borrow.Rule.Slice.PartMut.{midOf}
 use Rattle.cube.proofs.Codes.{length-cell}
-use Rattle.rows.specs.Rows.{cut, rowAt, totalAt}
+use Rattle.rows.specs.Rows.{cut, rowAt, rowTotal}
 use Rattle.rows.proofs.Rows.{row-length}
 use Rattle.rows_order.specs.Index.{key}
 use Rattle.rows_runs.proofs.Totals.{Room}
@@ -31,8 +31,8 @@ use Rattle.archive_groups.proofs.put_groups.Tie as tie
 
 abbrev Inv-loop : tie.InvT-loop
 Inv-loop out₀ rows n dims set slot missing at₀ total₀ i₀ i-end out at total i =
-    (i ≤ length slot) × Room total (rowsFrom (totalAt dims n rows) (key set (cut dims n rows)) slot i)
-    × Writing (groupBytes (totalAt dims n rows) (key set (cut dims n rows)) slot) (left (totalAt dims n rows) (key set (cut dims n rows)) slot total i) out₀ out at
+    (i ≤ length slot) × Room total (rowsFrom (rowTotal dims n rows) (key set (cut dims n rows)) slot i)
+    × Writing (groupBytes (rowTotal dims n rows) (key set (cut dims n rows)) slot) (left (rowTotal dims n rows) (key set (cut dims n rows)) slot total i) out₀ out at
 
 abbrev μ-loop : tie.MeasureT-loop
 μ-loop out₀ rows n dims set slot missing at₀ total₀ i₀ i-end out at total i = length slot - i
@@ -41,7 +41,7 @@ loop-holds : tie.Need-loop-holds Inv-loop μ-loop
 unfolding left groupBytes
 loop-holds c =
     let a = c .before .before .before .before .args in
-    (search needs, adding-none (totalAt (a .dims) (a .n) (now (a .rows))) (key (a .set) (cut (a .dims) (a .n) (now (a .rows)))) (now (a .slot)) (c .before .before .before .before .pre .0 .summable), writing-none _ _)
+    (search needs, adding-none (rowTotal (a .dims) (a .n) (now (a .rows))) (key (a .set) (cut (a .dims) (a .n) (now (a .rows)))) (now (a .slot)) (c .before .before .before .before .pre .0 .summable), writing-none _ _)
 
 add-row-requires : tie.Need-add-row-requires Inv-loop μ-loop
 add-row-requires c κs =
@@ -50,7 +50,7 @@ add-row-requires c κs =
     let l = c .before .before .before .loop in
     let h : l .i < length (now (a .slot)) = c .before .before .loop-test .taken in
     let n = entry-named (now (a .slot)) (a .n) (l .i) (p .names) h in
-    let b = adding-bounds (totalAt (a .dims) (a .n) (now (a .rows))) (key (a .set) (cut (a .dims) (a .n) (now (a .rows)))) (now (a .slot)) (l .total) (l .i) h (l .inv .1) in
+    let b = adding-bounds (rowTotal (a .dims) (a .n) (now (a .rows))) (key (a .set) (cut (a .dims) (a .n) (now (a .rows)))) (now (a .slot)) (l .total) (l .i) h (l .inv .1) in
     rw (c .row-in .ensures .0) (p .size, n, b .0, b .1, b .2)
 
 loop-again : tie.Need-loop-again Inv-loop μ-loop
@@ -61,8 +61,8 @@ loop-again c =
     let h : l .i < length (now (a .slot)) = c .before .before .before .before .before .loop-test .taken in
     rw (c .before .before .add-row .ensures, c .before .before .before .row-in .ensures .0) (
       search needs,
-      adding-on (totalAt (a .dims) (a .n) (now (a .rows))) keys (now (a .slot)) (l .total) (l .i) h (l .inv .1),
-      rw (left-on (totalAt (a .dims) (a .n) (now (a .rows))) keys (now (a .slot)) (l .total) (l .i) h (sym (c .before .end-in .ensures .0) ∙ c .if1 .taken)) at (l .inv .2),
+      adding-on (rowTotal (a .dims) (a .n) (now (a .rows))) keys (now (a .slot)) (l .total) (l .i) h (l .inv .1),
+      rw (left-on (rowTotal (a .dims) (a .n) (now (a .rows))) keys (now (a .slot)) (l .total) (l .i) h (sym (c .before .end-in .ensures .0) ∙ c .if1 .taken)) at (l .inv .2),
     )
 
 -- the row in hand
@@ -78,17 +78,17 @@ ended c =
     let a = c .before .before .before .before .before .before .before .before .before .before .before .before .args in
     let l = c .before .before .before .before .before .before .before .loop in
     let row = rowIn (getD (now (a .slot)) (l .i) 0) in
-    record { codes = key (a .set) (cut (a .dims) (a .n) (now (a .rows))) row; total = plusRow (totalAt (a .dims) (a .n) (now (a .rows))) (l .total) row }
+    record { codes = key (a .set) (cut (a .dims) (a .n) (now (a .rows))) row; total = plusRow (rowTotal (a .dims) (a .n) (now (a .rows))) (l .total) row }
 
 writing : (c : tie.After-row-of Inv-loop μ-loop) → let a = c .before .before .before .before .before .before .before .before .before .before .before .before .args in
     let l = c .before .before .before .before .before .before .before .loop in
     let keys = key (a .set) (cut (a .dims) (a .n) (now (a .rows))) in
-    Writing (groupBytes (totalAt (a .dims) (a .n) (now (a .rows))) keys (now (a .slot))) (cellBytes (ended c) ++ left (totalAt (a .dims) (a .n) (now (a .rows))) keys (now (a .slot)) nothing (l .i + 1)) (now (a .out)) (l .out) (l .at)
+    Writing (groupBytes (rowTotal (a .dims) (a .n) (now (a .rows))) keys (now (a .slot))) (cellBytes (ended c) ++ left (rowTotal (a .dims) (a .n) (now (a .rows))) keys (now (a .slot)) nothing (l .i + 1)) (now (a .out)) (l .out) (l .at)
 writing c =
     let a = c .before .before .before .before .before .before .before .before .before .before .before .before .args in
     let l = c .before .before .before .before .before .before .before .loop in
     let keys = key (a .set) (cut (a .dims) (a .n) (now (a .rows))) in
-    rw (left-end (totalAt (a .dims) (a .n) (now (a .rows))) keys (now (a .slot)) (l .total) (l .i) (c .before .before .before .before .before .before .loop-test .taken) (λ z. c .before .if1 .left (c .before .before .end-in .ensures .0 ∙ z))) at (l .inv .2)
+    rw (left-end (rowTotal (a .dims) (a .n) (now (a .rows))) keys (now (a .slot)) (l .total) (l .i) (c .before .before .before .before .before .before .loop-test .taken) (λ z. c .before .if1 .left (c .before .before .end-in .ensures .0 ∙ z))) at (l .inv .2)
 
 -- the cell has a code for each dimension
 long : (c : tie.After-row-of Inv-loop μ-loop) → length (cellBytes (ended c)) ≡ 4 * c .before .before .before .before .before .before .before .before .before .before .before .before .args .dims + 12
@@ -127,7 +127,7 @@ wrote c =
     ap (masked m) (c .before .before .before .before .before .row-of .ensures .0)
     ∙ ap (λ (z : ℕ). masked m (rowAt (cut (a .dims) (a .n) (now (a .rows))) z)) e
     ∙ masked-key (a .dims) (a .n) (a .set) r (now (a .rows)) m (p .dims) (p .valid) (c .before .before .before .before .before .before .before .before .before .before .before .before .before .mask-of .ensures) n in
-    let total = c .before .before .before .before .before .before .before .before .add-row .ensures ∙ ap (plusRow (totalAt (a .dims) (a .n) (now (a .rows))) (l .total)) e in
+    let total = c .before .before .before .before .before .before .before .before .add-row .ensures ∙ ap (plusRow (rowTotal (a .dims) (a .n) (now (a .rows))) (l .total)) e in
     wrote-as (ap₂ (λ (x : List ℕ) (t : Total). cellBytes (record { codes = x; total = t })) codes total) (c .before .before .put-group .ensures)
 
 add-at : tie.Need-add-at Inv-loop μ-loop
@@ -138,7 +138,7 @@ loop-again-2 c =
     let a = c .before .before .before .before .before .before .before .before .before .before .before .before .before .before .before .before .before .args in
     let l = c .before .before .before .before .before .before .before .before .before .before .before .before .loop in (
       search needs,
-      adding-end (totalAt (a .dims) (a .n) (now (a .rows))) (key (a .set) (cut (a .dims) (a .n) (now (a .rows)))) (now (a .slot)) (l .total) (l .i) (c .before .before .before .before .before .before .before .before .before .before .before .loop-test .taken) (l .inv .1),
+      adding-end (rowTotal (a .dims) (a .n) (now (a .rows))) (key (a .set) (cut (a .dims) (a .n) (now (a .rows)))) (now (a .slot)) (l .total) (l .i) (c .before .before .before .before .before .before .before .before .before .before .before .loop-test .taken) (l .inv .1),
       writing-more (cellBytes (ended (c .before .before .before .before .before))) _ (writing (c .before .before .before .before .before)) (wrote c),
     )
 
@@ -149,7 +149,7 @@ returns : tie.Need-returns Inv-loop μ-loop
 returns c =
     let a = c .before .before .before .before .before .before .args in
     let l = c .before .loop in
-    writing-done (rw (left-none (totalAt (a .dims) (a .n) (now (a .rows))) (key (a .set) (cut (a .dims) (a .n) (now (a .rows)))) (now (a .slot)) (l .total) (l .i) (c .loop-test .left)) at (l .inv .2))
+    writing-done (rw (left-none (rowTotal (a .dims) (a .n) (now (a .rows))) (key (a .set) (cut (a .dims) (a .n) (now (a .rows)))) (now (a .slot)) (l .total) (l .i) (c .loop-test .left)) at (l .inv .2))
 
 add-i-2 : tie.Need-add-i-2 Inv-loop μ-loop
 add-i-2 c = omega (arith, c .before .before .before .before .before .before .before .before .before .before .before .loop-test .taken, c .before .before .before .before .before .before .before .before .before .before .before .before .before .before .before .before .before .pre .0 .few)

@@ -9,14 +9,14 @@ use lib.Seq.{drop-cons}
 use denote.Ref.{now}
 use borrow.Author.Needs.{needs}
 use Rattle.cube.specs.Bounds.{countOf}
-use Rattle.rows.specs.Rows.{rowsOf, totalAt}
+use Rattle.rows.specs.Rows.{rowsOf, rowTotal}
 use Rattle.rows.proofs.Flat.{blank, rows-length}
 use Rattle.rows_merge.proofs.readings_in.Statement.{statement}
 use Rattle.rows_merge.proofs.readings_in.Tie as tie
 
 -- the readings of row i, and of the rows behind it
-count-next : (d n i : ℕ) (ws : List ℕ) → i < n → countOf (drop i (rowsOf d n ws)) ≡ totalAt d n ws i .count + countOf (drop (i + 1) (rowsOf d n ws))
-unfolding totalAt
+count-next : (d n i : ℕ) (ws : List ℕ) → i < n → countOf (drop i (rowsOf d n ws)) ≡ rowTotal d n ws i .count + countOf (drop (i + 1) (rowsOf d n ws))
+unfolding rowTotal
 count-next d n i ws h = rw (add-one, drop-cons (rowsOf d n ws) i blank (rw (rows-length d n ws) h))
 
 count-none : (d n i : ℕ) (ws : List ℕ) → n ≤ i → countOf (drop i (rowsOf d n ws)) ≡ 0
