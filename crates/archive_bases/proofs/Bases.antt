@@ -20,7 +20,7 @@ use Rattle.archive_entries.specs.Layout.{baseBytes, setsIn, based}
 use Rattle.archive_entries.proofs.Lengths.{base-length}
 use Rattle.archive_bases.specs.Listed.{Listed, ourBase, ourBases}
 
-module _ {d n : ℕ} {ws sets lens : List ℕ} (rows : Listed d n ws sets lens) where
+module _ {d n : ℕ} {ws ls : List ℕ} (rows : Listed d n ws ls) where
   abbrev table : List (Row Total)
   table = rowsOf d n ws
 
@@ -41,17 +41,17 @@ module _ {d n : ℕ} {ws sets lens : List ℕ} (rows : Listed d n ws sets lens) 
           let k : i < length (map (based d table) table) = rw (length-map, rows-length d n ws) h in
           rw (add-one, drop-cons (map (based d table) table) i (based d table blank) k, List·getD-map (based d table) table i blank)
 
-      -- the list of a row in the flat arrays is its list in its base entry
-      list-at : getD (listsOf n sets lens) i [] ≡ ourBase d table i .list
+      -- the list of a row in the flat list is its list in its base entry
+      list-at : getD (listsOf n ls) i [] ≡ ourBase d table i .list
       unfolding ourLists ourBase
       list-at =
           let xs = cut d n ws in
-          ap (λ (ls : List (List ℕ)). getD ls i []) (rows .lists)
+          ap (λ (l : List (List ℕ)). getD l i []) (rows .lists)
           ∙ map-at (listed (plain d) xs) [] [] xs i (rw (cut-length d n ws) h)
           ∙ ap₂ (λ (ys : List (List ℕ)) (x : List ℕ). listed (plain d) ys x) (sym (rows-codes d n ws)) codes-at
 
       -- codes, sum, count and list of a row make its base entry
-      pub base-at : {x list : List ℕ} {u : Total} → x ≡ rowAt (cut d n ws) i → u ≡ rowTotal d n ws i → list ≡ getD (listsOf n sets lens) i []
+      pub base-at : {x list : List ℕ} {u : Total} → x ≡ rowAt (cut d n ws) i → u ≡ rowTotal d n ws i → list ≡ getD (listsOf n ls) i []
           → record { row = record { codes = x; total = u }; list = list } ≡ ourBase d table i
       unfolding ourBase
       base-at {x} {list} {u} e g f =
@@ -61,10 +61,10 @@ module _ {d n : ℕ} {ws sets lens : List ℕ} (rows : Listed d n ws sets lens) 
           ap₂ (λ (r : Row Total) (l : List ℕ). record { row = r; list = l }) same (f ∙ list-at)
 
       -- how many sets and bytes it has
-      base-sets : length (ourBase d table i .list) ≡ getD lens i 0
-      base-sets = ap length (sym list-at) ∙ list-length n i sets lens h (rows .room) (rows .short)
+      base-sets : length (ourBase d table i .list) ≡ getD ls (i * 71) 0
+      base-sets = ap length (sym list-at) ∙ list-length n i ls h (rows .room) (rows .short)
 
-      pub base-bytes : length (baseBytes (ourBase d table i)) ≡ 4 * d + 16 + 4 * getD lens i 0
+      pub base-bytes : length (baseBytes (ourBase d table i)) ≡ 4 * d + 16 + 4 * getD ls (i * 71) 0
       base-bytes =
           let e = base-length d (ourBase d table i) (ap length (sym codes-at) ∙ row-length d n i ws h (rows .ready .size)) in
           omega (arith, e, base-sets)
@@ -72,7 +72,7 @@ module _ {d n : ℕ} {ws sets lens : List ℕ} (rows : Listed d n ws sets lens) 
       pub base-most : length (baseBytes (ourBase d table i)) ≤ 328
       base-most = omega (arith, base-bytes, rows .ready .dims, rows .short i h)
 
-      pub sets-next : setsIn (drop i (ourBases d table)) ≡ getD lens i 0 + setsIn (drop (i + 1) (ourBases d table))
+      pub sets-next : setsIn (drop i (ourBases d table)) ≡ getD ls (i * 71) 0 + setsIn (drop (i + 1) (ourBases d table))
       sets-next = ap setsIn bases-next ∙ ap (λ (k : ℕ). k + setsIn (drop (i + 1) (ourBases d table))) base-sets
 
     pub sets-none : n ≤ i → setsIn (drop i (ourBases d table)) ≡ 0

@@ -16,7 +16,7 @@ use Rattle.archive_cells.specs.MatchedLaws.{matching-more, matching-off, matchi
 use Rattle.archive_bases.specs.Listed.{Listed, ourBase, ourBases}
 use Rattle.archive_bases.proofs.Bases.{bases-next, bases-none}
 
-module _ {d n : ℕ} {ws sets lens : List ℕ} (rows : Listed d n ws sets lens) (i : ℕ) where
+module _ {d n : ℕ} {ws ls : List ℕ} (rows : Listed d n ws ls) (i : ℕ) where
   -- the bytes of all entries, of those from a row on, and of that of row i
   abbrev all : List ℕ
   all = flatMap baseBytes (ourBases d (rowsOf d n ws))

@@ -14,12 +14,11 @@ use Rattle.rows_ready.specs.Ready.{Ready}
 use Rattle.rows_condense.specs.Lists.{listsOf, Short, ourLists}
 use Rattle.archive_entries.specs.Layout.{Based, based}
 
-pub record Listed (d n : ℕ) (ws sets lens : List ℕ) : Type 0 where
+pub record Listed (d n : ℕ) (ws ls : List ℕ) : Type 0 where
   pub ready : Ready d n ws
-  pub room : n * 70 ≤ length sets
-  pub size : length lens ≡ n
-  pub short : Short n lens
-  pub lists : listsOf n sets lens ≡ ourLists d (cut d n ws)
+  pub room : n * 71 ≤ length ls
+  pub short : Short n ls
+  pub lists : listsOf n ls ≡ ourLists d (cut d n ws)
 
 unfoldable pub ourBase : ℕ → List (Row Total) → ℕ → Based
 ourBase d rows i = based d rows (getD rows i (record { codes = []; total = nothing }))

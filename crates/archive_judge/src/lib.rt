@@ -24,13 +24,12 @@ fn match_sections(
     rows: &[u32],
     n: usize,
     dims: usize,
-    sets: &[u8],
-    lens: &[u32],
+    lists: &[u8],
     store: &[u16],
     used: &[usize],
     cells: usize,
 ) -> Walk
-    requires { ⌜ Listed dims n (now rows) (now sets) (now lens) × Grouped dims n (now rows) (now store) (now used) × (start ≤ length (now s)) ⌝ }
+    requires { ⌜ Listed dims n (now rows) (now lists) × Grouped dims n (now rows) (now store) (now used) × (start ≤ length (now s)) ⌝ }
     requires { ⌜ cells ≡ length (normals (plain dims) (cut dims n (now rows))) ⌝ }
     ensures { λ r. ⌜ Matched (now (s .entry)) start (sections dims (rowsOf dims n (now (rows .entry)))) r ⌝ }
 {
@@ -38,7 +37,7 @@ fn match_sections(
         Walk::Stop(stop) => return Walk::Stop(stop),
         Walk::At(at) => at,
     };
-    let end = match archive_bases::match_bases(s, at, rows, n, dims, sets, lens) {
+    let end = match archive_bases::match_bases(s, at, rows, n, dims, lists) {
         Walk::Stop(stop) => return Walk::Stop(stop),
         Walk::At(end) => end,
     };
@@ -55,18 +54,17 @@ fn judge(
     rows: &[u32],
     n: usize,
     dims: usize,
-    sets: &mut [u8],
-    lens: &mut [u32],
+    lists: &mut [u8],
     store: &mut [u16],
     used: &mut [usize],
 ) -> bool
-    requires { ⌜ Read (now s) dims n (now rows) × (n * 70 ≤ length (now sets)) × (length (now lens) ≡ n) × (262144 ≤ length (now store)) × (256 ≤ length (now used)) ⌝ }
+    requires { ⌜ Read (now s) dims n (now rows) × (n * 71 ≤ length (now lists)) × (262144 ≤ length (now store)) × (256 ≤ length (now used)) ⌝ }
     ensures { λ r. ⌜ r ≡ same (now (s .entry)) (archiveBytes (wordsAt (now (s .entry)) dims 8) (rowsOf dims n (now (rows .entry)))) ⌝ }
     ensures { λ r. ⌜ Grouped dims n (now (rows .entry)) (now (store .exit)) (now (used .exit)) ⌝ }
 {
-    let cells = rows_condense::condense_rows(rows, n, dims, store, used, sets, lens);
+    let cells = rows_condense::condense_rows(rows, n, dims, store, used, lists);
     let start = 8 + 4 * dims;
-    match match_sections(s, start, rows, n, dims, sets, lens, store, used, cells) {
+    match match_sections(s, start, rows, n, dims, lists, store, used, cells) {
         Walk::Stop(_) => false,
         Walk::At(end) => s.len() - end == 4,
     }
@@ -85,12 +83,11 @@ fn is_required(
     ensures { λ r. ⌜ r ≡ same (now (s .entry)) (archiveBytes (wordsAt (now (s .entry)) dims 8) (rowsOf dims n (now (rows .entry)))) ⌝ }
     ensures { λ r. ⌜ Grouped dims n (now (rows .entry)) (now (store .exit)) (now (used .exit)) ⌝ }
 {
-    let mut sets = [0u8; 71680];
-    let mut lens = [0u32; 1024];
-    judge(s, rows, n, dims, &mut sets, &mut lens[..n], store, used)
+    let mut lists = [0u8; 72704];
+    judge(s, rows, n, dims, &mut lists, store, used)
 }
 
-// What was read of an archive whose fields are right, or stop 12. The arrays have its base rows; their slots go into the buffers that are lent.
+// What was read of an archive whose fields are right, or stop 12. The array has its base rows; their slots go into the buffers that are lent.
 fn judge_read(
     s: &[u8],
     rows: &[u32],
@@ -174,7 +171,7 @@ fn judge_sharing(
     read_judged(s, rows, &mut store, used, dims, bases, cells)
 }
 
-// Reads an archive with all its stops, 1 to 12; its base rows into the arrays that are lent, and how many of them share the cells of each set but the full one.
+// Reads an archive with all its stops, 1 to 12; its base rows into the array that is lent, and how many of them share the cells of each set but the full one.
 pub fn read_sharing(s: &[u8], rows: &mut [u32; 11264], used: &mut [usize; 256]) -> ArchiveRead
     ensures { λ r. ⌜ r ≡ archiveAnswer (readArchive (now (s .entry))) ⌝ }
     ensures { λ r. ⌜ Stored (readArchive (now (s .entry))) (now (rows .exit)) ⌝ }
@@ -188,7 +185,7 @@ pub fn read_sharing(s: &[u8], rows: &mut [u32; 11264], used: &mut [usize; 256]) 
     }
 }
 
-// Reads an archive with all its stops, 1 to 12; its base rows into the arrays that are lent. The array for slots is lent too.
+// Reads an archive with all its stops, 1 to 12; its base rows into the array that is lent. The one for slots is lent too.
 pub fn read_lent(s: &[u8], rows: &mut [u32; 11264], store: &mut [u16; 262144]) -> ArchiveRead
     ensures { λ r. ⌜ r ≡ archiveAnswer (readArchive (now (s .entry))) ⌝ }
     ensures { λ r. ⌜ Stored (readArchive (now (s .entry))) (now (rows .exit)) ⌝ }

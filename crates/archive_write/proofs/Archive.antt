@@ -28,8 +28,8 @@ use Rattle.archive_normals.specs.Normals.{normalBytes}
 nested : {A : Type 0} (a b c d e : List A) → (((a ++ b) ++ c) ++ d) ++ e ≡ a ++ ((b ++ c) ++ (d ++ e))
 nested a b c d e = simp append-assoc
 
-module _ (zs : List ℕ) {n : ℕ} {ws sets lens : List ℕ} {cells : ℕ}
-    (rows : Listed (length zs) n ws sets lens) (e : cells ≡ length (normals (plain (length zs)) (cut (length zs) n ws))) where
+module _ (zs : List ℕ) {n : ℕ} {ws ls : List ℕ} {cells : ℕ}
+    (rows : Listed (length zs) n ws ls) (e : cells ≡ length (normals (plain (length zs)) (cut (length zs) n ws))) where
   abbrev table : List (Row Total)
   table = rowsOf (length zs) n ws
 

@@ -13,20 +13,13 @@ ghost use Rattle.archive_normals.specs.Grouped.{Grouped};
 ghost use Rattle.archive_cells.specs.Fitted.{Fitted};
 
 // The length of the archive, by how many normal entries it has.
-fn archive_len(
-    sizes: &[u32],
-    rows: &[u32],
-    n: usize,
-    sets: &[u8],
-    lens: &[u32],
-    cells: usize,
-) -> usize
-    requires { ⌜ Listed (length (now sizes)) n (now rows) (now sets) (now lens) × (cells ≡ length (normals (plain (length (now sizes))) (cut (length (now sizes)) n (now rows)))) ⌝ }
+fn archive_len(sizes: &[u32], rows: &[u32], n: usize, lists: &[u8], cells: usize) -> usize
+    requires { ⌜ Listed (length (now sizes)) n (now rows) (now lists) × (cells ≡ length (normals (plain (length (now sizes))) (cut (length (now sizes)) n (now rows)))) ⌝ }
     requires { ⌜ Limits (now sizes) (rowsOf (length (now sizes)) n (now rows)) ⌝ }
     ensures { λ r. ⌜ r ≡ length (archiveBytes (now (sizes .entry)) (rowsOf (length (now (sizes .entry))) n (now (rows .entry)))) ⌝ }
 {
     let dims = sizes.len();
-    let listed = archive_bases::sets_in(rows, n, dims, sets, lens);
+    let listed = archive_bases::sets_in(rows, n, dims, lists);
     20 + 4 * dims + n * (4 * dims + 16) + 4 * listed + cells * (4 * dims + 12)
 }
 
@@ -36,20 +29,19 @@ fn put_archive(
     sizes: &[u32],
     rows: &[u32],
     n: usize,
-    sets: &[u8],
-    lens: &[u32],
+    lists: &[u8],
     store: &[u16],
     used: &[usize],
     cells: usize,
 ) -> usize
-    requires { ⌜ Listed (length (now sizes)) n (now rows) (now sets) (now lens) × Grouped (length (now sizes)) n (now rows) (now store) (now used) × (cells ≡ length (normals (plain (length (now sizes))) (cut (length (now sizes)) n (now rows)))) ⌝ }
+    requires { ⌜ Listed (length (now sizes)) n (now rows) (now lists) × Grouped (length (now sizes)) n (now rows) (now store) (now used) × (cells ≡ length (normals (plain (length (now sizes))) (cut (length (now sizes)) n (now rows)))) ⌝ }
     requires { ⌜ length (archiveBytes (now sizes) (rowsOf (length (now sizes)) n (now rows))) ≤ length (now out) ⌝ }
     ensures { λ r. ⌜ Wrote (archiveBytes (now (sizes .entry)) (rowsOf (length (now (sizes .entry))) n (now (rows .entry)))) (now (out .entry)) (now (out .exit)) r ⌝ }
 {
     let dims = sizes.len();
     let mut at = archive_cells::put_header(out, sizes);
     at += fields::put_word(&mut out[at..], n as u32);
-    at += archive_bases::put_bases(&mut out[at..], rows, n, dims, sets, lens);
+    at += archive_bases::put_bases(&mut out[at..], rows, n, dims, lists);
     at += fields::put_word(&mut out[at..], cells as u32);
     at += archive_normals::put_normals(&mut out[at..], rows, n, dims, store, used);
     fields_check::put_check(out, at)
@@ -68,20 +60,11 @@ pub fn write_archive(
 {
     let dims = sizes.len();
     let mut used = [0usize; 256];
-    let mut sets = [0u8; 71680];
-    let mut lens = [0u32; 1024];
-    let cells = rows_condense::condense_rows(
-        rows,
-        n,
-        dims,
-        store,
-        &mut used,
-        &mut sets,
-        &mut lens[..n],
-    );
-    let len = archive_len(sizes, rows, n, &sets, &lens[..n], cells);
+    let mut lists = [0u8; 72704];
+    let cells = rows_condense::condense_rows(rows, n, dims, store, &mut used, &mut lists);
+    let len = archive_len(sizes, rows, n, &lists, cells);
     if len <= out.len() {
-        put_archive(out, sizes, rows, n, &sets, &lens[..n], store, &used, cells)
+        put_archive(out, sizes, rows, n, &lists, store, &used, cells)
     } else {
         len
     }

@@ -15,39 +15,51 @@ ghost use Rattle.rows_deals.specs.Deals.{Names};
 ghost use Rattle.rows_order.specs.Index.{key, Valid};
 ghost use Rattle.rows_slots.specs.Slots.{crowds, packed};
 ghost use Rattle.rows_crowds.specs.Crowds.{Columns, shorter, leftOut, Holds, AllHold, Filled, ends};
-ghost use Rattle.rows_condense.specs.Lists.{listsOf, Short, Fit, noted, ourLists};
+ghost use Rattle.rows_condense.specs.Lists.{listsOf, Short, Empty, Fit, noted, ourLists};
 ghost use Rattle.rows_condense.specs.Alone.{wordsOf, passes, isNew, Lower, Stored, Told};
 
 // The list of a row.
-pub fn list_of<'a>(sets: &'a [u8], lens: &[u32], n: usize, row: usize) -> &'a [u8]
-    requires { ⌜ (n * 70 ≤ length (now sets)) × (length (now lens) ≡ n) × (row < n) × Short n (now lens) ⌝ }
-    ensures { λ r. ⌜ now r ≡ getD (listsOf n (now (sets .entry)) (now (lens .entry))) row [] ⌝ }
+pub fn list_of(lists: &[u8], n: usize, row: usize) -> &[u8]
+    requires { ⌜ (n * 71 ≤ length (now lists)) × (row < n) × Short n (now lists) ⌝ }
+    ensures { λ r. ⌜ now r ≡ getD (listsOf n (now (lists .entry))) row [] ⌝ }
 {
-    let from = row * 70;
-    let to = from + lens[row] as usize;
-    &sets[from..to]
+    let at = row * 71;
+    let from = at + 1;
+    let to = from + lists[at] as usize;
+    &lists[from..to]
 }
 
 // Puts a set behind the list of a row.
-fn note_at(sets: &mut [u8], lens: &mut [u32], n: usize, row: usize, set: u8)
-    requires { ⌜ (n * 70 ≤ length (now sets)) × (length (now lens) ≡ n) × (row < n) × Short n (now lens) × (getD (now lens) row 0 < 70) ⌝ }
-    ensures { λ _. ⌜ listsOf n (now (sets .exit)) (now (lens .exit)) ≡ put (listsOf n (now (sets .entry)) (now (lens .entry))) row (getD (listsOf n (now (sets .entry)) (now (lens .entry))) row [] ++ set ∷ []) ⌝ }
-    ensures { λ _. ⌜ Short n (now (lens .exit)) ⌝ }
+fn note_at(lists: &mut [u8], n: usize, row: usize, set: u8)
+    requires { ⌜ (n * 71 ≤ length (now lists)) × (row < n) × Short n (now lists) × (getD (now lists) (row * 71) 0 < 70) ⌝ }
+    ensures { λ _. ⌜ listsOf n (now (lists .exit)) ≡ put (listsOf n (now (lists .entry))) row (getD (listsOf n (now (lists .entry))) row [] ++ set ∷ []) ⌝ }
+    ensures { λ _. ⌜ Short n (now (lists .exit)) ⌝ }
 {
-    let len = lens[row] as usize;
-    sets[row * 70 + len] = set;
-    lens[row] = lens[row] + 1;
+    let at = row * 71;
+    let len = lists[at];
+    lists[at + 1 + len as usize] = set;
+    lists[at] = len + 1;
 }
 
 // Puts a set behind the lists of the rows in `lone`.
-fn note_lone(lone: &[u32], set: u8, sets: &mut [u8], lens: &mut [u32], n: usize)
-    requires { ⌜ (n * 70 ≤ length (now sets)) × (length (now lens) ≡ n) × Short n (now lens) × Names (now lone) n ⌝ }
-    requires { ⌜ Fit (noted set (now lone) (listsOf n (now sets) (now lens))) ⌝ }
-    ensures { λ _. ⌜ listsOf n (now (sets .exit)) (now (lens .exit)) ≡ noted set (now (lone .entry)) (listsOf n (now (sets .entry)) (now (lens .entry))) ⌝ }
-    ensures { λ _. ⌜ Short n (now (lens .exit)) ⌝ }
+fn note_lone(lone: &[u32], set: u8, lists: &mut [u8], n: usize)
+    requires { ⌜ (n * 71 ≤ length (now lists)) × Short n (now lists) × Names (now lone) n ⌝ }
+    requires { ⌜ Fit (noted set (now lone) (listsOf n (now lists))) ⌝ }
+    ensures { λ _. ⌜ listsOf n (now (lists .exit)) ≡ noted set (now (lone .entry)) (listsOf n (now (lists .entry))) ⌝ }
+    ensures { λ _. ⌜ Short n (now (lists .exit)) ⌝ }
 {
     for i in 0..lone.len() {
-        note_at(sets, lens, n, lone[i] as usize, set);
+        note_at(lists, n, lone[i] as usize, set);
+    }
+}
+
+// Makes the lists of n rows empty.
+fn clear_lists(lists: &mut [u8], n: usize)
+    requires { ⌜ n * 71 ≤ length (now lists) ⌝ }
+    ensures { λ _. ⌜ Empty n (now (lists .exit)) ⌝ }
+{
+    for row in 0..n {
+        lists[row * 71] = 0;
     }
 }
 
@@ -111,16 +123,15 @@ fn list_set(
     order: &mut [u32],
     marks: &mut [u32],
     lone: &mut [u32],
-    sets: &mut [u8],
-    lens: &mut [u32],
+    lists: &mut [u8],
 ) -> usize
     requires { ⌜ (n ≤ 1024) × Valid dims (cut dims n (now rows)) × (dims ≤ 8) × Columns dims n (now rows) (now columns) × (set < 2 ^ dims) × (1 ≤ set → Holds 2 dims n (now rows) (now store) (now sizes) (shorter set)) ⌝ }
     requires { ⌜ (262144 ≤ length (now store)) × (256 ≤ length (now sizes)) × (length (now order) ≡ 1024) × (length (now marks) ≡ 1024) × (length (now lone) ≡ 1024) ⌝ }
     requires { ⌜ (8192 ≤ length (now alone)) × (length (now passed) ≡ 32) × Lower dims n (now rows) (now alone) set ⌝ }
-    requires { ⌜ (n * 70 ≤ length (now sets)) × (length (now lens) ≡ n) × Short n (now lens) × Fit (noted set (keep (isNew (now alone) set) (leftOut 2 (cut dims n (now rows)) n set)) (listsOf n (now sets) (now lens))) ⌝ }
+    requires { ⌜ (n * 71 ≤ length (now lists)) × Short n (now lists) × Fit (noted set (keep (isNew (now alone) set) (leftOut 2 (cut dims n (now rows)) n set)) (listsOf n (now lists))) ⌝ }
     ensures { λ r. ⌜ Filled 2 dims n (now (rows .entry)) (now (store .entry)) (now (sizes .entry)) (now (store .exit)) (now (sizes .exit)) set ⌝ }
     ensures { λ r. ⌜ Told dims n (now (rows .entry)) (now (alone .entry)) (now (alone .exit)) set ⌝ }
-    ensures { λ r. ⌜ (listsOf n (now (sets .exit)) (now (lens .exit)) ≡ noted set (keep (isNew (now (alone .entry)) set) (leftOut 2 (cut dims n (now (rows .entry))) n set)) (listsOf n (now (sets .entry)) (now (lens .entry)))) × Short n (now (lens .exit)) ⌝ }
+    ensures { λ r. ⌜ (listsOf n (now (lists .exit)) ≡ noted set (keep (isNew (now (alone .entry)) set) (leftOut 2 (cut dims n (now (rows .entry))) n set)) (listsOf n (now (lists .entry)))) × Short n (now (lists .exit)) ⌝ }
     ensures { λ r. ⌜ r ≡ ends (packed (crowds 2 (key set (cut dims n (now (rows .entry)))) n)) ⌝ }
 {
     pass_rows(alone, set, passed);
@@ -139,7 +150,7 @@ fn list_set(
         lone,
     );
     let new = &lone[..left];
-    note_lone(new, set as u8, sets, lens, n);
+    note_lone(new, set as u8, lists, n);
     add_rows(new, passed);
     put_words(passed, set as usize, alone);
     let slot = rows_crowds::slot_of(store, sizes, set as usize);
@@ -153,13 +164,12 @@ pub fn condense_rows(
     dims: usize,
     store: &mut [u16],
     sizes: &mut [usize],
-    sets: &mut [u8],
-    lens: &mut [u32],
+    lists: &mut [u8],
 ) -> usize
     requires { ⌜ (n ≤ 1024) × (dims ≤ 8) × (n * width dims ≡ length (now rows)) × Base (plain dims) (cut dims n (now rows)) ⌝ }
-    requires { ⌜ (262144 ≤ length (now store)) × (256 ≤ length (now sizes)) × (n * 70 ≤ length (now sets)) × (length (now lens) ≡ n) ⌝ }
+    requires { ⌜ (262144 ≤ length (now store)) × (256 ≤ length (now sizes)) × (n * 71 ≤ length (now lists)) ⌝ }
     ensures { λ r. ⌜ AllHold 2 dims n (now (rows .entry)) (now (store .exit)) (now (sizes .exit)) (full dims) ⌝ }
-    ensures { λ r. ⌜ (listsOf n (now (sets .exit)) (now (lens .exit)) ≡ ourLists dims (cut dims n (now (rows .entry)))) × Short n (now (lens .exit)) ⌝ }
+    ensures { λ r. ⌜ (listsOf n (now (lists .exit)) ≡ ourLists dims (cut dims n (now (rows .entry)))) × Short n (now (lists .exit)) ⌝ }
     ensures { λ r. ⌜ r ≡ length (normals (plain dims) (cut dims n (now (rows .entry)))) ⌝ }
 {
     let mut columns = [0u32; 16384];
@@ -168,7 +178,7 @@ pub fn condense_rows(
     let mut order = [0u32; 1024];
     let mut marks = [0u32; 1024];
     let mut lone = [0u32; 1024];
-    rows_deals::clear(lens);
+    clear_lists(lists, n);
     rows_crowds::read_columns(rows, n, dims, &mut columns);
     let all = lattice::sets_of(dims as u32) - 1;
     let mut cells = 0;
@@ -190,8 +200,7 @@ pub fn condense_rows(
             &mut order,
             &mut marks,
             &mut lone,
-            sets,
-            lens,
+            lists,
         );
     }
     rows_ready::blanks(n) + cells

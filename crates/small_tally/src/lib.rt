@@ -63,17 +63,8 @@ fn rows_entries(rows: &[u32], n: usize, dims: usize) -> usize
 {
     let mut store = [0u16; 262144];
     let mut used = [0usize; 256];
-    let mut sets = [0u8; 560];
-    let mut lens = [0u32; 8];
-    let normals = rows_condense::condense_rows(
-        rows,
-        n,
-        dims,
-        &mut store,
-        &mut used,
-        &mut sets,
-        &mut lens[..n],
-    );
+    let mut lists = [0u8; 568];
+    let normals = rows_condense::condense_rows(rows, n, dims, &mut store, &mut used, &mut lists);
     n + normals
 }
 

@@ -15,15 +15,15 @@ use Rattle.archive_bases.proofs.match_base.Tie as tie
 
 match-entry-requires : tie.Need-match-entry-requires
 match-entry-requires c κs =
-    let a = c .before .before .before .before .before .before .before .before .args in
-    let p = c .before .before .before .before .before .before .before .before .pre in
-    let sets = ap length (c .list-of .ensures) ∙ list-length (a .n) (a .row) (now (a .sets)) (now (a .lens)) (p .1) (p .0 .room) (p .0 .short) in
+    let a = c .before .before .before .before .before .before .before .args in
+    let p = c .before .before .before .before .before .before .before .pre in
+    let sets = ap length (c .list-of .ensures) ∙ list-length (a .n) (a .row) (now (a .lists)) (p .1) (p .0 .room) (p .0 .short) in
     (p .2, omega (arith, sets, p .0 .short (a .row) (p .1)))
 
 returns : tie.Need-returns
 returns c =
-    let p = c .before .before .before .before .before .before .before .before .before .pre in
-    let entry = base-at (p .0) (c .before .before .before .before .before .before .before .before .before .args .row) (p .1) (c .before .before .before .before .row-of .ensures .0) (c .before .before .before .total-at .ensures) (c .before .list-of .ensures) in
+    let p = c .before .before .before .before .before .before .before .before .pre in
+    let entry = base-at (p .0) (c .before .before .before .before .before .before .before .before .args .row) (p .1) (c .before .before .before .before .row-of .ensures .0) (c .before .before .before .total-at .ensures) (c .before .list-of .ensures) in
     matched-as (ap baseBytes entry) (rw (toZ-ofZ {w = w64} (record { sfits = c .before .before .struct-told .given .0 .1 })) at (c .match-entry .ensures))
 
 pub match-base-spec : {M : Type 1} → statement M

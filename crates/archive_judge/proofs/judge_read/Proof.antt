@@ -1,9 +1,9 @@
 -- `archive_judge::judge_read` meets its contract: the base rows fill the fronts of the arrays, and the archive is the one they require, or stop 12.
 use mathlib.Core.Path.{sym, _∙_}
-use Prim.Native.Nat.{_*_, _≤_}
+use Prim.Native.Nat.{_*_}
 use native.Mathlib.Omega.{arith}
 use denote.Ref.{now}
-use lib.ListN.{length, take}
+use lib.ListN.{take}
 use Rattle.fields_walk.specs.Limits.{Bytes}
 use Rattle.rows.specs.Rows.{width}
 use Rattle.archive_judge.specs.Read.{Read}

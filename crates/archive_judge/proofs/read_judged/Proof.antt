@@ -1,5 +1,4 @@
 -- `archive_judge::read_judged` meets its contract: the rows are stored, then judged.
-use mathlib.Core.Path.{sym}
 use denote.Ref.{now}
 use Rattle.archive_judge.proofs.Reading.{stored-required}
 use borrow.Author.Needs.{needs}
