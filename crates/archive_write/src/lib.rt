@@ -23,7 +23,7 @@ fn archive_len(sizes: &[u32], rows: &[u32], n: usize, lists: &[u8], cells: usize
     20 + 4 * dims + n * (4 * dims + 16) + 4 * listed + cells * (4 * dims + 12)
 }
 
-// Writes the archive: header, base count, base entries, normal count, normal entries, check word.
+// Writes the archive: header, base count, base entries, normal count, normal entries, check word. Eight parameters: the output, and the rows with their lists and their slots.
 fn put_archive(
     out: &mut [u8],
     sizes: &[u32],

@@ -16,7 +16,7 @@ use Rattle.fields.specs.Words.{wordsAt}
 use Rattle.rows_ready.specs.Ready.{Ready}
 use Rattle.archive_normals.specs.Grouped.{Grouped}
 use Rattle.archive_judge.proofs.Judged.{sizes-at, read-ready}
-use Rattle.archive_judge.proofs.Reading.{read-of}
+use Rattle.archive_read.proofs.Reading.{read-of}
 use Rattle.call_ask.specs.Accepts.{Accepts}
 
 pub record Opened (s : List ℕ) (d n m : ℕ) (ws : List ℕ) : Type 0 where

@@ -19,7 +19,7 @@ ghost use Rattle.call_ask.specs.Accepts.{Accepts};
 pub fn check(archive: &[u8]) -> Checked
     ensures { λ r. ⌜ r ≡ checks (now (archive .entry)) ⌝ }
 {
-    match archive_judge::check_required(archive) {
+    match archive_read::check_required(archive) {
         ArchiveRead::Stop(n) => Checked::Stop(n),
         ArchiveRead::Entries {
             dims: _,
@@ -67,7 +67,7 @@ fn list_read(
 fn list_in(s: &[u8], rows: &mut [u32; 11264], set: u32, out: &mut [u8]) -> Written
     ensures { λ r. ⌜ Answered (listsCuboid (now (s .entry)) set) (now (out .entry)) (now (out .exit)) r ⌝ }
 {
-    match archive_judge::read_required(s, rows) {
+    match archive_read::read_required(s, rows) {
         ArchiveRead::Stop(n) => Written::Stop(n),
         ArchiveRead::Entries { dims, bases, cells } => {
             list_read(s, rows, dims, bases, cells, set, out)
@@ -137,7 +137,7 @@ fn expand_in(
     requires { ⌜ archiveAnswer (walkArchive (now s)) ≡ ArchiveRead.Entries dims bases cells ⌝ }
     ensures { λ r. ⌜ Answered (expands (now (s .entry))) (now (out .entry)) (now (out .exit)) r ⌝ }
 {
-    match archive_judge::read_judged(s, rows, store, used, dims, bases, cells) {
+    match archive_read::read_judged(s, rows, store, used, dims, bases, cells) {
         ArchiveRead::Stop(n) => Written::Stop(n),
         ArchiveRead::Entries { dims, bases, cells } => {
             expand_read(s, rows, dims, bases, cells, store, used, out)

@@ -93,7 +93,7 @@ fn share_read(
 fn share_in(s: &[u8], rows: &mut [u32; 11264], fee: u64, set: u32, out: &mut [u8]) -> Written
     ensures { λ r. ⌜ Answered (sharesFee (now (s .entry)) fee set) (now (out .entry)) (now (out .exit)) r ⌝ }
 {
-    match archive_judge::read_required(s, rows) {
+    match archive_read::read_required(s, rows) {
         ArchiveRead::Stop(n) => Written::Stop(n),
         ArchiveRead::Entries { dims, bases, cells } => {
             share_read(s, rows, dims, bases, cells, fee, set, out)

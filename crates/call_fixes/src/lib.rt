@@ -108,7 +108,7 @@ fn fixes_read(
 fn fixes_in(s: &[u8], rows: &mut [u32; 11264], set: u32, dimension: u32) -> Fixed
     ensures { λ r. ⌜ r ≡ tellsFixed (now (s .entry)) set dimension ⌝ }
 {
-    match archive_judge::read_required(s, rows) {
+    match archive_read::read_required(s, rows) {
         ArchiveRead::Stop(n) => Fixed::Stop(n),
         ArchiveRead::Entries { dims, bases, cells } => {
             fixes_read(s, rows, dims, bases, cells, set, dimension)

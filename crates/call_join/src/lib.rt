@@ -108,14 +108,14 @@ fn join_in(
 ) -> Written
     ensures { λ r. ⌜ Answered (joins (now (first .entry)) (now (second .entry))) (now (out .entry)) (now (out .exit)) r ⌝ }
 {
-    match archive_judge::read_lent(first, rows1, store) {
+    match archive_read::read_lent(first, rows1, store) {
         ArchiveRead::Stop(n) => Written::Stop(n),
         ArchiveRead::Entries {
             dims,
             bases,
             cells: _,
         } => {
-            match archive_judge::read_lent(second, rows2, store) {
+            match archive_read::read_lent(second, rows2, store) {
                 ArchiveRead::Stop(n) => Written::Stop(n),
                 ArchiveRead::Entries {
                     dims: dims2,

@@ -24,7 +24,7 @@ use Rattle.rows_order.specs.Index.{key as keyOf, arranged}
 use Rattle.rows_slots.specs.Slots.{shares}
 use Rattle.rows_slots.proofs.Groups.{crowds-flat}
 use Rattle.rows_crowds.proofs.Left.{shares-single}
-use Rattle.archive_judge.specs.Sharing.{Sharing}
+use Rattle.archive_read.specs.Sharing.{Sharing}
 use Rattle.call_keys.specs.Laid.{Laid}
 use Rattle.call_keys.specs.Bare.{bare, leastBare}
 

@@ -19,7 +19,7 @@ use Rattle.archive_entries.specs.declared.ArchiveRead.the-variants as Read
 use Rattle.rows_ready.proofs.Ready.{ready-base}
 use Rattle.archive_cells.specs.ListBytes.{listBytes}
 use Rattle.call_answers.specs.Answers.{stop as stopped, bytes}
-use Rattle.archive_judge.specs.Sharing.{Sharing, Shares}
+use Rattle.archive_read.specs.Sharing.{Sharing, Shares}
 use Rattle.call_ask.proofs.Opened.{Opened}
 use Rattle.call_ask.proofs.Outcomes.{refused}
 use Rattle.call_keys.specs.Laid.{Laid}

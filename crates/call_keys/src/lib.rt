@@ -8,7 +8,7 @@ ghost use lib.ListN.{length, take};
 ghost use Rattle.lists.specs.Lists.{some};
 ghost use Rattle.lattice.specs.Sets.{holds};
 ghost use Rattle.archive_entries.specs.Reading.{readArchive};
-ghost use Rattle.archive_judge.specs.Sharing.{Shares};
+ghost use Rattle.archive_read.specs.Sharing.{Shares};
 ghost use Rattle.archive_cells.specs.ListBytes.{listBytes};
 ghost use Rattle.call_answers.specs.Answers.{bytes, Answered};
 ghost use Rattle.call_ask.specs.Accepts.{Accepts};
@@ -110,7 +110,7 @@ fn keys_read(
 fn keys_in(s: &[u8], rows: &mut [u32; 11264], used: &mut [usize; 256], out: &mut [u8]) -> Written
     ensures { λ r. ⌜ Answered (listsKeys (now (s .entry))) (now (out .entry)) (now (out .exit)) r ⌝ }
 {
-    match archive_judge::read_sharing(s, rows, used) {
+    match archive_read::read_sharing(s, rows, used) {
         ArchiveRead::Stop(n) => Written::Stop(n),
         ArchiveRead::Entries { dims, bases, cells } => {
             keys_read(s, rows, dims, bases, cells, used, out)

@@ -30,7 +30,7 @@ fn look_read(s: &[u8], rows: &[u32], dims: u32, bases: u32, cells: u32, question
 fn look_in(s: &[u8], rows: &mut [u32; 11264], question: &[u32]) -> Found
     ensures { λ r. ⌜ r ≡ looksUp (now (s .entry)) (now (question .entry)) ⌝ }
 {
-    match archive_judge::read_required(s, rows) {
+    match archive_read::read_required(s, rows) {
         ArchiveRead::Stop(n) => Found::Stop(n),
         ArchiveRead::Entries { dims, bases, cells } => {
             look_read(s, rows, dims, bases, cells, question)

@@ -109,7 +109,7 @@ fn put_words(words: &[u32], set: usize, alone: &mut [u32])
     }
 }
 
-// One set more: its slot is filled, and it is put behind the lists of the rows that come out alone there and on no smaller set. Returns how many cells of it rows share.
+// One set more: its slot is filled, and it is put behind the lists of the rows that come out alone there and on no smaller set. Returns how many cells of it rows share. Thirteen parameters: the rows, their lists, and work arrays that are lent once a call.
 fn list_set(
     rows: &[u32],
     n: usize,

@@ -9,7 +9,7 @@ use Rattle.fields_walk.proofs.Limits.{bytes-of}
 use Rattle.call_answers.specs.Answers.{bytes}
 use Rattle.call_answers.proofs.Answers.{answered-as}
 use Rattle.archive_cells.specs.ListBytes.{listBytes}
-use Rattle.archive_judge.specs.Sharing.{Sharing}
+use Rattle.archive_read.specs.Sharing.{Sharing}
 use Rattle.call_ask.proofs.Opened.{OpenedIn, opened}
 use Rattle.rows.specs.Rows.{width}
 use Rattle.call_keys.proofs.Bare.{least-bare, bare-short}

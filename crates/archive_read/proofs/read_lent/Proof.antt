@@ -1,12 +1,12 @@
--- `archive_judge::read_lent` meets its contract: the walk answers for its stops, and what has right fields is stored and judged.
+-- `archive_read::read_lent` meets its contract: the walk answers for its stops, and what has right fields is stored and judged.
 use mathlib.Core.Path.{sym, _∙_}
 use denote.Ref.{now}
 use Rattle.archive_entries.specs.Reading.{walkArchive}
 use Rattle.archive_entries.proofs.Fields.{stopped-stored}
-use Rattle.archive_judge.proofs.Reading.{stop-required, stored-required}
+use Rattle.archive_read.proofs.Reading.{stop-required, stored-required}
 use borrow.Author.Needs.{needs}
-use Rattle.archive_judge.proofs.read_lent.Statement.{statement}
-use Rattle.archive_judge.proofs.read_lent.Tie as tie
+use Rattle.archive_read.proofs.read_lent.Statement.{statement}
+use Rattle.archive_read.proofs.read_lent.Tie as tie
 
 read-judged-requires : tie.Need-read-judged-requires
 read-judged-requires c κs = sym (c .before .before .before .before .before .before .check-archive .ensures) ∙ c .before .before .before .before .dims .given .1

@@ -1,10 +1,10 @@
--- `archive_judge::check_required` meets its contract: the walk answers for its stops, and what has right fields is judged.
+-- `archive_read::check_required` meets its contract: the walk answers for its stops, and what has right fields is judged.
 use mathlib.Core.Path.{sym, _∙_}
 use denote.Ref.{now}
-use Rattle.archive_judge.proofs.Reading.{stop-required}
+use Rattle.archive_read.proofs.Reading.{stop-required}
 use borrow.Author.Needs.{needs}
-use Rattle.archive_judge.proofs.check_required.Statement.{statement}
-use Rattle.archive_judge.proofs.check_required.Tie as tie
+use Rattle.archive_read.proofs.check_required.Statement.{statement}
+use Rattle.archive_read.proofs.check_required.Tie as tie
 
 judge-fields-requires : tie.Need-judge-fields-requires
 judge-fields-requires c κs = sym (c .before .before .before .check-archive .ensures) ∙ c .before .dims .given .1

@@ -1,4 +1,4 @@
--- `archive_judge::judge_read` meets its contract: the base rows fill the fronts of the arrays, and the archive is the one they require, or stop 12.
+-- `archive_read::judge_read` meets its contract: the base rows fill the fronts of the arrays, and the archive is the one they require, or stop 12.
 use mathlib.Core.Path.{sym, _∙_}
 use Prim.Native.Nat.{_*_}
 use native.Mathlib.Omega.{arith}
@@ -6,12 +6,12 @@ use denote.Ref.{now}
 use lib.ListN.{take}
 use Rattle.fields_walk.specs.Limits.{Bytes}
 use Rattle.rows.specs.Rows.{width}
 use Rattle.archive_judge.specs.Read.{Read}
 use Rattle.fields_walk.proofs.Limits.{bytes-of}
-use Rattle.archive_judge.proofs.Reading.{read-small, read-of, passed-required, stopped-required}
+use Rattle.archive_read.proofs.Reading.{read-small, read-of, passed-required, stopped-required}
 use borrow.Author.Needs.{needs}
-use Rattle.archive_judge.proofs.judge_read.Statement.{statement}
-use Rattle.archive_judge.proofs.judge_read.Tie as tie
+use Rattle.archive_read.proofs.judge_read.Statement.{statement}
+use Rattle.archive_read.proofs.judge_read.Tie as tie
 
 are-bytes : (c : tie.After-shared-slice-known) → Bytes (now (c .before .args .s))
 are-bytes c = bytes-of (now (c .before .args .s)) (λ i. omega (arith, c .shared-slice-known .given i))

@@ -1,12 +1,12 @@
--- `archive_judge::read_sharing` meets its contract: the walk answers for its stops, and what has right fields is stored and judged.
+-- `archive_read::read_sharing` meets its contract: the walk answers for its stops, and what has right fields is stored and judged.
 use mathlib.Core.Path.{sym, _∙_}
 use denote.Ref.{now}
 use Rattle.archive_entries.specs.Reading.{walkArchive}
 use Rattle.archive_entries.proofs.Fields.{stopped-stored}
-use Rattle.archive_judge.proofs.Reading.{stop-required, stored-required, shares-stop}
+use Rattle.archive_read.proofs.Reading.{stop-required, stored-required, shares-stop}
 use borrow.Author.Needs.{needs}
-use Rattle.archive_judge.proofs.read_sharing.Statement.{statement}
-use Rattle.archive_judge.proofs.read_sharing.Tie as tie
+use Rattle.archive_read.proofs.read_sharing.Statement.{statement}
+use Rattle.archive_read.proofs.read_sharing.Tie as tie
 
 judge-sharing-requires : tie.Need-judge-sharing-requires
 judge-sharing-requires c κs = sym (c .before .before .before .before .before .check-archive .ensures) ∙ c .before .before .before .dims .given .1

@@ -27,9 +27,9 @@ use Rattle.rows.specs.Rows.{width, cut, rowsOf}
 use Rattle.rows_order.specs.Index.{key}
 use Rattle.rows_slots.proofs.Entries.{slot-length}
 use Rattle.archive_normals.specs.Grouped.{Grouped}
 use Rattle.archive_judge.specs.Read.{Read}
-use Rattle.archive_judge.specs.Sharing.{Sharing, Shares}
+use Rattle.archive_read.specs.Sharing.{Sharing, Shares}
 use Rattle.archive_judge.proofs.Judged.{sizes-at}
 
 stored-walked : (p : Parsed Held) {a : Held} {rest : List ℕ} (ws : List ℕ) → p ≡ got a rest → Stored p ws → rowsOf (length (a .sizes)) (length (a .bases)) ws ≡ rowsIn a
 stored-walked p ws e h = subst (λ (q : Parsed Held). Stored q ws) e h

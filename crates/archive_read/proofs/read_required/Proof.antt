@@ -1,7 +1,7 @@
--- `archive_judge::read_required` meets its contract: how many rows share a cell is not asked.
+-- `archive_read::read_required` meets its contract: how many rows share a cell is not asked.
 use borrow.Author.Needs.{needs}
-use Rattle.archive_judge.proofs.read_required.Statement.{statement}
-use Rattle.archive_judge.proofs.read_required.Tie as tie
+use Rattle.archive_read.proofs.read_required.Statement.{statement}
+use Rattle.archive_read.proofs.read_required.Tie as tie
 
 returns : tie.Need-returns
 returns c = let e = c .read-sharing .ensures in (e .0, e .1 .0)

@@ -1,9 +1,9 @@
--- `archive_judge::read_judged` meets its contract: the rows are stored, then judged.
+-- `archive_read::read_judged` meets its contract: the rows are stored, then judged.
 use denote.Ref.{now}
-use Rattle.archive_judge.proofs.Reading.{stored-required}
+use Rattle.archive_read.proofs.Reading.{stored-required}
 use borrow.Author.Needs.{needs}
-use Rattle.archive_judge.proofs.read_judged.Statement.{statement}
-use Rattle.archive_judge.proofs.read_judged.Tie as tie
+use Rattle.archive_read.proofs.read_judged.Statement.{statement}
+use Rattle.archive_read.proofs.read_judged.Tie as tie
 
 judge-read-requires : tie.Need-judge-read-requires
 judge-read-requires c κs = (c .before .before .before .before .before .before .before .pre, ((search needs, c .before .before .before .before .store-rows .ensures), (search needs, search needs)))

@@ -1,10 +1,10 @@
--- `archive_judge::judge_sharing` meets its contract: the slots tell how many rows share a cell.
+-- `archive_read::judge_sharing` meets its contract: the slots tell how many rows share a cell.
 use denote.Ref.{now}
 use Rattle.archive_entries.specs.Reading.{walkArchive}
-use Rattle.archive_judge.proofs.Reading.{sharing-held, shares-told, shares-required}
+use Rattle.archive_read.proofs.Reading.{sharing-held, shares-told, shares-required}
 use borrow.Author.Needs.{needs}
-use Rattle.archive_judge.proofs.judge_sharing.Statement.{statement}
-use Rattle.archive_judge.proofs.judge_sharing.Tie as tie
+use Rattle.archive_read.proofs.judge_sharing.Statement.{statement}
+use Rattle.archive_read.proofs.judge_sharing.Tie as tie
 
 returns : tie.Need-returns
 returns c =
