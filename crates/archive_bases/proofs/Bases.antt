@@ -14,8 +14,8 @@ use Rattle.cube.specs.Condensed.{listed}
 use Rattle.rows.specs.Rows.{cut, rowAt, rowsOf, rowTotal}
 use Rattle.rows.proofs.Rows.{cut-length, rows-codes, row-at, row-length}
 use Rattle.rows.proofs.Flat.{blank, rows-length, rows-at, total-at}
-use Rattle.rows_condense.specs.Lists.{listsOf, ourLists}
-use Rattle.rows_condense.proofs.Lists.{list-length}
+use Rattle.rows_lists.specs.Lists.{listsOf, ourLists}
+use Rattle.rows_lists.proofs.Lists.{list-length}
 use Rattle.archive_entries.specs.Layout.{baseBytes, setsIn, based}
 use Rattle.archive_entries.proofs.Lengths.{base-length}
 use Rattle.archive_bases.specs.Listed.{Listed, ourBase, ourBases}

@@ -11,7 +11,7 @@ use Rattle.cube.specs.declared.Total.{Total}
 use Rattle.cube.specs.Measure.{Row, nothing}
 use Rattle.rows.specs.Rows.{cut}
 use Rattle.rows_ready.specs.Ready.{Ready}
-use Rattle.rows_condense.specs.Lists.{listsOf, Short, ourLists}
+use Rattle.rows_lists.specs.Lists.{listsOf, Short, ourLists}
 use Rattle.archive_entries.specs.Layout.{Based, based}
 
 pub record Listed (d n : ℕ) (ws ls : List ℕ) : Type 0 where

@@ -33,7 +33,7 @@ fn put_base(out: &mut [u8], rows: &[u32], n: usize, dims: usize, lists: &[u8], r
     let total = rows::total_at(rows, n, dims, row);
     let sum = total.sum;
     let count = total.count;
-    let list = rows_condense::list_of(lists, n, row);
+    let list = rows_lists::list_of(lists, n, row);
     archive_cells::put_entry(out, mine, sum, count, list)
 }
 
@@ -67,7 +67,7 @@ fn match_base(
     let total = rows::total_at(rows, n, dims, row);
     let sum = total.sum;
     let count = total.count;
-    let list = rows_condense::list_of(lists, n, row);
+    let list = rows_lists::list_of(lists, n, row);
     archive_cells::match_entry(s, at, mine, sum, count, list)
 }
 

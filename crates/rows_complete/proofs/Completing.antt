@@ -20,7 +20,7 @@ use Rattle.rows_slots.specs.Slots.{flat, large, crowds, packed}
 use Rattle.rows_slots.proofs.Groups.{flat-runs}
 use Rattle.rows_slots.proofs.Entries.{slot-length}
 use Rattle.rows_crowds.specs.Crowds.{part, Holds, AllHold, Filled}
-use Rattle.rows_complete.proofs.Turns.{Filling, filling-start, filling-skip, filling-more}
+use Rattle.rows_crowds.proofs.Turns.{Filling, filling-start, filling-skip, filling-more}
 
 -- ---- a slot that has every row has all groups
 

@@ -33,12 +33,12 @@ use Rattle.rows_slots.specs.Slots.{shares}
 use Rattle.rows_crowds.specs.Crowds.{shorter, leftOut}
 use Rattle.rows_crowds.proofs.Shorter.{shorter-less, shorter-holds, shorter-alone, rising-front}
 use Rattle.rows_crowds.proofs.First.{first-shares}
-use Rattle.rows_complete.proofs.Turns.{all-rising, all-of}
+use Rattle.rows_crowds.proofs.Turns.{all-rising, all-of}
 use Rattle.rows_crowds.proofs.Left.{left-in, left-of, left-distinct, shares-single}
-use Rattle.rows_condense.specs.Lists.{noted}
+use Rattle.rows_lists.specs.Lists.{noted}
 use Rattle.rows_condense.specs.Alone.{wordsOf, AloneOn, passes, isNew, Lower}
 use Rattle.rows_condense.proofs.Words.{passes-in, passes-of}
-use Rattle.rows_condense.proofs.Noted.{noted-length, noted-out, noted-in}
+use Rattle.rows_lists.proofs.Noted.{noted-length, noted-out, noted-in}
 use Rattle.rows_condense.proofs.Growing.{listedTo, listed-among, listed-more}
 use Rattle.rows_condense.proofs.Partly.{partly, below}
 

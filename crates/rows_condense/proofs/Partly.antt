@@ -12,8 +12,8 @@ use Rattle.cube.specs.Condensed.{proper, listed}
 use Rattle.cube.proofs.Codes.{plain-laws}
 use Rattle.cube.proofs.Nodes.{proper-in}
 use Rattle.cube.proofs.Promises.{at-most-70}
-use Rattle.rows_condense.specs.Lists.{listsOf, Empty, Fit, ourLists}
-use Rattle.rows_condense.proofs.Lists.{lists-length, lists-at}
+use Rattle.rows_lists.specs.Lists.{listsOf, Empty, Fit, ourLists}
+use Rattle.rows_lists.proofs.Lists.{lists-length, lists-at}
 use Rattle.rows_condense.proofs.Growing.{listedTo, listed-among, listed-few}
 
 -- our lists of rows with codes xs, of the sets l alone

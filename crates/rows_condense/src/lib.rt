@@ -1,10 +1,9 @@
 // Base rows condensed: the groups that they form under each set, and our list of each row.
 ghost use mathlib.Core.Path.{_≡_};
 ghost use mathlib.Core.Bool.{_||_};
-ghost use mathlib.Core.List.{[], _∷_, _++_};
 ghost use Prim.Native.Nat.{ℕ, _*_, _^_, _≤_, _<_};
 ghost use lib.Dec.{eqb};
-ghost use lib.ListN.{length, getD, set as put};
+ghost use lib.ListN.{length};
 ghost use Rattle.lists.specs.Lists.{some, keep};
 ghost use Rattle.lattice.specs.Sets.{full};
 ghost use Rattle.cube.specs.Codes.{plain};
@@ -15,53 +14,8 @@ ghost use Rattle.rows_deals.specs.Deals.{Names};
 ghost use Rattle.rows_order.specs.Index.{key, Valid};
 ghost use Rattle.rows_slots.specs.Slots.{crowds, packed};
 ghost use Rattle.rows_crowds.specs.Crowds.{Columns, shorter, leftOut, Holds, AllHold, Filled, ends};
-ghost use Rattle.rows_condense.specs.Lists.{listsOf, Short, Empty, Fit, noted, ourLists};
+ghost use Rattle.rows_lists.specs.Lists.{listsOf, Short, Fit, noted, ourLists};
 ghost use Rattle.rows_condense.specs.Alone.{wordsOf, passes, isNew, Lower, Stored, Told};
-
-// The list of a row.
-pub fn list_of(lists: &[u8], n: usize, row: usize) -> &[u8]
-    requires { ⌜ (n * 71 ≤ length (now lists)) × (row < n) × Short n (now lists) ⌝ }
-    ensures { λ r. ⌜ now r ≡ getD (listsOf n (now (lists .entry))) row [] ⌝ }
-{
-    let at = row * 71;
-    let from = at + 1;
-    let to = from + lists[at] as usize;
-    &lists[from..to]
-}
-
-// Puts a set behind the list of a row.
-fn note_at(lists: &mut [u8], n: usize, row: usize, set: u8)
-    requires { ⌜ (n * 71 ≤ length (now lists)) × (row < n) × Short n (now lists) × (getD (now lists) (row * 71) 0 < 70) ⌝ }
-    ensures { λ _. ⌜ listsOf n (now (lists .exit)) ≡ put (listsOf n (now (lists .entry))) row (getD (listsOf n (now (lists .entry))) row [] ++ set ∷ []) ⌝ }
-    ensures { λ _. ⌜ Short n (now (lists .exit)) ⌝ }
-{
-    let at = row * 71;
-    let len = lists[at];
-    lists[at + 1 + len as usize] = set;
-    lists[at] = len + 1;
-}
-
-// Puts a set behind the lists of the rows in `lone`.
-fn note_lone(lone: &[u32], set: u8, lists: &mut [u8], n: usize)
-    requires { ⌜ (n * 71 ≤ length (now lists)) × Short n (now lists) × Names (now lone) n ⌝ }
-    requires { ⌜ Fit (noted set (now lone) (listsOf n (now lists))) ⌝ }
-    ensures { λ _. ⌜ listsOf n (now (lists .exit)) ≡ noted set (now (lone .entry)) (listsOf n (now (lists .entry))) ⌝ }
-    ensures { λ _. ⌜ Short n (now (lists .exit)) ⌝ }
-{
-    for i in 0..lone.len() {
-        note_at(lists, n, lone[i] as usize, set);
-    }
-}
-
-// Makes the lists of n rows empty.
-fn clear_lists(lists: &mut [u8], n: usize)
-    requires { ⌜ n * 71 ≤ length (now lists) ⌝ }
-    ensures { λ _. ⌜ Empty n (now (lists .exit)) ⌝ }
-{
-    for row in 0..n {
-        lists[row * 71] = 0;
-    }
-}
 
 // The words of a set.
 fn words_of<'a>(alone: &'a [u32], set: usize) -> &'a [u32]
@@ -150,7 +104,7 @@ fn list_set(
         lone,
     );
     let new = &lone[..left];
-    note_lone(new, set as u8, lists, n);
+    rows_lists::note_lone(new, set as u8, lists, n);
     add_rows(new, passed);
     put_words(passed, set as usize, alone);
     let slot = rows_crowds::slot_of(store, sizes, set as usize);
@@ -178,7 +132,7 @@ pub fn condense_rows(
     let mut order = [0u32; 1024];
     let mut marks = [0u32; 1024];
     let mut lone = [0u32; 1024];
-    clear_lists(lists, n);
+    rows_lists::clear_lists(lists, n);
     rows_crowds::read_columns(rows, n, dims, &mut columns);
     let all = lattice::sets_of(dims as u32) - 1;
     let mut cells = 0;

@@ -6,3 +6,4 @@ pub mod Left
 pub mod First
 pub mod Column
 pub mod Filling
+pub mod Turns

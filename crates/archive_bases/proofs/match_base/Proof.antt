@@ -5,7 +5,7 @@ use denote.Ref.{now}
 use lib.ListN.{length}
 use mir.Syntax.{w64}
 use mir.Facts.{toZ-ofZ}
-use Rattle.rows_condense.proofs.Lists.{list-length}
+use Rattle.rows_lists.proofs.Lists.{list-length}
 use Rattle.archive_entries.specs.Layout.{baseBytes}
 use Rattle.archive_cells.specs.MatchedLaws.{matched-as}
 use Rattle.archive_bases.proofs.Bases.{base-at}

@@ -9,7 +9,7 @@ use Rattle.lattice.specs.Sets.{full}
 use Rattle.rows_crowds.specs.Crowds.{Passing, AllHold}
 use Rattle.rows_crowds.proofs.Shorter.{shorter-less}
 use Rattle.rows_crowds.proofs.Filling.{passing-none}
-use Rattle.rows_complete.proofs.Turns.{filling-shorter, filling-done}
+use Rattle.rows_crowds.proofs.Turns.{filling-shorter, filling-done}
 use Rattle.rows_complete.proofs.Completing.{Completing, whole-filled, completing-start, completing-skip, completing-more, all-more}
 use borrow.Author.Needs.{needs}
 use Rattle.rows_complete.proofs.complete_slots.Statement.{statement}

@@ -13,7 +13,7 @@ use Rattle.rows.specs.Rows.{cut}
 use Rattle.rows.proofs.Rows.{cut-length}
 use Rattle.rows_ready.specs.Blank.{blanks}
 use Rattle.rows_ready.proofs.Blank.{normals-count}
-use Rattle.rows_complete.proofs.Turns.{Filling, filling-start, filling-skip, filling-shorter, filling-more, filling-done}
+use Rattle.rows_crowds.proofs.Turns.{Filling, filling-start, filling-skip, filling-shorter, filling-more, filling-done}
 use Rattle.rows_condense.proofs.Listing.{Listing, Given, listing-start, listing-skip, listing-lower, listing-fit, listing-more, listing-few, listing-done}
 use borrow.Author.Needs.{needs}
 use Rattle.rows_condense.proofs.condense_rows.Statement.{statement}

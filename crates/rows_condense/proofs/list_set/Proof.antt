@@ -20,7 +20,7 @@ use Rattle.rows_slots.proofs.Entries.{flat-few, slot-length}
 use Rattle.rows_crowds.specs.Crowds.{leftOut, ends}
 use Rattle.rows_crowds.proofs.Filling.{below-all}
 use Rattle.rows_crowds.proofs.Left.{left-in}
-use Rattle.rows_condense.specs.Lists.{listsOf, Fit, noted}
+use Rattle.rows_lists.specs.Lists.{listsOf, Fit, noted}
 use Rattle.rows_condense.specs.Alone.{isNew}
 use Rattle.rows_condense.proofs.Alone.{lower-passing, lower-new, lower-told}
 use borrow.Author.Needs.{needs}

@@ -13,7 +13,7 @@ use lib.Seq.{drop-cons, drop-drop, getD-drop, getD-set-same, getD-set-other, tak
 use borrow.Author.Tests.{eqb-true, eqb-false, ltb-true, ltb-false}
 use Rattle.lists.specs.Lists.{some}
 use Rattle.lists.proofs.Tests.{cases, truth}
-use Rattle.rows_condense.specs.Lists.{listsOf, Short, Empty}
+use Rattle.rows_lists.specs.Lists.{listsOf, Short, Empty}
 
 -- ---- a test, from a place on
 

@@ -1,13 +1,13 @@
--- `rows_condense::clear_lists` meets its contract: the lists of the rows before a row are empty.
+-- `rows_lists::clear_lists` meets its contract: the lists of the rows before a row are empty.
 use mathlib.Core.Path.{_≡_, refl, _∙_}
 use Prim.Native.Nat.{_-_, _≤_}
 use native.Mathlib.Omega.{arith}
 use lib.ListN.{length, length-set}
-use Rattle.rows_condense.specs.Lists.{Empty}
-use Rattle.rows_condense.proofs.Lists.{empty-more}
+use Rattle.rows_lists.specs.Lists.{Empty}
+use Rattle.rows_lists.proofs.Lists.{empty-more}
 use borrow.Author.Needs.{needs}
-use Rattle.rows_condense.proofs.clear_lists.Statement.{statement}
-use Rattle.rows_condense.proofs.clear_lists.Tie as tie
+use Rattle.rows_lists.proofs.clear_lists.Statement.{statement}
+use Rattle.rows_lists.proofs.clear_lists.Tie as tie
 
 abbrev Inv-loop : tie.InvT-loop
 Inv-loop lists₀ n row₀ lists row = (row ≤ n) × (length lists ≡ length lists₀) × Empty row lists

@@ -1,15 +1,15 @@
--- `rows_condense::note_lone` meets its contract: with the set noted for the rows from place i on the lists are what they should be.
+-- `rows_lists::note_lone` meets its contract: with the set noted for the rows from place i on the lists are what they should be.
 use mathlib.Core.Path.{_≡_, refl}
 use Prim.Native.Nat.{_-_, _*_, _≤_, _<_}
 use native.Mathlib.Omega.{arith}
 use lib.ListN.{length, getD, drop}
 use denote.Ref.{now}
-use Rattle.rows_condense.specs.Lists.{listsOf, Short, noted}
-use Rattle.rows_condense.proofs.Lists.{lists-length, list-length}
-use Rattle.rows_condense.proofs.Noted.{noting-more, noting-room, noting-done}
+use Rattle.rows_lists.specs.Lists.{listsOf, Short, noted}
+use Rattle.rows_lists.proofs.Lists.{lists-length, list-length}
+use Rattle.rows_lists.proofs.Noted.{noting-more, noting-room, noting-done}
 use borrow.Author.Needs.{needs}
-use Rattle.rows_condense.proofs.note_lone.Statement.{statement}
-use Rattle.rows_condense.proofs.note_lone.Tie as tie
+use Rattle.rows_lists.proofs.note_lone.Statement.{statement}
+use Rattle.rows_lists.proofs.note_lone.Tie as tie
 
 abbrev Inv-loop : tie.InvT-loop
 Inv-loop lone set lists₀ n i₀ i-end lists i =

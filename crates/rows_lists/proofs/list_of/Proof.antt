@@ -1,13 +1,13 @@
--- `rows_condense::list_of` meets its contract: the list of a row starts behind its length, which stands at 71 times its place.
+-- `rows_lists::list_of` meets its contract: the list of a row starts behind its length, which stands at 71 times its place.
 use mathlib.Core.Path.{_≡_, sym, ap, _∙_}
 use Prim.Native.Nat.{ℕ, _+_, _-_, _*_, _≤_}
 use native.Mathlib.Omega.{arith}
 use lib.ListN.{length, getD, take, drop}
 use denote.Ref.{now}
-use Rattle.rows_condense.proofs.Lists.{lists-at}
+use Rattle.rows_lists.proofs.Lists.{lists-at}
 use borrow.Author.Needs.{needs}
-use Rattle.rows_condense.proofs.list_of.Statement.{statement}
-use Rattle.rows_condense.proofs.list_of.Tie as tie
+use Rattle.rows_lists.proofs.list_of.Statement.{statement}
+use Rattle.rows_lists.proofs.list_of.Tie as tie
 
 -- the list ends within the slice
 inside : (c : tie.After-shared-slice-known) → (let a = c .before .args in a .row * 71 + 1 + getD (now (a .lists)) (a .row * 71) 0 ≤ length (now (a .lists)))

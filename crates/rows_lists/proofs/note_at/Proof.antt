@@ -1,11 +1,11 @@
--- `rows_condense::note_at` meets its contract: the set is written behind the row's list, and the other lists stand elsewhere.
+-- `rows_lists::note_at` meets its contract: the set is written behind the row's list, and the other lists stand elsewhere.
 use native.Mathlib.Omega.{arith}
 use lib.ListN.{length-set}
 use denote.Ref.{now}
-use Rattle.rows_condense.proofs.Lists.{lists-put, short-put}
+use Rattle.rows_lists.proofs.Lists.{lists-put, short-put}
 use borrow.Author.Needs.{needs}
-use Rattle.rows_condense.proofs.note_at.Statement.{statement}
-use Rattle.rows_condense.proofs.note_at.Tie as tie
+use Rattle.rows_lists.proofs.note_at.Statement.{statement}
+use Rattle.rows_lists.proofs.note_at.Tie as tie
 
 slice-write-lists-2 : tie.Need-slice-write-lists-2
 slice-write-lists-2 c = simp length-set (omega (arith, c .before .pre .0, c .before .pre .1))

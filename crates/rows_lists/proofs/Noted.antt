@@ -13,7 +13,7 @@ use borrow.Author.Tests.{eqb-true, eqb-false}
 use Rattle.lists.specs.Lists.{_∈_, Distinct}
 use Rattle.lists.proofs.Tests.{cases, truth}
 use Rattle.lists.proofs.Members.{at-in}
-use Rattle.rows_condense.specs.Lists.{Fit, noted}
+use Rattle.rows_lists.specs.Lists.{Fit, noted}
 
 module _ (s : ℕ) where
   -- the list of row x with the set behind it
