@@ -2,7 +2,6 @@
 use mathlib.Core.Path.{_≡_, ap, subst}
 use mathlib.Core.List.{List, [], _++_, flatMap}
 use Prim.Native.Nat.{ℕ, _+_, _-_, _≤_, _<_}
-use lib.IntN.{ℤ}
 use lib.ListN.{length, drop}
 use borrow.Rule.Slice.PartMut.{midOf, putMid}
 use Rattle.fields.specs.Written.{Wrote}
@@ -17,16 +16,16 @@ use Rattle.archive_cells.specs.MatchedLaws.{matching-more, matching-off, matchi
 use Rattle.archive_bases.specs.Listed.{Listed, ourBase, ourBases}
 use Rattle.archive_bases.proofs.Bases.{bases-next, bases-none}
 
-module _ {d n : ℕ} {codes : List ℕ} {sums : List ℤ} {counts sets lens : List ℕ} (rows : Listed d n codes sums counts sets lens) (i : ℕ) where
+module _ {d n : ℕ} {ws ls : List ℕ} (rows : Listed d n ws ls) (i : ℕ) where
   -- the bytes of all entries, of those from a row on, and of that of row i
   abbrev all : List ℕ
-  all = flatMap baseBytes (ourBases d (rowsOf d n codes sums counts))
+  all = flatMap baseBytes (ourBases d (rowsOf d n ws))
 
   abbrev from : ℕ → List ℕ
-  from k = flatMap baseBytes (drop k (ourBases d (rowsOf d n codes sums counts)))
+  from k = flatMap baseBytes (drop k (ourBases d (rowsOf d n ws)))
 
   abbrev one : List ℕ
-  one = baseBytes (ourBase d (rowsOf d n codes sums counts) i)
+  one = baseBytes (ourBase d (rowsOf d n ws) i)
 
   left : i < n → from i ≡ one ++ from (i + 1)
   unfolding flatMap

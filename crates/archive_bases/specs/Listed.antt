@@ -1,4 +1,4 @@
--- Base rows in flat lists, with our lists of sets.
+-- Base rows in a flat list, with our lists of sets.
 --
 --   Listed d n ..     n base rows of d codes, and our list of each
 --   ourBase d rows i  the base entry of row i
@@ -6,21 +6,19 @@
 use mathlib.Core.Path.{_≡_}
 use mathlib.Core.List.{List, [], map}
 use Prim.Native.Nat.{ℕ, _*_, _≤_}
-use lib.IntN.{ℤ}
 use lib.ListN.{length, getD}
 use Rattle.cube.specs.declared.Total.{Total}
 use Rattle.cube.specs.Measure.{Row, nothing}
 use Rattle.rows.specs.Rows.{cut}
 use Rattle.rows_ready.specs.Ready.{Ready}
-use Rattle.rows_condense.specs.Lists.{listsOf, Short, ourLists}
+use Rattle.rows_lists.specs.Lists.{listsOf, Short, ourLists}
 use Rattle.archive_entries.specs.Layout.{Based, based}
 
-pub record Listed (d n : ℕ) (codes : List ℕ) (sums : List ℤ) (counts sets lens : List ℕ) : Type 0 where
-  pub ready : Ready d n codes sums counts
-  pub room : n * 70 ≤ length sets
-  pub size : length lens ≡ n
-  pub short : Short n lens
-  pub lists : listsOf n sets lens ≡ ourLists d (cut d n codes)
+pub record Listed (d n : ℕ) (ws ls : List ℕ) : Type 0 where
+  pub ready : Ready d n ws
+  pub room : n * 71 ≤ length ls
+  pub short : Short n ls
+  pub lists : listsOf n ls ≡ ourLists d (cut d n ws)
 
 unfoldable pub ourBase : ℕ → List (Row Total) → ℕ → Based
 ourBase d rows i = based d rows (getD rows i (record { codes = []; total = nothing }))

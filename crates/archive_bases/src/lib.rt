@@ -11,77 +11,41 @@ ghost use Rattle.archive_cells.specs.Matched.{Matched};
 ghost use Rattle.archive_bases.specs.Listed.{Listed, ourBase, ourBases};
 
 // How many sets the base entries list.
-pub fn sets_in(
-    codes: &[u32],
-    sums: &[i64],
-    counts: &[u32],
-    rows: usize,
-    dims: usize,
-    sets: &[u8],
-    lens: &[u32],
-) -> usize
-    requires { ⌜ Listed dims rows (now codes) (now sums) (now counts) (now sets) (now lens) ⌝ }
-    ensures { λ r. ⌜ r ≡ setsIn (ourBases dims (rowsOf dims rows (now (codes .entry)) (now (sums .entry)) (now (counts .entry)))) ⌝ }
+pub fn sets_in(rows: &[u32], n: usize, dims: usize, lists: &[u8]) -> usize
+    requires { ⌜ Listed dims n (now rows) (now lists) ⌝ }
+    ensures { λ r. ⌜ r ≡ setsIn (ourBases dims (rowsOf dims n (now (rows .entry)))) ⌝ }
     ensures { λ r. ⌜ r ≤ 71680 ⌝ }
 {
     let mut all = 0;
-    for i in 0..rows {
-        all += lens[i] as usize;
+    for i in 0..n {
+        all += lists[i * 71] as usize;
     }
     all
 }
 
 // Writes the base entry of a row.
-fn put_base(
-    out: &mut [u8],
-    codes: &[u32],
-    sums: &[i64],
-    counts: &[u32],
-    rows: usize,
-    dims: usize,
-    sets: &[u8],
-    lens: &[u32],
-    row: usize,
-) -> usize
-    requires { ⌜ Listed dims rows (now codes) (now sums) (now counts) (now sets) (now lens) × (row < rows) ⌝ }
-    requires { ⌜ length (baseBytes (ourBase dims (rowsOf dims rows (now codes) (now sums) (now counts)) row)) ≤ length (now out) ⌝ }
-    ensures { λ r. ⌜ Wrote (baseBytes (ourBase dims (rowsOf dims rows (now (codes .entry)) (now (sums .entry)) (now (counts .entry))) row)) (now (out .entry)) (now (out .exit)) r ⌝ }
+fn put_base(out: &mut [u8], rows: &[u32], n: usize, dims: usize, lists: &[u8], row: usize) -> usize
+    requires { ⌜ Listed dims n (now rows) (now lists) × (row < n) ⌝ }
+    requires { ⌜ length (baseBytes (ourBase dims (rowsOf dims n (now rows)) row)) ≤ length (now out) ⌝ }
+    ensures { λ r. ⌜ Wrote (baseBytes (ourBase dims (rowsOf dims n (now (rows .entry))) row)) (now (out .entry)) (now (out .exit)) r ⌝ }
 {
-    let mine = rows::row_of(codes, rows, dims, row);
-    let sum = sums[row];
-    let count = counts[row];
-    let list = rows_condense::list_of(sets, lens, rows, row);
+    let mine = rows::row_of(rows, n, dims, row);
+    let total = rows::total_at(rows, n, dims, row);
+    let sum = total.sum;
+    let count = total.count;
+    let list = rows_lists::list_of(lists, n, row);
     archive_cells::put_entry(out, mine, sum, count, list)
 }
 
 // Writes the base entries.
-pub fn put_bases(
-    out: &mut [u8],
-    codes: &[u32],
-    sums: &[i64],
-    counts: &[u32],
-    rows: usize,
-    dims: usize,
-    sets: &[u8],
-    lens: &[u32],
-) -> usize
-    requires { ⌜ Listed dims rows (now codes) (now sums) (now counts) (now sets) (now lens) ⌝ }
-    requires { ⌜ length (flatMap baseBytes (ourBases dims (rowsOf dims rows (now codes) (now sums) (now counts)))) ≤ length (now out) ⌝ }
-    ensures { λ r. ⌜ Wrote (flatMap baseBytes (ourBases dims (rowsOf dims rows (now (codes .entry)) (now (sums .entry)) (now (counts .entry))))) (now (out .entry)) (now (out .exit)) r ⌝ }
+pub fn put_bases(out: &mut [u8], rows: &[u32], n: usize, dims: usize, lists: &[u8]) -> usize
+    requires { ⌜ Listed dims n (now rows) (now lists) ⌝ }
+    requires { ⌜ length (flatMap baseBytes (ourBases dims (rowsOf dims n (now rows)))) ≤ length (now out) ⌝ }
+    ensures { λ r. ⌜ Wrote (flatMap baseBytes (ourBases dims (rowsOf dims n (now (rows .entry))))) (now (out .entry)) (now (out .exit)) r ⌝ }
 {
     let mut at = 0;
-    for row in 0..rows {
-        at += put_base(
-            &mut out[at..],
-            codes,
-            sums,
-            counts,
-            rows,
-            dims,
-            sets,
-            lens,
-            row,
-        );
+    for row in 0..n {
+        at += put_base(&mut out[at..], rows, n, dims, lists, row);
     }
     at
 }
@@ -90,22 +54,20 @@ pub fn put_bases(
 fn match_base(
     s: &[u8],
     at: usize,
-    codes: &[u32],
-    sums: &[i64],
-    counts: &[u32],
-    rows: usize,
+    rows: &[u32],
+    n: usize,
     dims: usize,
-    sets: &[u8],
-    lens: &[u32],
+    lists: &[u8],
     row: usize,
 ) -> Walk
-    requires { ⌜ Listed dims rows (now codes) (now sums) (now counts) (now sets) (now lens) × (row < rows) × (at ≤ length (now s)) ⌝ }
-    ensures { λ r. ⌜ Matched (now (s .entry)) at (baseBytes (ourBase dims (rowsOf dims rows (now (codes .entry)) (now (sums .entry)) (now (counts .entry))) row)) r ⌝ }
+    requires { ⌜ Listed dims n (now rows) (now lists) × (row < n) × (at ≤ length (now s)) ⌝ }
+    ensures { λ r. ⌜ Matched (now (s .entry)) at (baseBytes (ourBase dims (rowsOf dims n (now (rows .entry))) row)) r ⌝ }
 {
-    let mine = rows::row_of(codes, rows, dims, row);
-    let sum = sums[row];
-    let count = counts[row];
-    let list = rows_condense::list_of(sets, lens, rows, row);
+    let mine = rows::row_of(rows, n, dims, row);
+    let total = rows::total_at(rows, n, dims, row);
+    let sum = total.sum;
+    let count = total.count;
+    let list = rows_lists::list_of(lists, n, row);
     archive_cells::match_entry(s, at, mine, sum, count, list)
 }
 
@@ -113,21 +75,18 @@ fn match_base(
 pub fn match_bases(
     s: &[u8],
     start: usize,
-    codes: &[u32],
-    sums: &[i64],
-    counts: &[u32],
-    rows: usize,
+    rows: &[u32],
+    n: usize,
     dims: usize,
-    sets: &[u8],
-    lens: &[u32],
+    lists: &[u8],
 ) -> Walk
-    requires { ⌜ Listed dims rows (now codes) (now sums) (now counts) (now sets) (now lens) × (start ≤ length (now s)) ⌝ }
-    ensures { λ r. ⌜ Matched (now (s .entry)) start (flatMap baseBytes (ourBases dims (rowsOf dims rows (now (codes .entry)) (now (sums .entry)) (now (counts .entry))))) r ⌝ }
+    requires { ⌜ Listed dims n (now rows) (now lists) × (start ≤ length (now s)) ⌝ }
+    ensures { λ r. ⌜ Matched (now (s .entry)) start (flatMap baseBytes (ourBases dims (rowsOf dims n (now (rows .entry))))) r ⌝ }
 {
     let mut at = start;
-    for row in 0..rows {
-        match match_base(s, at, codes, sums, counts, rows, dims, sets, lens, row) {
-            Walk::Stop(n) => return Walk::Stop(n),
+    for row in 0..n {
+        match match_base(s, at, rows, n, dims, lists, row) {
+            Walk::Stop(stop) => return Walk::Stop(stop),
             Walk::At(next) => at = next,
         }
     }

@@ -5,13 +5,11 @@ use mathlib.Core.List.{List, [], _++_, append-assoc, append-nil}
 use Prim.Native.Nat.{ℕ, _+_, _-_, _≤_, _<_}
 use native.Mathlib.Nat.{add-zero}
 use native.Mathlib.Omega.{arith}
-use lib.ListN.{length, drop, length-append, length-drop, take}
+use lib.ListN.{length, drop, length-append, length-drop}
 use lib.Seq.{drop-drop}
 use Rattle.lists.proofs.Tests.{refuted}
 use Rattle.fields.specs.Opening.{startsWith}
 use Rattle.fields.specs.OpeningLaws.{startsWith-append, starts-length}
-use Rattle.fields.specs.Written.{Wrote}
-use Rattle.fields.specs.WrittenLaws.{wrote-front}
 use Rattle.fields_walk.specs.declared.Walk.{Walk}
 use Rattle.fields_walk.specs.declared.Walk.the-variants.{Stop, At}
 use Rattle.archive_cells.specs.Matched.{Matched, Matching}
@@ -69,10 +67,6 @@ matched-as {s} {at} {w} e m = subst (λ (zs : List ℕ). Matched s at zs w) e m
 -- what a case of the answer tells
 pub matched-told : {s xs : List ℕ} {at : ℕ} {w v : Walk} → w ≡ v → Matched s at xs w → Matched s at xs v
 matched-told {s} {xs} {at} e m = subst (λ (u : Walk). Matched s at xs u) e m
-
--- what was written over a front is what the front is compared as
-pub front-matched : {xs l m s : List ℕ} {at n : ℕ} {w : Walk} → Wrote xs l m n → Matched s at (take n m) w → Matched s at xs w
-front-matched wrote h = matched-as (wrote-front wrote) h
 
 -- ---- two parts, one behind the other
 

@@ -7,7 +7,7 @@ ghost use lib.ListN.{length};
 ghost use Rattle.fields.specs.Words.{wordBytes, wordsBytes};
 ghost use Rattle.fields.specs.Twos.{sumBytes};
 ghost use Rattle.fields.specs.Written.{Wrote};
-ghost use Rattle.rows.specs.Rows.{rowsOf};
+ghost use Rattle.rows.specs.Rows.{width, rowsOf};
 ghost use Rattle.fields_walk.specs.Fields.{headerBytes};
 ghost use Rattle.archive_entries.specs.Layout.{CUBE, cellBytes, baseBytes};
 ghost use Rattle.archive_cells.specs.ListBytes.{listBytes};
@@ -42,23 +42,16 @@ pub fn put_cell(out: &mut [u8], codes: &[u32], sum: i64, count: u32) -> usize
 }
 
 // Writes the cells of n rows one straight after the other.
-pub fn put_cells(
-    out: &mut [u8],
-    codes: &[u32],
-    sums: &[i64],
-    counts: &[u32],
-    n: usize,
-    dims: usize,
-) -> usize
-    requires { ⌜ (n * dims ≡ length (now codes)) × (n ≤ length (now sums)) × (n ≤ length (now counts)) × (n * (4 * dims + 12) ≤ length (now out)) ⌝ }
-    ensures { λ r. ⌜ Wrote (flatMap cellBytes (rowsOf dims n (now (codes .entry)) (now (sums .entry)) (now (counts .entry)))) (now (out .entry)) (now (out .exit)) r ⌝ }
+pub fn put_cells(out: &mut [u8], rows: &[u32], n: usize, dims: usize) -> usize
+    requires { ⌜ (n * width dims ≡ length (now rows)) × (n * (4 * dims + 12) ≤ length (now out)) ⌝ }
+    ensures { λ r. ⌜ Wrote (flatMap cellBytes (rowsOf dims n (now (rows .entry)))) (now (out .entry)) (now (out .exit)) r ⌝ }
 {
     let mut at = 0;
     for i in 0..n {
-        let mine = rows::row_of(codes, n, dims, i);
-        let sum = sums[i];
-        let count = counts[i];
-        at += put_cell(&mut out[at..], mine, sum, count);
+        let mine = rows::row_of(rows, n, dims, i);
+        let total = rows::total_at(rows, n, dims, i);
+        let sum = total.sum;
+        at += put_cell(&mut out[at..], mine, sum, total.count);
     }
     at
 }

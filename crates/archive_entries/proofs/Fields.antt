@@ -4,7 +4,6 @@ use mathlib.Core.Bool.{true, false, false≢true}
 use mathlib.Core.List.{List, []}
 use Prim.Native.Nat.{ℕ, _+_, _*_, _≤_}
 use native.Mathlib.Omega.{arith}
-use lib.IntN.{ℤ}
 use lib.ListN.{length, drop}
 use Rattle.fields_walk.specs.Parsed.{Parsed, stop, got}
 use Rattle.fields_walk.specs.Fields.{header, close}
@@ -75,10 +74,10 @@ accepted s d n e =
     subst (Accepted s d) (t .4) (subst (λ (k : ℕ). Accepted s k (length (t .0 .bases))) (t .3) (from s (t .0) (t .2) (p .2) (p .3)))
 
 -- rows that are the archive's are stored
-pub accepted-stored : (s : List ℕ) (d n : ℕ) (a : Accepted s d n) (c : List ℕ) (t : List ℤ) (k : List ℕ) → rowsOf d n c t k ≡ rowsIn (a .held) → Stored (walkArchive s) c t k
-accepted-stored s d n a c t k e = rw (a .walked, a .dims, a .count) e
+pub accepted-stored : (s : List ℕ) (d n : ℕ) (a : Accepted s d n) (ws : List ℕ) → rowsOf d n ws ≡ rowsIn (a .held) → Stored (walkArchive s) ws
+accepted-stored s d n a ws e = rw (a .walked, a .dims, a .count) e
 
--- nothing is asked of the arrays where the walk stopped
-pub stopped-stored : (p : Parsed Held) {n : ℕ} (c : List ℕ) (t : List ℤ) (k : List ℕ) → archiveAnswer p ≡ Answer.Stop n → Stored p c t k
-stopped-stored (stop n) c t k e = tt
-stopped-stored (got a rest) c t k e = let z : false ≡ true = cc in absurd (false≢true z)
+-- nothing is asked of the words where the walk stopped
+pub stopped-stored : (p : Parsed Held) {n : ℕ} (ws : List ℕ) → archiveAnswer p ≡ Answer.Stop n → Stored p ws
+stopped-stored (stop n) ws e = tt
+stopped-stored (got a rest) ws e = let z : false ≡ true = cc in absurd (false≢true z)

@@ -10,7 +10,7 @@
 --   walkArchive s       what the fields of s hold, or the first of the stops 1 to 11
 --   ArchiveRead         what the walk over an archive answers: the enum of src/lib.rt
 --   archiveAnswer p     the answer's number and values for what was read: the stop's number, or D, the base count and the normal count
---   Stored p ..         the arrays have the base rows that were read
+--   Stored p ws         the words ws have the base rows that were read
 --   judged s a rest     stop 12, unless s is the archive that the sizes and base rows of a require
 --   readArchive s       the sizes and base rows of s, or the first stop: 12 if the entries are not what the base rows require
 use mathlib.Core.Path.{_≡_}
@@ -77,9 +77,9 @@ abbrev pub archiveAnswer : Parsed Held → ArchiveRead
 archiveAnswer (stop n) = Answer.Stop n
 archiveAnswer (got a rest) = Answer.Entries (length (a .sizes)) (length (a .bases)) (length (a .cells))
 
-abbrev pub Stored : Parsed Held → List ℕ → List ℤ → List ℕ → Type 0
-Stored (stop n) codes amounts counts = Unit {0}
-Stored (got a rest) codes amounts counts = rowsOf (length (a .sizes)) (length (a .bases)) codes amounts counts ≡ rowsIn a
+abbrev pub Stored : Parsed Held → List ℕ → Type 0
+Stored (stop n) ws = Unit {0}
+Stored (got a rest) ws = rowsOf (length (a .sizes)) (length (a .bases)) ws ≡ rowsIn a
 
 abbrev pub judged : List ℕ → Held → List ℕ → Parsed Held
 judged s a rest = stopUnless (same s (archiveBytes (a .sizes) (rowsIn a))) 12 (got a rest)

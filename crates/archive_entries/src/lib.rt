@@ -4,13 +4,13 @@ use rows::Order;
 ghost use mathlib.Core.Logic.{_⊎_};
 ghost use mathlib.Core.Path.{_≡_};
 ghost use mathlib.Core.List.{[], _∷_, _++_};
-ghost use Prim.Native.Nat.{ℕ, suc, _+_, _*_, _≤_, _<_};
+ghost use Prim.Native.Nat.{ℕ, _+_, _*_, _≤_, _<_};
 ghost use lib.ListN.{length, drop};
 ghost use Rattle.lists.specs.Order.{earlier};
 ghost use Rattle.fields.specs.Words.{wordsAt};
 ghost use Rattle.fields_walk.specs.Walked.{Walked};
 ghost use Rattle.cube.specs.Bounds.{most, canMake};
-ghost use Rattle.rows.specs.Rows.{rowsOf};
+ghost use Rattle.rows.specs.Rows.{width, rowsOf};
 ghost use Rattle.archive_entries.specs.Places.{rowThere};
 ghost use Rattle.archive_entries.specs.Reading.{rising, amount, list, entry, entries, bases, cells, walkArchive, archiveAnswer, Stored};
 
@@ -175,46 +175,29 @@ pub fn check_cells(s: &[u8], dims: usize, at: usize) -> Walk
     }
 }
 
-// The row of the base entry at a place, stored as row i.
-fn store_row(
-    s: &[u8],
-    dims: usize,
-    at: usize,
-    i: usize,
-    codes: &mut [u32],
-    sums: &mut [i64],
-    counts: &mut [u32],
-)
-    requires { ⌜ at + 4 * dims + 12 ≤ length (now s) ⌝ }
-    requires { ⌜ (suc i * dims ≤ length (now codes)) × (i < length (now sums)) × (i < length (now counts)) ⌝ }
-    ensures { λ r. ⌜ rowsOf dims (suc i) (now (codes .exit)) (now (sums .exit)) (now (counts .exit))
-        ≡ rowsOf dims i (now (codes .entry)) (now (sums .entry)) (now (counts .entry))
-        ++ rowThere (now (s .entry)) dims at ∷ [] ⌝ }
+// The row of the base entry at a place, stored as row i: its words are those of the file.
+fn store_row(s: &[u8], dims: usize, at: usize, i: usize, rows: &mut [u32])
+    requires { ⌜ (at + 4 * width dims ≤ length (now s)) × (i * width dims + width dims ≤ length (now rows)) ⌝ }
+    ensures { λ r. ⌜ rowsOf dims (i + 1) (now (rows .exit)) ≡ rowsOf dims i (now (rows .entry)) ++ rowThere (now (s .entry)) dims at ∷ [] ⌝ }
 {
-    let sum = fields::sum_at(s, at + 4 * dims);
-    let count = fields::word_at(s, at + 4 * dims + 8);
-    rows::store_row(s, at, dims, sum, count, i, codes, sums, counts);
+    let width = dims + 3;
+    let from = i * width;
+    let to = from + width;
+    fields::read_words(s, at, &mut rows[from..to]);
 }
 
 // The base rows of an archive whose fields are right.
-pub fn store_rows(
-    s: &[u8],
-    dims: u32,
-    bases: u32,
-    codes: &mut [u32],
-    sums: &mut [i64],
-    counts: &mut [u32],
-)
+pub fn store_rows(s: &[u8], dims: u32, bases: u32, rows: &mut [u32])
     requires { ⌜ ((n : ℕ) × (archiveAnswer (walkArchive (now s)) ≡ ArchiveRead.Entries dims bases n)) ⌝ }
-    requires { ⌜ (8192 ≤ length (now codes)) × (1024 ≤ length (now sums)) × (1024 ≤ length (now counts)) ⌝ }
-    ensures { λ r. ⌜ Stored (walkArchive (now (s .entry))) (now (codes .exit)) (now (sums .exit)) (now (counts .exit)) ⌝ }
+    requires { ⌜ 11264 ≤ length (now rows) ⌝ }
+    ensures { λ r. ⌜ Stored (walkArchive (now (s .entry))) (now (rows .exit)) ⌝ }
 {
     let d = dims as usize;
     let count = bases as usize;
     let mut at = 12 + 4 * d;
     let mut i = 0;
     while i < count {
-        store_row(s, d, at, i, codes, sums, counts);
+        store_row(s, d, at, i, rows);
         let list = fields::word_at(s, at + 4 * d + 12) as usize;
         at += 4 * d + 16 + 4 * list;
         i += 1;

@@ -43,6 +43,6 @@ pub masked-cell : (d s : ℕ) (m x : List ℕ) → d ≤ 8 → Coded d x → Mas
 masked-cell d s m x few v h = masked-is d s m x v (λ k l. h k (omega (arith, l, few)))
 
 -- the row at place r among n rows
-pub masked-key : (d n s r : ℕ) (codes m : List ℕ) → d ≤ 8 → Valid d (cut d n codes) → Mask s m → r < n → masked m (rowAt (cut d n codes) r) ≡ key s (cut d n codes) r
+pub masked-key : (d n s r : ℕ) (ws m : List ℕ) → d ≤ 8 → Valid d (cut d n ws) → Mask s m → r < n → masked m (rowAt (cut d n ws) r) ≡ key s (cut d n ws) r
 unfolding key
-masked-key d n s r codes m few v h named = masked-cell d s m (rowAt (cut d n codes) r) few (v (rowAt (cut d n codes) r) (at-in [] (cut d n codes) r (rw cut-length named))) h
+masked-key d n s r ws m few v h named = masked-cell d s m (rowAt (cut d n ws) r) few (v (rowAt (cut d n ws) r) (at-in [] (cut d n ws) r (rw cut-length named))) h

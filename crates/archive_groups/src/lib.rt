@@ -6,7 +6,7 @@ ghost use lib.ListN.{length, drop};
 ghost use Rattle.fields.specs.Words.{wordsBytes};
 ghost use Rattle.fields.specs.Opening.{startsWith};
 ghost use Rattle.fields.specs.Written.{Wrote};
-ghost use Rattle.rows.specs.Rows.{cut};
+ghost use Rattle.rows.specs.Rows.{cut, rowTotal};
 ghost use Rattle.rows_order.specs.Index.{key};
 ghost use Rattle.archive_entries.specs.Layout.{cellBytes};
 ghost use Rattle.archive_cells.specs.Matched.{Matched};
@@ -51,17 +51,15 @@ pub fn put_group(out: &mut [u8], mine: &[u32], missing: &[u32; 8], total: cube::
 // Writes the cells of the groups of a slot.
 pub fn put_groups(
     out: &mut [u8],
-    codes: &[u32],
-    sums: &[i64],
-    counts: &[u32],
-    rows: usize,
+    rows: &[u32],
+    n: usize,
     dims: usize,
     set: u32,
     slot: &[u16],
 ) -> usize
-    requires { ⌜ Groupable dims rows (now codes) (now sums) (now counts) (now slot) ⌝ }
-    requires { ⌜ length (groupBytes (now sums) (now counts) (key set (cut dims rows (now codes))) (now slot)) ≤ length (now out) ⌝ }
-    ensures { λ r. ⌜ Wrote (groupBytes (now (sums .entry)) (now (counts .entry)) (key set (cut dims rows (now (codes .entry)))) (now (slot .entry))) (now (out .entry)) (now (out .exit)) r ⌝ }
+    requires { ⌜ Groupable dims n (now rows) (now slot) ⌝ }
+    requires { ⌜ length (groupBytes (rowTotal dims n (now rows)) (key set (cut dims n (now rows))) (now slot)) ≤ length (now out) ⌝ }
+    ensures { λ r. ⌜ Wrote (groupBytes (rowTotal dims n (now (rows .entry))) (key set (cut dims n (now (rows .entry)))) (now (slot .entry))) (now (out .entry)) (now (out .exit)) r ⌝ }
 {
     let missing = mask_of(set);
     let mut at = 0;
@@ -69,11 +67,11 @@ pub fn put_groups(
     for i in 0..slot.len() {
         let e = slot[i];
         let row = rows_slots::row_in(e) as usize;
-        total = rows_slots::add_row(sums, counts, row, total);
+        total = rows_slots::add_row(rows, n, dims, row, total);
         if rows_slots::end_in(e) == 0 {
             continue;
         }
-        let mine = rows::row_of(codes, rows, dims, row);
+        let mine = rows::row_of(rows, n, dims, row);
         at += put_group(&mut out[at..], mine, &missing, total);
         total = cube::Total { sum: 0, count: 0 };
     }
@@ -123,16 +121,14 @@ fn match_group(s: &[u8], start: usize, mine: &[u32], missing: &[u32; 8], total: 
 pub fn match_groups(
     s: &[u8],
     start: usize,
-    codes: &[u32],
-    sums: &[i64],
-    counts: &[u32],
-    rows: usize,
+    rows: &[u32],
+    n: usize,
     dims: usize,
     set: u32,
     slot: &[u16],
 ) -> Walk
-    requires { ⌜ Groupable dims rows (now codes) (now sums) (now counts) (now slot) × (start ≤ length (now s)) ⌝ }
-    ensures { λ r. ⌜ Matched (now (s .entry)) start (groupBytes (now (sums .entry)) (now (counts .entry)) (key set (cut dims rows (now (codes .entry)))) (now (slot .entry))) r ⌝ }
+    requires { ⌜ Groupable dims n (now rows) (now slot) × (start ≤ length (now s)) ⌝ }
+    ensures { λ r. ⌜ Matched (now (s .entry)) start (groupBytes (rowTotal dims n (now (rows .entry))) (key set (cut dims n (now (rows .entry)))) (now (slot .entry))) r ⌝ }
 {
     let missing = mask_of(set);
     let mut at = start;
@@ -140,13 +136,13 @@ pub fn match_groups(
     for i in 0..slot.len() {
         let e = slot[i];
         let row = rows_slots::row_in(e) as usize;
-        total = rows_slots::add_row(sums, counts, row, total);
+        total = rows_slots::add_row(rows, n, dims, row, total);
         if rows_slots::end_in(e) == 0 {
             continue;
         }
-        let mine = rows::row_of(codes, rows, dims, row);
+        let mine = rows::row_of(rows, n, dims, row);
         match match_group(s, at, mine, &missing, total) {
-            Walk::Stop(n) => return Walk::Stop(n),
+            Walk::Stop(stop) => return Walk::Stop(stop),
             Walk::At(next) => at = next,
         }
         total = cube::Total { sum: 0, count: 0 };

@@ -6,7 +6,6 @@ use Prim.Native.Nat.{ℕ, _+_, _-_, _*_, _≤_}
 use native.Mathlib.Omega.{arith}
 use borrow.Author.Tests.{eqb-true, eqb-false}
 use lib.Dec.{eqb}
-use lib.IntN.{ℤ}
 use lib.ListN.{length, drop, length-append}
 use Rattle.lists.specs.Lists.{_∈_, Distinct}
 use Rattle.lists.specs.Order.{same}
@@ -25,7 +24,7 @@ use Rattle.fields_walk.proofs.Lengths.{length-header}
 use Rattle.cube.specs.declared.Total.{Total}
 use Rattle.cube.specs.Measure.{Row, codesOf}
 use Rattle.cube.specs.Codes.{Coded}
-use Rattle.rows.specs.Rows.{rowsOf}
+use Rattle.rows.specs.Rows.{width, rowsOf}
 use Rattle.rows.proofs.Rows.{rows-codes}
 use Rattle.rows.proofs.Flat.{rows-length}
 use Rattle.archive_entries.specs.Layout.{CUBE, Held, section, baseBytes, cellBytes, layout, required, archiveBytes, Limits}
@@ -48,23 +47,21 @@ unfolding archiveBytes required layout sections ourBases normalRows
 archive-sections zs rows = refl
 
 -- rows within the limits, in flat lists, are ready to be grouped
-pub limits-ready : {zs : List ℕ} {rows : List (Row Total)} {d n : ℕ} {codes : List ℕ} {sums : List ℤ} {counts : List ℕ} → Limits zs rows → rowsOf d n codes sums counts ≡ rows
-    → length zs ≡ d → n * d ≡ length codes → length sums ≡ n → length counts ≡ n → Ready d n codes sums counts
-limits-ready {zs} {rows} {d} {n} {codes} {sums} {counts} l e k size amounts tallies =
+pub limits-ready : {zs : List ℕ} {rows : List (Row Total)} {d n : ℕ} {ws : List ℕ} → Limits zs rows → rowsOf d n ws ≡ rows
+    → length zs ≡ d → n * width d ≡ length ws → Ready d n ws
+limits-ready {zs} {rows} {d} {n} {ws} l e k size =
     let base = limits-base zs rows l in
     record {
       dims = omega (arith, k, l .sized .few);
-      few = omega (arith, l .few, ap length e, rows-length d n codes sums counts);
+      few = omega (arith, l .few, ap length e, rows-length d n ws);
       size = size;
-      amounts = amounts;
-      tallies = tallies;
       table = λ q m. subst (λ (i : ℕ). Coded i (q .codes)) k (base .valid (q .codes) (Memᴰ·map (λ p. p .codes) (subst (λ (x : List (Row Total)). q ∈ x) e m)));
       summable = rw e (limits-summable zs rows l);
-      distinct = subst Distinct (ap codesOf (sym e) ∙ rows-codes d n codes sums counts) (base .distinct);
+      distinct = subst Distinct (ap codesOf (sym e) ∙ rows-codes d n ws) (base .distinct);
     }
 
-pub read-ready : {s : List ℕ} {d n : ℕ} {codes : List ℕ} {sums : List ℤ} {counts : List ℕ} → Bytes s → Read s d n codes sums counts → Ready d n codes sums counts
-read-ready {s} b r = limits-ready (walkable-limits (r .held) (walk-forth s (r .held) [] b (r .walked) .0)) (r .rows) (r .dims) (r .size) (r .amounts) (r .tallies)
+pub read-ready : {s : List ℕ} {d n : ℕ} {ws : List ℕ} → Bytes s → Read s d n ws → Ready d n ws
+read-ready {s} b r = limits-ready (walkable-limits (r .held) (walk-forth s (r .held) [] b (r .walked) .0)) (r .rows) (r .dims) (r .size)
 
 -- the sizes stand behind D
 pub sizes-at : (s : List ℕ) {a : Held} → walkArchive s ≡ got a [] → a .sizes ≡ wordsAt s (length (a .sizes)) 8
@@ -86,7 +83,7 @@ module _ {s : List ℕ} {d : ℕ} (zs body : List ℕ) (dims : length zs ≡ d) 
   long : length s ≡ 8 + 4 * d + length body + 4
   long = omega (arith, ap length e, length-append (front ++ body) check, length-append front body, length-header CUBE zs, dims)
 
-module _ {s : List ℕ} {d n : ℕ} {codes : List ℕ} {sums : List ℤ} {counts : List ℕ} (b : Bytes s) (r : Read s d n codes sums counts) where
+module _ {s : List ℕ} {d n : ℕ} {ws : List ℕ} (b : Bytes s) (r : Read s d n ws) where
   abbrev zs : List ℕ
   zs = wordsAt s d 8
 
@@ -94,7 +91,7 @@ module _ {s : List ℕ} {d n : ℕ} {codes : List ℕ} {sums : List ℤ} {counts
   dims = length-wordsAt s d 8
 
   abbrev table : List (Row Total)
-  table = rowsOf d n codes sums counts
+  table = rowsOf d n ws
 
   -- what stands behind the sizes, and what should
   abbrev own : List ℕ

@@ -1,4 +1,3 @@
 -- Why an archive is judged right.
 pub mod Parts
 pub mod Judged
-pub mod Reading

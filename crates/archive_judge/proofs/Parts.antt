@@ -2,7 +2,6 @@
 use mathlib.Core.Path.{_≡_, sym, ap, ap₂, _∙_}
 use mathlib.Core.List.{List, _++_, flatMap}
 use Prim.Native.Nat.{ℕ}
-use lib.IntN.{ℤ}
 use lib.ListN.{length, length-map}
 use Rattle.fields.specs.Words.{wordBytes}
 use Rattle.cube.specs.declared.Total.{Total}
@@ -20,15 +19,15 @@ use Rattle.archive_normals.specs.Normals.{normalBytes}
 use Rattle.archive_judge.specs.Read.{sections}
 
 -- the four parts, with the counts that the code has
-module _ (d n : ℕ) (codes : List ℕ) (sums : List ℤ) (counts : List ℕ) where
+module _ (d n : ℕ) (ws : List ℕ) where
   abbrev table : List (Row Total)
-  table = rowsOf d n codes sums counts
+  table = rowsOf d n ws
 
-  pub four-parts : {cells : ℕ} → cells ≡ length (normals (plain d) (cut d n codes))
+  pub four-parts : {cells : ℕ} → cells ≡ length (normals (plain d) (cut d n ws))
       → (wordBytes n ++ flatMap baseBytes (ourBases d table)) ++ (wordBytes cells ++ normalBytes d table) ≡ sections d table
   unfolding sections ourBases normalRows normalBytes
   four-parts {cells} e =
-      let b : n ≡ length (ourBases d table) = sym (length-map table (based d table) ∙ rows-length d n codes sums counts) in
+      let b : n ≡ length (ourBases d table) = sym (length-map table (based d table) ∙ rows-length d n ws) in
       let c : cells ≡ length (normalRows d table) =
-      e ∙ ap (λ (xs : List (List ℕ)). length (normals (plain d) xs)) (sym (rows-codes d n codes sums counts)) ∙ sym (length-map (normals (plain d) (codesOf table)) (filled (plain d) measure table)) in
+      e ∙ ap (λ (xs : List (List ℕ)). length (normals (plain d) xs)) (sym (rows-codes d n ws)) ∙ sym (length-map (normals (plain d) (codesOf table)) (filled (plain d) measure table)) in
       ap₂ (λ (p q : ℕ). (wordBytes p ++ flatMap baseBytes (ourBases d table)) ++ (wordBytes q ++ normalBytes d table)) b c

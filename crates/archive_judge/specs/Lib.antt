@@ -1,3 +1,2 @@
 -- Base rows of an archive whose fields are right.
 pub mod Read
-pub mod Sharing

@@ -3,9 +3,7 @@ use mathlib.Core.Path.{_≡_, refl, sym, ap, _∙_}
 use mathlib.Core.List.{List, [], _∷_, _++_, map, flatMap, map-append, append-nil}
 use Prim.Native.Nat.{ℕ, zero, suc, _+_, _*_, _≤_}
 use native.Mathlib.Omega.{arith}
-use lib.IntN.{pos}
 use lib.ListN.{length, take, replicate, length-replicate}
-use lib.Seq.{take-all}
 use Rattle.lists.proofs.Members.{flat-append}
 use Rattle.lattice.specs.Sets.{full}
 use Rattle.lattice.proofs.Turns.{from-full}
@@ -14,10 +12,8 @@ use Rattle.cube.specs.Measure.{nothing, Row, sums as measure, codesOf}
 use Rattle.cube.specs.Codes.{ALL, plain}
 use Rattle.cube.specs.Cube.{blank, filled}
 use Rattle.cube.specs.Condensed.{proper, shared, common, normals}
-use Rattle.rows.specs.Rows.{rowsOf}
 use Rattle.archive_entries.specs.Layout.{cellBytes}
 use Rattle.archive_entries.proofs.Lengths.{cell-length}
-use Rattle.rows_ready.specs.Blank.{blanks, blankRows}
 use Rattle.rows_ready.proofs.Blank.{blank-rows}
 use Rattle.rows_condense.specs.Shared.{sharedRows, normalRows}
 use Rattle.archive_cells.proofs.Turns.{turns}
@@ -54,11 +50,6 @@ normal-parts d rows =
 abbrev alls : List ℕ
 alls = ALL ∷ ALL ∷ ALL ∷ ALL ∷ ALL ∷ ALL ∷ ALL ∷ ALL ∷ []
 
--- one cell of at most 8 codes, or none
-pub blanks-size : (d n : ℕ) → d ≤ 8 → (blanks n ≤ 1) × (blanks n * d ≤ 8)
-blanks-size d zero h = omega arith
-blanks-size d (suc n) h = omega arith
-
 take-replicate : (d n : ℕ) → d ≤ n → take d (replicate n ALL) ≡ replicate d ALL
 take-replicate zero n h = refl
 take-replicate (suc d) zero h = absurd (omega arith)
@@ -67,17 +58,13 @@ take-replicate (suc d) (suc n) h = ap (λ (l : List ℕ). ALL ∷ l) (take-repli
 take-alls : (d : ℕ) → d ≤ 8 → take d alls ≡ replicate d ALL
 take-alls d h = take-replicate d 8 h
 
-pub blank-stored : (d n : ℕ) → d ≤ 8 → rowsOf d (blanks n) (take (blanks n * d) alls) (take (blanks n) (pos 0 ∷ [])) (take (blanks n) (0 ∷ [])) ≡ blankRows d n
-unfolding rowsOf
-blank-stored d zero h =
-    let e : 1 * d ≡ d = omega arith in
-    ap (λ (x : List ℕ). record { codes = x; total = nothing } ∷ []) (rw e (ap (take d) (take-alls d h) ∙ take-all d (replicate d ALL) (omega (arith, length-replicate d ALL))) ∙ refl)
-blank-stored d (suc n) h = refl
+pub alls-front : (d : ℕ) → d ≤ 8 → length (take d alls) ≡ d
+alls-front d h = ap length (take-alls d h) ∙ length-replicate d ALL
 
-pub blank-long : (d n : ℕ) → length (blankBytes d n) ≡ blanks n * (4 * d + 12)
+pub blank-long : (d n : ℕ) → n ≡ 0 → length (blankBytes d n) ≡ 4 * d + 12
 unfolding blankBytes flatMap
-blank-long d zero = simp append-nil (omega (arith, cell-length d (record { codes = replicate d ALL; total = nothing }) (length-replicate d ALL)))
-blank-long d (suc n) = omega arith
+blank-long d zero e = simp append-nil (omega (arith, cell-length d (record { codes = replicate d ALL; total = nothing }) (length-replicate d ALL)))
+blank-long d (suc n) e = absurd (omega (arith, e))
 
 -- where there are rows it has none
 pub blank-none : (d n : ℕ) → (n ≡ 0 → ⊥) → blankBytes d n ≡ []

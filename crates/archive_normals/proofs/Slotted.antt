@@ -3,12 +3,11 @@ use mathlib.Core.Path.{_≡_, ap, _∙_}
 use mathlib.Core.List.{List, flatMap}
 use Prim.Native.Nat.{ℕ, _≤_, _<_}
 use native.Mathlib.Omega.{arith}
-use lib.IntN.{ℤ}
 use lib.ListN.{getD}
 use lib.Pow.{pow-mono}
 use Rattle.lattice.specs.Sets.{full}
 use Rattle.lattice.proofs.Sets.{full-lt}
-use Rattle.rows.specs.Rows.{cut, rowsOf}
+use Rattle.rows.specs.Rows.{cut, rowsOf, rowTotal}
 use Rattle.archive_entries.specs.Layout.{cellBytes}
 use Rattle.rows_order.specs.Index.{key}
 use Rattle.rows_crowds.specs.Crowds.{part, Holds}
@@ -18,17 +17,17 @@ use Rattle.archive_groups.proofs.Groupable.{groupable}
 use Rattle.archive_normals.specs.Grouped.{Grouped}
 use Rattle.archive_normals.specs.Normals.{sharedBytes}
 
-module _ {d n : ℕ} {codes : List ℕ} {sums : List ℤ} {counts store used : List ℕ} (rows : Grouped d n codes sums counts store used) {s : ℕ} (h : s < full d) where
-  held : Holds 2 d n codes store used s
+module _ {d n : ℕ} {ws store used : List ℕ} (rows : Grouped d n ws store used) {s : ℕ} (h : s < full d) where
+  held : Holds 2 d n ws store used s
   held = rows .slots .all s h
 
   pub slot-place : (s < 256) × (getD used s 0 ≤ 1024)
   slot-place = (omega (arith, h, full-lt d, pow-mono {i = d} {j = 8} (rows .ready .dims)), omega (arith, held .few, rows .ready .few))
 
   module _ {slot : List ℕ} (e : slot ≡ part s (getD used s 0) store) where
-    pub slot-groupable : Groupable d n codes sums counts slot
+    pub slot-groupable : Groupable d n ws slot
     slot-groupable = groupable (rows .ready) 2 s slot (e ∙ held .slot)
 
-    pub slot-bytes : groupBytes sums counts (key s (cut d n codes)) slot ≡ sharedBytes d (rowsOf d n codes sums counts) s
+    pub slot-bytes : groupBytes (rowTotal d n ws) (key s (cut d n ws)) slot ≡ sharedBytes d (rowsOf d n ws) s
     unfolding groupBytes sharedBytes
     slot-bytes = ap (flatMap cellBytes) (slot-shared (rows .ready) s slot (e ∙ held .slot))

@@ -12,37 +12,33 @@ ghost use Rattle.archive_normals.specs.Normals.{sharedBytes, commonBytes
 // Writes the normal entries of a set.
 fn put_shared(
     out: &mut [u8],
-    codes: &[u32],
-    sums: &[i64],
-    counts: &[u32],
-    rows: usize,
+    rows: &[u32],
+    n: usize,
     dims: usize,
     set: u32,
     store: &[u16],
     used: &[usize],
 ) -> usize
-    requires { ⌜ Grouped dims rows (now codes) (now sums) (now counts) (now store) (now used) × (set < full dims) ⌝ }
-    requires { ⌜ length (sharedBytes dims (rowsOf dims rows (now codes) (now sums) (now counts)) set) ≤ length (now out) ⌝ }
-    ensures { λ r. ⌜ Wrote (sharedBytes dims (rowsOf dims rows (now (codes .entry)) (now (sums .entry)) (now (counts .entry))) set) (now (out .entry)) (now (out .exit)) r ⌝ }
+    requires { ⌜ Grouped dims n (now rows) (now store) (now used) × (set < full dims) ⌝ }
+    requires { ⌜ length (sharedBytes dims (rowsOf dims n (now rows)) set) ≤ length (now out) ⌝ }
+    ensures { λ r. ⌜ Wrote (sharedBytes dims (rowsOf dims n (now (rows .entry))) set) (now (out .entry)) (now (out .exit)) r ⌝ }
 {
     let slot = rows_crowds::slot_of(store, used, set as usize);
-    archive_groups::put_groups(out, codes, sums, counts, rows, dims, set, slot)
+    archive_groups::put_groups(out, rows, n, dims, set, slot)
 }
 
 // Writes the normal entries of all sets.
 fn put_common(
     out: &mut [u8],
-    codes: &[u32],
-    sums: &[i64],
-    counts: &[u32],
-    rows: usize,
+    rows: &[u32],
+    n: usize,
     dims: usize,
     store: &[u16],
     used: &[usize],
 ) -> usize
-    requires { ⌜ Grouped dims rows (now codes) (now sums) (now counts) (now store) (now used) ⌝ }
-    requires { ⌜ length (commonBytes dims (rowsOf dims rows (now codes) (now sums) (now counts))) ≤ length (now out) ⌝ }
-    ensures { λ r. ⌜ Wrote (commonBytes dims (rowsOf dims rows (now (codes .entry)) (now (sums .entry)) (now (counts .entry)))) (now (out .entry)) (now (out .exit)) r ⌝ }
+    requires { ⌜ Grouped dims n (now rows) (now store) (now used) ⌝ }
+    requires { ⌜ length (commonBytes dims (rowsOf dims n (now rows))) ≤ length (now out) ⌝ }
+    ensures { λ r. ⌜ Wrote (commonBytes dims (rowsOf dims n (now (rows .entry)))) (now (out .entry)) (now (out .exit)) r ⌝ }
 {
     let all = lattice::sets_of(dims as u32) - 1;
     let mut at = 0;
@@ -51,87 +47,70 @@ fn put_common(
         if all <= set {
             continue;
         }
-        at += put_shared(
-            &mut out[at..],
-            codes,
-            sums,
-            counts,
-            rows,
-            dims,
-            set,
-            store,
-            used,
-        );
+        at += put_shared(&mut out[at..], rows, n, dims, set, store, used);
     }
     at
 }
 
 // Writes the normal entry of an empty table, where there are no rows.
-fn put_blank(out: &mut [u8], rows: usize, dims: usize) -> usize
-    requires { ⌜ (dims ≤ 8) × (length (blankBytes dims rows) ≤ length (now out)) ⌝ }
-    ensures { λ r. ⌜ Wrote (blankBytes dims rows) (now (out .entry)) (now (out .exit)) r ⌝ }
+fn put_blank(out: &mut [u8], n: usize, dims: usize) -> usize
+    requires { ⌜ (dims ≤ 8) × (length (blankBytes dims n) ≤ length (now out)) ⌝ }
+    ensures { λ r. ⌜ Wrote (blankBytes dims n) (now (out .entry)) (now (out .exit)) r ⌝ }
 {
+    if n != 0 {
+        return 0;
+    }
     let cell = [65535u32; 8];
-    let sum = [0i64; 1];
-    let count = [0u32; 1];
-    let n = rows_ready::blanks(rows);
-    let size = n * dims;
-    archive_cells::put_cells(out, &cell[..size], &sum[..n], &count[..n], n, dims)
+    archive_cells::put_cell(out, &cell[..dims], 0, 0)
 }
 
 // Writes the normal entries.
 pub fn put_normals(
     out: &mut [u8],
-    codes: &[u32],
-    sums: &[i64],
-    counts: &[u32],
-    rows: usize,
+    rows: &[u32],
+    n: usize,
     dims: usize,
     store: &[u16],
     used: &[usize],
 ) -> usize
-    requires { ⌜ Grouped dims rows (now codes) (now sums) (now counts) (now store) (now used) ⌝ }
-    requires { ⌜ length (normalBytes dims (rowsOf dims rows (now codes) (now sums) (now counts))) ≤ length (now out) ⌝ }
-    ensures { λ r. ⌜ Wrote (normalBytes dims (rowsOf dims rows (now (codes .entry)) (now (sums .entry)) (now (counts .entry)))) (now (out .entry)) (now (out .exit)) r ⌝ }
+    requires { ⌜ Grouped dims n (now rows) (now store) (now used) ⌝ }
+    requires { ⌜ length (normalBytes dims (rowsOf dims n (now rows))) ≤ length (now out) ⌝ }
+    ensures { λ r. ⌜ Wrote (normalBytes dims (rowsOf dims n (now (rows .entry)))) (now (out .entry)) (now (out .exit)) r ⌝ }
 {
-    let at = put_blank(out, rows, dims);
-    at + put_common(&mut out[at..], codes, sums, counts, rows, dims, store, used)
+    let at = put_blank(out, n, dims);
+    at + put_common(&mut out[at..], rows, n, dims, store, used)
 }
 
-// Whether the bytes s have the normal entries of a set from a place on.
+// Whether the bytes s have the normal entries of a set from a place on. Eight parameters: a place in bytes, the rows, and the slot of one set.
 fn match_shared(
     s: &[u8],
     at: usize,
-    codes: &[u32],
-    sums: &[i64],
-    counts: &[u32],
-    rows: usize,
+    rows: &[u32],
+    n: usize,
     dims: usize,
     set: u32,
     store: &[u16],
     used: &[usize],
 ) -> Walk
-    requires { ⌜ Grouped dims rows (now codes) (now sums) (now counts) (now store) (now used) × (set < full dims) × (at ≤ length (now s)) ⌝ }
-    ensures { λ r. ⌜ Matched (now (s .entry)) at (sharedBytes dims (rowsOf dims rows (now (codes .entry)) (now (sums .entry)) (now (counts .entry))) set) r ⌝ }
+    requires { ⌜ Grouped dims n (now rows) (now store) (now used) × (set < full dims) × (at ≤ length (now s)) ⌝ }
+    ensures { λ r. ⌜ Matched (now (s .entry)) at (sharedBytes dims (rowsOf dims n (now (rows .entry))) set) r ⌝ }
 {
     let slot = rows_crowds::slot_of(store, used, set as usize);
-    archive_groups::match_groups(s, at, codes, sums, counts, rows, dims, set, slot)
+    archive_groups::match_groups(s, at, rows, n, dims, set, slot)
 }
 
 // Whether the bytes s have the normal entries of all sets from a place on.
 fn match_common(
     s: &[u8],
     start: usize,
-    codes: &[u32],
-    sums: &[i64],
-    counts: &[u32],
-    rows: usize,
+    rows: &[u32],
+    n: usize,
     dims: usize,
     store: &[u16],
     used: &[usize],
 ) -> Walk
-    requires { ⌜ Grouped dims rows (now codes) (now sums) (now counts) (now store) (now used) × (start ≤ length (now s)) ⌝ }
-    ensures { λ r. ⌜ Matched (now (s .entry)) start (commonBytes dims (rowsOf dims rows (now (codes .entry)) (now (sums .entry)) (now (counts .entry)))) r ⌝ }
+    requires { ⌜ Grouped dims n (now rows) (now store) (now used) × (start ≤ length (now s)) ⌝ }
+    ensures { λ r. ⌜ Matched (now (s .entry)) start (commonBytes dims (rowsOf dims n (now (rows .entry)))) r ⌝ }
 {
     let all = lattice::sets_of(dims as u32) - 1;
     let mut at = start;
@@ -140,8 +119,8 @@ fn match_common(
         if all <= set {
             continue;
         }
-        match match_shared(s, at, codes, sums, counts, rows, dims, set, store, used) {
-            Walk::Stop(n) => return Walk::Stop(n),
+        match match_shared(s, at, rows, n, dims, set, store, used) {
+            Walk::Stop(stop) => return Walk::Stop(stop),
             Walk::At(next) => at = next,
         }
     }
@@ -149,11 +128,11 @@ fn match_common(
 }
 
 // Whether the bytes s have the normal entry of an empty table from a place on, where there are no rows.
-fn match_blank(s: &[u8], at: usize, rows: usize, dims: usize) -> Walk
+fn match_blank(s: &[u8], at: usize, n: usize, dims: usize) -> Walk
     requires { ⌜ (dims ≤ 8) × (at ≤ length (now s)) ⌝ }
-    ensures { λ r. ⌜ Matched (now (s .entry)) at (blankBytes dims rows) r ⌝ }
+    ensures { λ r. ⌜ Matched (now (s .entry)) at (blankBytes dims n) r ⌝ }
 {
-    if rows != 0 {
+    if n != 0 {
         return Walk::At(at);
     }
     let cell = [65535u32; 8];
@@ -164,20 +143,18 @@ fn match_blank(s: &[u8], at: usize, rows: usize, dims: usize) -> Walk
 pub fn match_normals(
     s: &[u8],
     start: usize,
-    codes: &[u32],
-    sums: &[i64],
-    counts: &[u32],
-    rows: usize,
+    rows: &[u32],
+    n: usize,
     dims: usize,
     store: &[u16],
     used: &[usize],
 ) -> Walk
-    requires { ⌜ Grouped dims rows (now codes) (now sums) (now counts) (now store) (now used) × (start ≤ length (now s)) ⌝ }
-    ensures { λ r. ⌜ Matched (now (s .entry)) start (normalBytes dims (rowsOf dims rows (now (codes .entry)) (now (sums .entry)) (now (counts .entry)))) r ⌝ }
+    requires { ⌜ Grouped dims n (now rows) (now store) (now used) × (start ≤ length (now s)) ⌝ }
+    ensures { λ r. ⌜ Matched (now (s .entry)) start (normalBytes dims (rowsOf dims n (now (rows .entry)))) r ⌝ }
 {
-    let next = match match_blank(s, start, rows, dims) {
-        Walk::Stop(n) => return Walk::Stop(n),
+    let next = match match_blank(s, start, n, dims) {
+        Walk::Stop(stop) => return Walk::Stop(stop),
         Walk::At(next) => next,
     };
-    match_common(s, next, codes, sums, counts, rows, dims, store, used)
+    match_common(s, next, rows, n, dims, store, used)
 }

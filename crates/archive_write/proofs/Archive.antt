@@ -4,7 +4,6 @@ use mathlib.Core.List.{List, _++_, map, flatMap, append-assoc}
 use Prim.Native.Nat.{ℕ, _+_, _*_, _≤_}
 use native.Mathlib.Nat.{mul-le-mul}
 use native.Mathlib.Omega.{arith}
-use lib.IntN.{ℤ}
 use lib.ListN.{length, length-append, length-map}
 use Rattle.fields.specs.Words.{wordBytes}
 use Rattle.fields_check.specs.Check.{checkOf, checked}
@@ -29,10 +28,10 @@ use Rattle.archive_normals.specs.Normals.{normalBytes}
 nested : {A : Type 0} (a b c d e : List A) → (((a ++ b) ++ c) ++ d) ++ e ≡ a ++ ((b ++ c) ++ (d ++ e))
 nested a b c d e = simp append-assoc
 
-module _ (zs : List ℕ) {n : ℕ} {codes : List ℕ} {sums : List ℤ} {counts sets lens : List ℕ} {cells : ℕ}
-    (rows : Listed (length zs) n codes sums counts sets lens) (e : cells ≡ length (normals (plain (length zs)) (cut (length zs) n codes))) where
+module _ (zs : List ℕ) {n : ℕ} {ws ls : List ℕ} {cells : ℕ}
+    (rows : Listed (length zs) n ws ls) (e : cells ≡ length (normals (plain (length zs)) (cut (length zs) n ws))) where
   abbrev table : List (Row Total)
-  table = rowsOf (length zs) n codes sums counts
+  table = rowsOf (length zs) n ws
 
   abbrev bases : List ℕ
   bases = flatMap baseBytes (ourBases (length zs) table)
@@ -42,13 +41,13 @@ module _ (zs : List ℕ) {n : ℕ} {codes : List ℕ} {sums : List ℤ} {counts 
   body = (((headerBytes CUBE zs ++ wordBytes n) ++ bases) ++ wordBytes cells) ++ normalBytes (length zs) table
 
   normals-count : cells ≡ length (normals (plain (length zs)) (codesOf table))
-  normals-count = e ∙ ap (λ (xs : List (List ℕ)). length (normals (plain (length zs)) xs)) (sym (rows-codes (length zs) n codes sums counts))
+  normals-count = e ∙ ap (λ (xs : List (List ℕ)). length (normals (plain (length zs)) xs)) (sym (rows-codes (length zs) n ws))
 
   pub archive-parts : checked body ≡ archiveBytes zs table
   unfolding archiveBytes layout required ourBases normalBytes normalRows
   archive-parts =
       let d = length zs in
-      let b : n ≡ length (map (based d table) table) = sym (length-map table (based d table) ∙ rows-length d n codes sums counts) in
+      let b : n ≡ length (map (based d table) table) = sym (length-map table (based d table) ∙ rows-length d n ws) in
       let c : cells ≡ length (map (filled (plain d) measure table) (normals (plain d) (codesOf table))) =
       normals-count ∙ sym (length-map (normals (plain d) (codesOf table)) (filled (plain d) measure table)) in
       ap checked (nested (headerBytes CUBE zs) (wordBytes n) bases (wordBytes cells) (normalBytes d table)
@@ -74,12 +73,12 @@ module _ (zs : List ℕ) {n : ℕ} {codes : List ℕ} {sums : List ℤ} {counts 
   pub archive-long : Limits zs table → length (archiveBytes zs table) ≡ 20 + 4 * length zs + n * (4 * length zs + 16) + 4 * setsIn (ourBases (length zs) table) + cells * (4 * length zs + 12)
   unfolding required ourBases
   archive-long l =
-      let f = rw (rows-length (length zs) n codes sums counts, ← normals-count) at (archive-length zs table l) in
+      let f = rw (rows-length (length zs) n ws, ← normals-count) at (archive-length zs table l) in
       omega (arith, f)
 
   -- there are not many normal entries, and they do not take many bytes
   pub cells-few : cells ≤ 262144
-  cells-few = omega (arith, normals-count, normals-few (length zs) table (rows .ready .dims) (omega (arith, rows .ready .few, rows-length (length zs) n codes sums counts)))
+  cells-few = omega (arith, normals-count, normals-few (length zs) table (rows .ready .dims) (omega (arith, rows .ready .few, rows-length (length zs) n ws)))
 
   pub normals-most : cells * (4 * length zs + 12) ≤ 262144 * 44
   normals-most = let h : 4 * length zs + 12 ≤ 44 = omega (arith, rows .ready .dims) in mul-le-mul cells-few h

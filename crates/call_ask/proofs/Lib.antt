@@ -1,5 +1,3 @@
 -- Why the calls keep what they promise.
 pub mod Opened
 pub mod Outcomes
-pub mod Asked
-pub mod Normals

@@ -1,15 +1,13 @@
--- An accepted archive: the base rows that its arrays hold are ready, and its bytes and entries are those that they require.
+-- An accepted archive: the base rows that its array holds are ready, and its bytes and entries are those that they require.
 use mathlib.Core.Path.{_≡_, refl, sym, ap, subst, _∙_}
 use mathlib.Core.Bool.{true, false, false≢true}
 use mathlib.Core.List.{List, []}
 use Prim.Native.Nat.{ℕ, _*_, _≤_}
-use native.Mathlib.Nat.{mul-le-mul}
-use native.Mathlib.Omega.{arith}
-use lib.IntN.{ℤ}
 use lib.ListN.{length, take}
+use Rattle.rows.proofs.Rows.{rows-small}
 use Rattle.fields_walk.specs.Parsed.{Parsed, stop, got}
 use Rattle.fields_walk.specs.Limits.{Bytes}
-use Rattle.rows.specs.Rows.{rowsOf}
+use Rattle.rows.specs.Rows.{width, rowsOf}
 use Rattle.archive_entries.specs.Layout.{Held, required, archiveBytes}
 use Rattle.archive_entries.specs.Reading.{walkArchive, readArchive, rowsIn, archiveAnswer, Stored}
 use Rattle.archive_entries.specs.declared.ArchiveRead.the-variants as Read
@@ -18,10 +16,10 @@ use Rattle.fields.specs.Words.{wordsAt}
 use Rattle.rows_ready.specs.Ready.{Ready}
 use Rattle.archive_normals.specs.Grouped.{Grouped}
 use Rattle.archive_judge.proofs.Judged.{sizes-at, read-ready}
-use Rattle.archive_judge.proofs.Reading.{read-of}
+use Rattle.archive_read.proofs.Reading.{read-of}
 use Rattle.call_ask.specs.Accepts.{Accepts}
 
-pub record Opened (s : List ℕ) (d n m : ℕ) (codes : List ℕ) (sums : List ℤ) (counts : List ℕ) : Type 0 where
+pub record Opened (s : List ℕ) (d n m : ℕ) (ws : List ℕ) : Type 0 where
   pub are : Bytes s
   pub held : Held
   pub read : readArchive s ≡ got held []
@@ -29,12 +27,12 @@ pub record Opened (s : List ℕ) (d n m : ℕ) (codes : List ℕ) (sums : List �
   pub dims : length (held .sizes) ≡ d
   pub bases : length (held .bases) ≡ n
   pub cells : length (held .cells) ≡ m
-  pub ready : Ready d n codes sums counts
-  pub rows : rowsOf d n codes sums counts ≡ rowsIn held
+  pub ready : Ready d n ws
+  pub rows : rowsOf d n ws ≡ rowsIn held
 
--- the fronts of the arrays
-abbrev pub OpenedIn : (s : List ℕ) (d n m : ℕ) (codes : List ℕ) (sums : List ℤ) (counts : List ℕ) → Type 0
-OpenedIn s d n m codes sums counts = Opened s d n m (take (n * d) codes) (take n sums) (take n counts)
+-- the front of the array
+abbrev pub OpenedIn : (s : List ℕ) (d n m : ℕ) (ws : List ℕ) → Type 0
+OpenedIn s d n m ws = Opened s d n m (take (n * width d) ws)
 
 told : (p : Parsed Held) {d n m : ℕ} → archiveAnswer p ≡ Read.Entries d n m
     → (a : Held) × (rest : List ℕ) × (p ≡ got a rest) × (length (a .sizes) ≡ d) × (length (a .bases) ≡ n) × (length (a .cells) ≡ m)
@@ -42,23 +40,23 @@ told (stop k) e = let z : false ≡ true = cc in absurd (false≢true z)
 told (got a rest) e = (a, rest, refl, cc e, cc e, cc e)
 
 -- the slots of the rows that the walk told of are those of the rows that were read
-pub grouped-read : (s : List ℕ) {d n m i j k : ℕ} (codes : List ℕ) (sums : List ℤ) (counts : List ℕ) {store used : List ℕ} → archiveAnswer (walkArchive s) ≡ Read.Entries d n m → archiveAnswer (readArchive s) ≡ Read.Entries i j k
-    → Grouped d n (take (n * d) codes) (take n sums) (take n counts) store used → Grouped i j (take (j * i) codes) (take j sums) (take j counts) store used
-grouped-read s {d} {n} {m} {i} {j} {k} codes sums counts e f g =
+pub grouped-read : (s : List ℕ) {d n m i j k : ℕ} (ws : List ℕ) {store used : List ℕ} → archiveAnswer (walkArchive s) ≡ Read.Entries d n m → archiveAnswer (readArchive s) ≡ Read.Entries i j k
+    → Grouped d n (take (n * width d) ws) store used → Grouped i j (take (j * width i) ws) store used
+grouped-read s {d} {n} {m} {i} {j} {k} ws e f g =
     let t = told (readArchive s) f in
     let h : Read.Entries d n m ≡ Read.Entries i j k = sym e ∙ ap archiveAnswer (read-forth s (t .2) .0 ∙ sym (t .2)) ∙ f in
     let dims : d ≡ i = cc h in
     let rows : n ≡ j = cc h in
     rw (← dims, ← rows) g
 
-pub opened : {s codes : List ℕ} {sums : List ℤ} {counts : List ℕ} {d n m : ℕ} → Bytes s → Accepts s codes sums counts d n m → OpenedIn s d n m codes sums counts
-opened {s} {codes} {sums} {counts} {d} {n} {m} b x =
+pub opened : {s ws : List ℕ} {d n m : ℕ} → Bytes s → Accepts s ws d n m → OpenedIn s d n m ws
+opened {s} {ws} {d} {n} {m} b x =
     let t = told (readArchive s) (x .told) in
     let a = t .0 in
     let walked = read-forth s (t .2) .0 in
     let same-read : readArchive s ≡ walkArchive s = t .2 ∙ sym walked in
-    let stored : Stored (walkArchive s) codes sums counts = subst (λ (p : Parsed Held). Stored p codes sums counts) same-read (x .stored) in
-    let r = read-of b (ap archiveAnswer (sym same-read) ∙ x .told) codes sums counts (x .room) stored in
+    let stored : Stored (walkArchive s) ws = subst (λ (p : Parsed Held). Stored p ws) same-read (x .stored) in
+    let r = read-of b (ap archiveAnswer (sym same-read) ∙ x .told) ws (x .room) stored in
     let e : got a (t .1) ≡ got (r .held) [] = sym walked ∙ r .walked in
     let same-held : r .held ≡ a = cc e in
     let done : t .1 ≡ [] = cc e in
@@ -74,12 +72,12 @@ opened {s} {codes} {sums} {counts} {d} {n} {m} b x =
       rows = r .rows ∙ ap rowsIn same-held;
     }
 
-module _ {s : List ℕ} {d n m : ℕ} {codes : List ℕ} {sums : List ℤ} {counts : List ℕ} (o : Opened s d n m codes sums counts) where
-  pub opened-small : n * d ≤ 8192
-  opened-small = let k = mul-le-mul (o .ready .few) (o .ready .dims) in omega (arith, k)
+module _ {s : List ℕ} {d n m : ℕ} {ws : List ℕ} (o : Opened s d n m ws) where
+  pub opened-small : n * width d ≤ 11264
+  opened-small = rows-small d n (o .ready .dims) (o .ready .few)
 
-  pub opened-bytes : s ≡ archiveBytes (o .held .sizes) (rowsOf d n codes sums counts)
+  pub opened-bytes : s ≡ archiveBytes (o .held .sizes) (rowsOf d n ws)
   opened-bytes = archive-forth s (o .held) [] (o .are) (o .read) .1 ∙ ap (archiveBytes (o .held .sizes)) (sym (o .rows))
 
-  pub opened-held : o .held ≡ required (o .held .sizes) (rowsOf d n codes sums counts)
+  pub opened-held : o .held ≡ required (o .held .sizes) (rowsOf d n ws)
   opened-held = archive-forth s (o .held) [] (o .are) (o .read) .2 ∙ ap (required (o .held .sizes)) (sym (o .rows))

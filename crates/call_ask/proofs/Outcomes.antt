@@ -3,7 +3,6 @@ use mathlib.Core.Path.{_≡_, sym, ap, ap₂}
 use mathlib.Core.Bool.{true, false, false≢true}
 use mathlib.Core.List.{List}
 use Prim.Native.Nat.{ℕ, _^_, _≤_, _<_}
-use lib.IntN.{ℤ}
 use lib.ListN.{length}
 use borrow.Author.Tests.{lt-ltb, le-ltb}
 use Rattle.fields_walk.specs.Parsed.{Parsed, stop, got}
@@ -60,15 +59,15 @@ check-passed s {d} {n} {m} e = go (readArchive s) e
         let q : length (a .cells) ≡ m = cc in
         sym (ap₂ Check.Entries p q)
 
-module _ {s : List ℕ} {d n m : ℕ} {codes : List ℕ} {sums : List ℤ} {counts : List ℕ} (o : Opened s d n m codes sums counts) where
+module _ {s : List ℕ} {d n m : ℕ} {ws : List ℕ} (o : Opened s d n m ws) where
   pub list-stopped : {set : ℕ} → 2 ^ d ≤ set → listsCuboid s set ≡ stopped 14
   unfolding listsCuboid
   list-stopped {set} h = rw (o .read, o .dims, le-ltb set (2 ^ d) h)
 
-  pub list-bytes : {set : ℕ} → set < 2 ^ d → listsCuboid s set ≡ bytes (cuboidBytes d (rowsOf d n codes sums counts) set)
+  pub list-bytes : {set : ℕ} → set < 2 ^ d → listsCuboid s set ≡ bytes (cuboidBytes d (rowsOf d n ws) set)
   unfolding listsCuboid
   list-bytes {set} h = rw (o .read, o .dims, lt-ltb set (2 ^ d) h) (ap (λ (rows : List (Row Total)). bytes (cuboidBytes d rows set)) (sym (o .rows)))
 
-  pub expand-bytes : expands s ≡ bytes (expansionBytes d (rowsOf d n codes sums counts))
+  pub expand-bytes : expands s ≡ bytes (expansionBytes d (rowsOf d n ws))
   unfolding expands
   expand-bytes = rw (o .read, o .dims) (ap (λ (rows : List (Row Total)). bytes (expansionBytes d rows)) (sym (o .rows)))

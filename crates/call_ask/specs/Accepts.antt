@@ -1,15 +1,14 @@
 -- What the code knows of an accepted archive.
 --
---   Accepts s ..   arrays have the base rows of the archive s, and it has d dimensions, n base entries and m normal entries
+--   Accepts s ws ..   the words ws have the base rows of the archive s, and it has d dimensions, n base entries and m normal entries
 use mathlib.Core.Path.{_≡_}
 use mathlib.Core.List.{List}
 use Prim.Native.Nat.{ℕ, _≤_}
-use lib.IntN.{ℤ}
 use lib.ListN.{length}
 use Rattle.archive_entries.specs.Reading.{readArchive, archiveAnswer, Stored}
 use Rattle.archive_entries.specs.declared.ArchiveRead.the-variants as Read
 
-pub record Accepts (s codes : List ℕ) (sums : List ℤ) (counts : List ℕ) (d n m : ℕ) : Type 0 where
+pub record Accepts (s ws : List ℕ) (d n m : ℕ) : Type 0 where
   pub told : archiveAnswer (readArchive s) ≡ Read.Entries d n m
-  pub room : (8192 ≤ length codes) × (1024 ≤ length sums) × (1024 ≤ length counts)
-  pub stored : Stored (readArchive s) codes sums counts
+  pub room : 11264 ≤ length ws
+  pub stored : Stored (readArchive s) ws

@@ -1,27 +1,25 @@
-// An archive checked, asked for a cell, listed by cuboid, expanded.
+// An archive checked, listed by cuboid, expanded.
 // Every call answers for whatever bytes it is lent, looks at the output last, and leaves every byte of it alone when it stops.
 use archive_entries::ArchiveRead;
 use call_answers::Checked;
-use call_answers::Found;
 use call_answers::Written;
-use call_questions::Look;
 ghost use mathlib.Core.Path.{_≡_};
 ghost use Prim.Native.Nat.{_*_};
 ghost use lib.ListN.{take};
-ghost use Rattle.rows.specs.Rows.{rowsOf};
+ghost use Rattle.rows.specs.Rows.{width, rowsOf};
 ghost use Rattle.archive_entries.specs.Reading.{walkArchive, archiveAnswer};
 ghost use Rattle.rows_ready.specs.Ready.{Ready};
 ghost use Rattle.archive_normals.specs.Grouped.{Grouped};
 ghost use Rattle.call_cuboids.specs.Cuboids.{cuboidBytes, expansionBytes};
 ghost use Rattle.call_answers.specs.Answers.{bytes, Answered};
-ghost use Rattle.call_answers.specs.Calls.{checks, listsCuboid, expands, looksUp};
+ghost use Rattle.call_answers.specs.Calls.{checks, listsCuboid, expands};
 ghost use Rattle.call_ask.specs.Accepts.{Accepts};
 
 // Checks an archive: all its stops, 1 to 12.
 pub fn check(archive: &[u8]) -> Checked
     ensures { λ r. ⌜ r ≡ checks (now (archive .entry)) ⌝ }
 {
-    match archive_judge::check_required(archive) {
+    match archive_read::check_required(archive) {
         ArchiveRead::Stop(n) => Checked::Stop(n),
         ArchiveRead::Entries {
             dims: _,
@@ -32,19 +30,11 @@ pub fn check(archive: &[u8]) -> Checked
 }
 
 // Writes the cuboid of a set where there is room for it.
-fn fit_cuboid(
-    out: &mut [u8],
-    codes: &[u32],
-    sums: &[i64],
-    counts: &[u32],
-    rows: usize,
-    dims: usize,
-    set: u32,
-) -> Written
-    requires { ⌜ Ready dims rows (now codes) (now sums) (now counts) ⌝ }
-    ensures { λ r. ⌜ Answered (bytes (cuboidBytes dims (rowsOf dims rows (now (codes .entry)) (now (sums .entry)) (now (counts .entry))) set)) (now (out .entry)) (now (out .exit)) r ⌝ }
+fn fit_cuboid(out: &mut [u8], rows: &[u32], n: usize, dims: usize, set: u32) -> Written
+    requires { ⌜ Ready dims n (now rows) ⌝ }
+    ensures { λ r. ⌜ Answered (bytes (cuboidBytes dims (rowsOf dims n (now (rows .entry))) set)) (now (out .entry)) (now (out .exit)) r ⌝ }
 {
-    let needed = call_cuboids::write_cuboid(out, codes, sums, counts, rows, dims, set);
+    let needed = call_cuboids::write_cuboid(out, rows, n, dims, set);
     if out.len() < needed {
         return Written::Stop(15);
     }
@@ -54,16 +44,14 @@ fn fit_cuboid(
 // Lists the cuboid of a set of an archive that was accepted.
 fn list_read(
     s: &[u8],
-    codes: &[u32],
-    sums: &[i64],
-    counts: &[u32],
+    rows: &[u32],
     dims: u32,
     bases: u32,
     cells: u32,
     set: u32,
     out: &mut [u8],
 ) -> Written
-    requires { ⌜ Accepts (now s) (now codes) (now sums) (now counts) dims bases cells ⌝ }
+    requires { ⌜ Accepts (now s) (now rows) dims bases cells ⌝ }
     ensures { λ r. ⌜ Answered (listsCuboid (now (s .entry)) set) (now (out .entry)) (now (out .exit)) r ⌝ }
 {
     if lattice::sets_of(dims) <= set {
@@ -71,25 +59,18 @@ fn list_read(
     }
     let d = dims as usize;
     let n = bases as usize;
-    let size = n * d;
-    fit_cuboid(out, &codes[..size], &sums[..n], &counts[..n], n, d, set)
+    let size = n * (d + 3);
+    fit_cuboid(out, &rows[..size], n, d, set)
 }
 
-// Reads an archive into the arrays that are lent, and lists the cuboid of a set.
-fn list_in(
-    s: &[u8],
-    codes: &mut [u32; 8192],
-    sums: &mut [i64; 1024],
-    counts: &mut [u32; 1024],
-    set: u32,
-    out: &mut [u8],
-) -> Written
+// Reads an archive into the array that is lent, and lists the cuboid of a set.
+fn list_in(s: &[u8], rows: &mut [u32; 11264], set: u32, out: &mut [u8]) -> Written
     ensures { λ r. ⌜ Answered (listsCuboid (now (s .entry)) set) (now (out .entry)) (now (out .exit)) r ⌝ }
 {
-    match archive_judge::read_required(s, codes, sums, counts) {
+    match archive_read::read_required(s, rows) {
         ArchiveRead::Stop(n) => Written::Stop(n),
         ArchiveRead::Entries { dims, bases, cells } => {
-            list_read(s, codes, sums, counts, dims, bases, cells, set, out)
+            list_read(s, rows, dims, bases, cells, set, out)
         }
     }
 }
@@ -98,39 +79,33 @@ fn list_in(
 pub fn list_cuboid(archive: &[u8], set: u32, out: &mut [u8]) -> Written
     ensures { λ r. ⌜ Answered (listsCuboid (now (archive .entry)) set) (now (out .entry)) (now (out .exit)) r ⌝ }
 {
-    let mut codes = [0u32; 8192];
-    let mut sums = [0i64; 1024];
-    let mut counts = [0u32; 1024];
-    list_in(archive, &mut codes, &mut sums, &mut counts, set, out)
+    let mut rows = [0u32; 11264];
+    list_in(archive, &mut rows, set, out)
 }
 
 // Writes the expansion where there is room for it, by the slots that are lent.
 fn fit_expansion(
     out: &mut [u8],
-    codes: &[u32],
-    sums: &[i64],
-    counts: &[u32],
-    rows: usize,
+    rows: &[u32],
+    n: usize,
     dims: usize,
     store: &mut [u16],
     used: &mut [usize],
 ) -> Written
-    requires { ⌜ Grouped dims rows (now codes) (now sums) (now counts) (now store) (now used) ⌝ }
-    ensures { λ r. ⌜ Answered (bytes (expansionBytes dims (rowsOf dims rows (now (codes .entry)) (now (sums .entry)) (now (counts .entry))))) (now (out .entry)) (now (out .exit)) r ⌝ }
+    requires { ⌜ Grouped dims n (now rows) (now store) (now used) ⌝ }
+    ensures { λ r. ⌜ Answered (bytes (expansionBytes dims (rowsOf dims n (now (rows .entry))))) (now (out .entry)) (now (out .exit)) r ⌝ }
 {
-    let needed = call_cuboids::write_expansion(out, codes, sums, counts, rows, dims, store, used);
+    let needed = call_expansion::write_expansion(out, rows, n, dims, store, used);
     if out.len() < needed {
         return Written::Stop(15);
     }
     Written::Length(needed)
 }
 
-// Expands an archive that was accepted; the slots that are lent are those of its base rows.
+// Expands an archive that was accepted; the slots that are lent are those of its base rows. Eight parameters: what was read of the archive is three numbers, the slots are two arrays.
 fn expand_read(
     s: &[u8],
-    codes: &[u32],
-    sums: &[i64],
-    counts: &[u32],
+    rows: &[u32],
     dims: u32,
     bases: u32,
     cells: u32,
@@ -138,31 +113,20 @@ fn expand_read(
     used: &mut [usize],
     out: &mut [u8],
 ) -> Written
-    requires { ⌜ Accepts (now s) (now codes) (now sums) (now counts) dims bases cells ⌝ }
-    requires { ⌜ Grouped dims bases (take (bases * dims) (now codes)) (take bases (now sums)) (take bases (now counts)) (now store) (now used) ⌝ }
+    requires { ⌜ Accepts (now s) (now rows) dims bases cells ⌝ }
+    requires { ⌜ Grouped dims bases (take (bases * width dims) (now rows)) (now store) (now used) ⌝ }
     ensures { λ r. ⌜ Answered (expands (now (s .entry))) (now (out .entry)) (now (out .exit)) r ⌝ }
 {
     let d = dims as usize;
     let n = bases as usize;
-    let size = n * d;
-    fit_expansion(
-        out,
-        &codes[..size],
-        &sums[..n],
-        &counts[..n],
-        n,
-        d,
-        store,
-        used,
-    )
+    let size = n * (d + 3);
+    fit_expansion(out, &rows[..size], n, d, store, used)
 }
 
-// Reads the base rows of an archive whose fields are right into the arrays that are lent, and expands it.
+// Reads the base rows of an archive whose fields are right into the array that is lent, and expands it. Eight parameters, as `expand_read`.
 fn expand_in(
     s: &[u8],
-    codes: &mut [u32; 8192],
-    sums: &mut [i64; 1024],
-    counts: &mut [u32; 1024],
+    rows: &mut [u32; 11264],
     store: &mut [u16; 262144],
     used: &mut [usize; 256],
     dims: u32,
@@ -173,10 +137,10 @@ fn expand_in(
     requires { ⌜ archiveAnswer (walkArchive (now s)) ≡ ArchiveRead.Entries dims bases cells ⌝ }
     ensures { λ r. ⌜ Answered (expands (now (s .entry))) (now (out .entry)) (now (out .exit)) r ⌝ }
 {
-    match archive_judge::read_judged(s, codes, sums, counts, store, used, dims, bases, cells) {
+    match archive_read::read_judged(s, rows, store, used, dims, bases, cells) {
         ArchiveRead::Stop(n) => Written::Stop(n),
         ArchiveRead::Entries { dims, bases, cells } => {
-            expand_read(s, codes, sums, counts, dims, bases, cells, store, used, out)
+            expand_read(s, rows, dims, bases, cells, store, used, out)
         }
     }
 }
@@ -186,23 +150,10 @@ fn expand_fields(s: &[u8], dims: u32, bases: u32, cells: u32, out: &mut [u8]) ->
     requires { ⌜ archiveAnswer (walkArchive (now s)) ≡ ArchiveRead.Entries dims bases cells ⌝ }
     ensures { λ r. ⌜ Answered (expands (now (s .entry))) (now (out .entry)) (now (out .exit)) r ⌝ }
 {
-    let mut codes = [0u32; 8192];
-    let mut sums = [0i64; 1024];
-    let mut counts = [0u32; 1024];
+    let mut rows = [0u32; 11264];
     let mut store = [0u16; 262144];
     let mut used = [0usize; 256];
-    expand_in(
-        s,
-        &mut codes,
-        &mut sums,
-        &mut counts,
-        &mut store,
-        &mut used,
-        dims,
-        bases,
-        cells,
-        out,
-    )
+    expand_in(s, &mut rows, &mut store, &mut used, dims, bases, cells, out)
 }
 
 // Expands an archive to the complete cube. No array is declared before the first 11 stops are passed.
@@ -215,70 +166,4 @@ pub fn expand(archive: &[u8], out: &mut [u8]) -> Written
             expand_fields(archive, dims, bases, cells, out)
         }
     }
-}
-
-// Answers a question to an archive that was accepted.
-fn look_read(
-    s: &[u8],
-    codes: &[u32],
-    sums: &[i64],
-    counts: &[u32],
-    dims: u32,
-    bases: u32,
-    cells: u32,
-    question: &[u32],
-) -> Found
-    requires { ⌜ Accepts (now s) (now codes) (now sums) (now counts) dims bases cells ⌝ }
-    ensures { λ r. ⌜ r ≡ looksUp (now (s .entry)) (now (question .entry)) ⌝ }
-{
-    let d = dims as usize;
-    if !call_questions::fits(s, d, question) {
-        return Found::Stop(13);
-    }
-    let n = bases as usize;
-    let size = n * d;
-    let m = cells as usize;
-    let at = s.len() - 4 - m * (4 * d + 12);
-    match call_questions::answer(
-        s,
-        at,
-        m,
-        &codes[..size],
-        &sums[..n],
-        &counts[..n],
-        n,
-        d,
-        question,
-    ) {
-        Look::NoRecord => Found::NoRecord,
-        Look::Cell { sum, count, entry } => Found::Cell { sum, count, entry },
-    }
-}
-
-// Reads an archive into the arrays that are lent, and looks up a cell.
-fn look_in(
-    s: &[u8],
-    codes: &mut [u32; 8192],
-    sums: &mut [i64; 1024],
-    counts: &mut [u32; 1024],
-    question: &[u32],
-) -> Found
-    ensures { λ r. ⌜ r ≡ looksUp (now (s .entry)) (now (question .entry)) ⌝ }
-{
-    match archive_judge::read_required(s, codes, sums, counts) {
-        ArchiveRead::Stop(n) => Found::Stop(n),
-        ArchiveRead::Entries { dims, bases, cells } => {
-            look_read(s, codes, sums, counts, dims, bases, cells, question)
-        }
-    }
-}
-
-// Looks up a cell: a code or ALL (65,535) for each dimension.
-pub fn look_up(archive: &[u8], question: &[u32]) -> Found
-    ensures { λ r. ⌜ r ≡ looksUp (now (archive .entry)) (now (question .entry)) ⌝ }
-{
-    let mut codes = [0u32; 8192];
-    let mut sums = [0i64; 1024];
-    let mut counts = [0u32; 1024];
-    look_in(archive, &mut codes, &mut sums, &mut counts, question)
 }

@@ -3,22 +3,21 @@ use mathlib.Core.Path.{_≡_, refl, sym, ap, ap₂, subst, _∙_}
 use mathlib.Core.Bool.{true, false, false≢true}
 use mathlib.Core.List.{List}
 use Prim.Native.Nat.{ℕ, _+_, _*_, _≤_}
-use native.Mathlib.Nat.{mul-le-mul}
 use native.Mathlib.Omega.{arith}
-use lib.IntN.{ℤ}
 use lib.ListN.{length, take}
 use lib.Seq.{length-take-le}
+use Rattle.rows.proofs.Rows.{rows-small}
 use Rattle.fields.specs.Words.{wordsAt}
 use Rattle.fields_walk.specs.Parsed.{Parsed, stop, got}
 use Rattle.fields_walk.specs.Limits.{Bytes}
 use Rattle.cube.specs.declared.Total.{Total}
 use Rattle.cube.specs.Measure.{Row}
-use Rattle.rows.specs.Rows.{rowsOf}
+use Rattle.rows.specs.Rows.{width, rowsOf}
 use Rattle.table.specs.Layout.{Records}
 use Rattle.table.specs.Reading.{readTable, baseRows, tableAnswer, Stored}
 use Rattle.table.specs.declared.TableRead.the-variants as Read
 use Rattle.table.proofs.Accepted.{table-forth}
-use Rattle.table.proofs.Rows.{placed}
+use Rattle.table_rows.proofs.Rows.{placed}
 use Rattle.archive_entries.specs.Layout.{archiveBytes, Limits}
 use Rattle.rows_ready.specs.Ready.{Ready}
 use Rattle.rows_ready.proofs.Ready.{rows-front}
@@ -44,35 +43,33 @@ told : (p : Parsed Records) {d n : ℕ} → tableAnswer p ≡ Read.Rows d n → 
 told (stop k) e = let z : false ≡ true = cc in absurd (false≢true z)
 told (got t rest) e = (t, rest, refl, cc e, cc e)
 
--- flat lists have the base rows of a table that was read
-pub record Tabled (s : List ℕ) (d n : ℕ) (codes : List ℕ) (sums : List ℤ) (counts : List ℕ) : Type 0 where
-  pub small : n * d ≤ 8192
+-- a flat list has the base rows of a table that was read
+pub record Tabled (s : List ℕ) (d n : ℕ) (ws : List ℕ) : Type 0 where
+  pub small : n * width d ≤ 11264
   pub headed : 8 + 4 * d ≤ length s
-  pub ready : Ready d n codes sums counts
-  pub limits : Limits (wordsAt s d 8) (rowsOf d n codes sums counts)
-  pub built : builds s ≡ bytes (archiveBytes (wordsAt s d 8) (rowsOf d n codes sums counts))
+  pub ready : Ready d n ws
+  pub limits : Limits (wordsAt s d 8) (rowsOf d n ws)
+  pub built : builds s ≡ bytes (archiveBytes (wordsAt s d 8) (rowsOf d n ws))
 
-pub tabled : {s : List ℕ} {d n : ℕ} → Bytes s → tableAnswer (readTable s) ≡ Read.Rows d n → (codes : List ℕ) (sums : List ℤ) (counts : List ℕ)
-    → (8192 ≤ length codes) × (1024 ≤ length sums) × (1024 ≤ length counts) → Stored (readTable s) codes sums counts → Tabled s d n (take (n * d) codes) (take n sums) (take n counts)
+pub tabled : {s : List ℕ} {d n : ℕ} → Bytes s → tableAnswer (readTable s) ≡ Read.Rows d n → (ws : List ℕ)
+    → 11264 ≤ length ws → Stored (readTable s) ws → Tabled s d n (take (n * width d) ws)
 unfolding builds
-tabled {s} {d} {n} b e codes sums counts room h =
+tabled {s} {d} {n} b e ws room h =
     let x = told (readTable s) e in
     let t = x .0 in
     let l = folded-within t (table-forth s t (x .1) b (x .2) .0) in
     let few : n ≤ 1024 = omega (arith, l .few, x .4) in
     let dims : d ≤ 8 = omega (arith, l .sized .few, x .3) in
-    let k = mul-le-mul few dims in
-    let small : n * d ≤ 8192 = omega (arith, k) in
-    let stored : rowsOf (length (t .sizes)) (length (baseRows t)) codes sums counts ≡ baseRows t = subst (λ (p : Parsed Records). Stored p codes sums counts) (x .2) h in
-    let rows : rowsOf d n (take (n * d) codes) (take n sums) (take n counts) ≡ baseRows t
-    = rows-front d n codes sums counts ∙ ap₂ (λ (i j : ℕ). rowsOf i j codes sums counts) (sym (x .3)) (sym (x .4)) ∙ stored in
+    let small = rows-small d n dims few in
+    let stored : rowsOf (length (t .sizes)) (length (baseRows t)) ws ≡ baseRows t = subst (λ (p : Parsed Records). Stored p ws) (x .2) h in
+    let rows : rowsOf d n (take (n * width d) ws) ≡ baseRows t
+    = rows-front d n ws ∙ ap₂ (λ (i j : ℕ). rowsOf i j ws) (sym (x .3)) (sym (x .4)) ∙ stored in
     let at = placed s t (x .2) in
     let sizes : t .sizes ≡ wordsAt s d 8 = at .sizes ∙ ap (λ (k : ℕ). wordsAt s k 8) (x .3) in
     record {
       small = small;
       headed = omega (arith, at .whole, x .3);
-      ready = limits-ready l rows (x .3) (sym (length-take-le (n * d) codes (omega (arith, small, room .0)))) (length-take-le n sums (omega (arith, few, room .1)))
-          (length-take-le n counts (omega (arith, few, room .2)));
-      limits = subst (λ (zs : List ℕ). Limits zs (rowsOf d n (take (n * d) codes) (take n sums) (take n counts))) sizes (subst (Limits (t .sizes)) (sym rows) l);
+      ready = limits-ready l rows (x .3) (sym (length-take-le (n * width d) ws (omega (arith, small, room))));
+      limits = subst (λ (zs : List ℕ). Limits zs (rowsOf d n (take (n * width d) ws))) sizes (subst (Limits (t .sizes)) (sym rows) l);
       built = rw (x .2) (ap₂ (λ (zs : List ℕ) (r : List (Row Total)). bytes (archiveBytes zs r)) sizes (sym rows));
     }

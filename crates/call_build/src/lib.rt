@@ -16,16 +16,14 @@ ghost use Rattle.call_answers.specs.Calls.{builds};
 pub fn fit_archive(
     out: &mut [u8],
     sizes: &[u32],
-    codes: &[u32],
-    sums: &[i64],
-    counts: &[u32],
-    rows: usize,
+    rows: &[u32],
+    n: usize,
     store: &mut [u16],
 ) -> Written
-    requires { ⌜ Ready (length (now sizes)) rows (now codes) (now sums) (now counts) × Limits (now sizes) (rowsOf (length (now sizes)) rows (now codes) (now sums) (now counts)) × (262144 ≤ length (now store)) ⌝ }
-    ensures { λ r. ⌜ Answered (bytes (archiveBytes (now (sizes .entry)) (rowsOf (length (now (sizes .entry))) rows (now (codes .entry)) (now (sums .entry)) (now (counts .entry))))) (now (out .entry)) (now (out .exit)) r ⌝ }
+    requires { ⌜ Ready (length (now sizes)) n (now rows) × Limits (now sizes) (rowsOf (length (now sizes)) n (now rows)) × (262144 ≤ length (now store)) ⌝ }
+    ensures { λ r. ⌜ Answered (bytes (archiveBytes (now (sizes .entry)) (rowsOf (length (now (sizes .entry))) n (now (rows .entry))))) (now (out .entry)) (now (out .exit)) r ⌝ }
 {
-    let needed = archive_write::write_archive(out, sizes, codes, sums, counts, rows, store);
+    let needed = archive_write::write_archive(out, sizes, rows, n, store);
     if out.len() < needed {
         return Written::Stop(15);
     }
@@ -36,67 +34,40 @@ pub fn fit_archive(
 fn write_sized(
     s: &[u8],
     sizes: &mut [u32],
-    codes: &[u32],
-    sums: &[i64],
-    counts: &[u32],
-    rows: usize,
+    rows: &[u32],
+    n: usize,
     store: &mut [u16],
     out: &mut [u8],
 ) -> Written
-    requires { ⌜ (8 + 4 * length (now sizes) ≤ length (now s)) × Ready (length (now sizes)) rows (now codes) (now sums) (now counts) × (262144 ≤ length (now store)) ⌝ }
-    requires { ⌜ Limits (wordsAt (now s) (length (now sizes)) 8) (rowsOf (length (now sizes)) rows (now codes) (now sums) (now counts)) ⌝ }
-    ensures { λ r. ⌜ Answered (bytes (archiveBytes (wordsAt (now (s .entry)) (length (now (sizes .entry))) 8) (rowsOf (length (now (sizes .entry))) rows (now (codes .entry)) (now (sums .entry)) (now (counts .entry))))) (now (out .entry)) (now (out .exit)) r ⌝ }
+    requires { ⌜ (8 + 4 * length (now sizes) ≤ length (now s)) × Ready (length (now sizes)) n (now rows) × (262144 ≤ length (now store)) ⌝ }
+    requires { ⌜ Limits (wordsAt (now s) (length (now sizes)) 8) (rowsOf (length (now sizes)) n (now rows)) ⌝ }
+    ensures { λ r. ⌜ Answered (bytes (archiveBytes (wordsAt (now (s .entry)) (length (now (sizes .entry))) 8) (rowsOf (length (now (sizes .entry))) n (now (rows .entry))))) (now (out .entry)) (now (out .exit)) r ⌝ }
 {
     fields::read_words(s, 8, sizes);
-    fit_archive(out, sizes, codes, sums, counts, rows, store)
+    fit_archive(out, sizes, rows, n, store)
 }
 
 // Writes the archive of a table that was accepted; the arrays have its base rows.
-fn build_read(
-    s: &[u8],
-    codes: &[u32],
-    sums: &[i64],
-    counts: &[u32],
-    dims: u32,
-    rows: u32,
-    out: &mut [u8],
-) -> Written
-    requires { ⌜ tableAnswer (readTable (now s)) ≡ TableRead.Rows dims rows ⌝ }
-    requires { ⌜ (8192 ≤ length (now codes)) × (1024 ≤ length (now sums)) × (1024 ≤ length (now counts)) × Stored (readTable (now s)) (now codes) (now sums) (now counts) ⌝ }
+fn build_read(s: &[u8], rows: &[u32], dims: u32, count: u32, out: &mut [u8]) -> Written
+    requires { ⌜ tableAnswer (readTable (now s)) ≡ TableRead.Rows dims count ⌝ }
+    requires { ⌜ (11264 ≤ length (now rows)) × Stored (readTable (now s)) (now rows) ⌝ }
     ensures { λ r. ⌜ Answered (builds (now (s .entry))) (now (out .entry)) (now (out .exit)) r ⌝ }
 {
     let d = dims as usize;
-    let n = rows as usize;
-    let size = n * d;
+    let n = count as usize;
+    let size = n * (d + 3);
     let mut sizes = [0u32; 8];
     let mut store = [0u16; 262144];
-    write_sized(
-        s,
-        &mut sizes[..d],
-        &codes[..size],
-        &sums[..n],
-        &counts[..n],
-        n,
-        &mut store,
-        out,
-    )
+    write_sized(s, &mut sizes[..d], &rows[..size], n, &mut store, out)
 }
 
-// Reads a table into the arrays that are lent, and builds its archive.
-fn build_in(
-    table: &[u8],
-    codes: &mut [u32; 8192],
-    sums: &mut [i64; 1024],
-    counts: &mut [u32; 1024],
-    out: &mut [u8],
-) -> Written
+// Reads a table into the array that is lent, and builds its archive.
+fn build_in(table: &[u8], rows: &mut [u32; 11264], out: &mut [u8]) -> Written
     ensures { λ r. ⌜ Answered (builds (now (table .entry))) (now (out .entry)) (now (out .exit)) r ⌝ }
 {
-    match table::read_table(table, codes, sums, counts) {
+    match table_rows::read_table(table, rows) {
         TableRead::Stop(n) => Written::Stop(n),
-        TableRead::Rows { dims, rows } => {
-            build_read(table, codes, sums, counts, dims, rows, out)
-        }
+        TableRead::Rows { dims, rows: count } => { build_read(table, rows, dims, count, out) }
     }
 }
 
@@ -104,8 +75,6 @@ fn build_in(
 pub fn build(table: &[u8], out: &mut [u8]) -> Written
     ensures { λ r. ⌜ Answered (builds (now (table .entry))) (now (out .entry)) (now (out .exit)) r ⌝ }
 {
-    let mut codes = [0u32; 8192];
-    let mut sums = [0i64; 1024];
-    let mut counts = [0u32; 1024];
-    build_in(table, &mut codes, &mut sums, &mut counts, out)
+    let mut rows = [0u32; 11264];
+    build_in(table, &mut rows, out)
 }

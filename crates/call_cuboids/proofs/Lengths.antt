@@ -2,7 +2,6 @@
 use mathlib.Core.Path.{_≡_, refl, sym, ap, _∙_}
 use mathlib.Core.List.{List, [], _∷_, _++_, flatMap, append-nil, List·Memᴰ·append-cases}
 use Prim.Native.Nat.{ℕ, zero, suc, _+_, _*_, _^_, _≤_}
-use lib.IntN.{ℤ}
 use native.Mathlib.Omega.{arith}
 use lib.Dec.{eqb}
 use borrow.Author.Tests.{ne-eqb}
@@ -63,17 +62,17 @@ unfolding cells
 blank-elsewhere d s n = rw (existing-none (plain d) s, set-whole d, ne-eqb 0 s (λ e. n (sym e)))
 
 -- put as row 0, it is all there is
-pub blank-put : (d s : ℕ) (x cs ts cs₀ ts₀ : List ℕ) (ms ms₀ : List ℤ) (u : Total) → d ≡ length x → s ≡ 0 → u ≡ nothing
-    → rowsOf (length x) (0 + 1) cs ms ts ≡ rowsOf (length x) 0 cs₀ ms₀ ts₀ ++ record { codes = cell 0 x; total = u } ∷ [] → rowsOf d 1 cs ms ts ≡ cells (plain d) sums [] s
+pub blank-put : (d s : ℕ) (x ws ws₀ : List ℕ) (u : Total) → d ≡ length x → s ≡ 0 → u ≡ nothing
+    → rowsOf (length x) (0 + 1) ws ≡ rowsOf (length x) 0 ws₀ ++ record { codes = cell 0 x; total = u } ∷ [] → rowsOf d 1 ws ≡ cells (plain d) sums [] s
 unfolding rowsOf
-blank-put d s x cs ts cs₀ ts₀ ms ms₀ u e z n f =
-    ap (λ (k : ℕ). rowsOf k 1 cs ms ts) e ∙ f ∙ ap (λ (v : Total). record { codes = cell 0 x; total = v } ∷ []) n
+blank-put d s x ws ws₀ u e z n f =
+    ap (λ (k : ℕ). rowsOf k 1 ws) e ∙ f ∙ ap (λ (v : Total). record { codes = cell 0 x; total = v } ∷ []) n
     ∙ blank-here d x (sym e) ∙ ap (cells (plain d) sums []) (sym z)
 
-pub no-rows : (d n : ℕ) (cs ts : List ℕ) (ms : List ℤ) → n ≡ 0 → rowsOf d n cs ms ts ≡ []
+pub no-rows : (d n : ℕ) (ws : List ℕ) → n ≡ 0 → rowsOf d n ws ≡ []
 unfolding rowsOf
-no-rows d zero cs ts ms e = refl
-no-rows d (suc n) cs ts ms e = absurd (omega arith)
+no-rows d zero ws e = refl
+no-rows d (suc n) ws e = absurd (omega arith)
 
 -- at the start all cuboids have their turn
 pub turns-start : (d : ℕ) (rows : List (Row Total)) → d ≤ 8 → turns (cuboidBytes d rows) (2 ^ d) 0 ≡ expansionBytes d rows

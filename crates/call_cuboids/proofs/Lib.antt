@@ -1,3 +1,2 @@
 -- Lengths of cuboids, and the expansion set by set.
 pub mod Lengths
-pub mod Slots

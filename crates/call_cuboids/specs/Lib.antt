@@ -1,3 +1,2 @@
 -- Cuboids as bytes.
 pub mod Cuboids
-pub mod Slotted

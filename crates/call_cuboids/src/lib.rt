@@ -1,32 +1,22 @@
-// Cuboids as bytes: how long they are, and written over the front of lent bytes.
+// A listed cuboid as bytes: how long it is, and written over the front of lent bytes.
 ghost use mathlib.Core.Path.{_≡_};
-ghost use mathlib.Core.List.{[], flatMap};
-ghost use Prim.Native.Nat.{_+_, _*_, _^_, _≤_, _<_};
+ghost use mathlib.Core.List.{[]};
+ghost use Prim.Native.Nat.{_+_, _*_, _≤_};
 ghost use lib.ListN.{length};
 ghost use Rattle.fields.specs.Written.{Wrote};
 ghost use Rattle.cube.specs.Measure.{sums as measure};
 ghost use Rattle.cube.specs.Codes.{plain};
 ghost use Rattle.cube.specs.Cube.{cells as cuboid};
-ghost use Rattle.rows.specs.Rows.{cut, rowsOf};
+ghost use Rattle.rows.specs.Rows.{width, rowsOf};
 ghost use Rattle.archive_entries.specs.Layout.{section, cellBytes};
-ghost use Rattle.rows_order.specs.Index.{key};
-ghost use Rattle.rows_slots.specs.Slots.{crowds, packed};
 ghost use Rattle.rows_ready.specs.Ready.{Ready};
 ghost use Rattle.archive_cells.specs.Fitted.{Fitted};
-ghost use Rattle.archive_normals.specs.Grouped.{Grouped};
-ghost use Rattle.call_cuboids.specs.Cuboids.{cuboidBytes, expansionBytes};
-ghost use Rattle.call_cuboids.specs.Slotted.{Slotted, cellCount};
+ghost use Rattle.call_cuboids.specs.Cuboids.{cuboidBytes};
 
-// The cell of an empty table, if it is one of a set, into the arrays that are lent. Returns how many there are.
-fn blank_cells(
-    cells: &mut [u32],
-    amounts: &mut [i64],
-    tallies: &mut [u32],
-    dims: usize,
-    set: u32,
-) -> usize
-    requires { ⌜ (dims ≤ 8) × (dims ≤ length (now cells)) × (1 ≤ length (now amounts)) × (1 ≤ length (now tallies)) ⌝ }
-    ensures { λ r. ⌜ (r ≤ 1) × (rowsOf dims r (now (cells .exit)) (now (amounts .exit)) (now (tallies .exit)) ≡ cuboid (plain dims) measure [] set) ⌝ }
+// The cell of an empty table, if it is one of a set, into the array that is lent. Returns how many there are.
+fn blank_cells(cells: &mut [u32], dims: usize, set: u32) -> usize
+    requires { ⌜ (dims ≤ 8) × (width dims ≤ length (now cells)) ⌝ }
+    ensures { λ r. ⌜ (r ≤ 1) × (rowsOf dims r (now (cells .exit)) ≡ cuboid (plain dims) measure [] set) ⌝ }
 {
     if set != 0 {
         return 0;
@@ -35,265 +25,51 @@ fn blank_cells(
     let sum = 0;
     let count = 0;
     let total = cube::Total { sum, count };
-    rows_runs::put_row(cells, amounts, tallies, 0, &codes[..dims], 0, total);
+    rows_runs::put_row(cells, 0, &codes[..dims], 0, total);
     1
 }
 
-// The cells of a set that exist, by codes, each with its total, into the arrays that are lent. Returns how many there are.
+// The cells of a set that exist, by codes, each with its total, into the array that is lent. Returns how many there are.
 fn find_cells(
-    codes: &[u32],
-    sums: &[i64],
-    counts: &[u32],
-    rows: usize,
+    rows: &[u32],
+    n: usize,
     dims: usize,
     set: u32,
     index: &mut [u32],
     cells: &mut [u32],
-    amounts: &mut [i64],
-    tallies: &mut [u32],
 ) -> usize
-    requires { ⌜ Ready dims rows (now codes) (now sums) (now counts) × (length (now index) ≡ rows) ⌝ }
-    requires { ⌜ (length (now cells) ≡ 8192) × (length (now amounts) ≡ 1024) × (length (now tallies) ≡ 1024) ⌝ }
-    ensures { λ r. ⌜ rowsOf dims r (now (cells .exit)) (now (amounts .exit)) (now (tallies .exit)) ≡ cuboid (plain dims) measure (rowsOf dims rows (now (codes .entry)) (now (sums .entry)) (now (counts .entry))) set ⌝ }
+    requires { ⌜ Ready dims n (now rows) × (length (now index) ≡ n) ⌝ }
+    requires { ⌜ 11264 ≤ length (now cells) ⌝ }
+    ensures { λ r. ⌜ rowsOf dims r (now (cells .exit)) ≡ cuboid (plain dims) measure (rowsOf dims n (now (rows .entry))) set ⌝ }
     ensures { λ r. ⌜ r ≤ 1024 ⌝ }
 {
-    if rows == 0 {
-        return blank_cells(cells, amounts, tallies, dims, set);
+    if n == 0 {
+        return blank_cells(cells, dims, set);
     }
-    rows_runs::group_rows(
-        codes,
-        sums,
-        counts,
-        rows,
-        dims,
-        set,
-        index,
-        cells,
-        amounts,
-        tallies,
-    )
+    rows_runs::group_rows(rows, n, dims, set, index, cells)
 }
 
 // Writes a count, and so many cells.
-fn put_counted(
-    out: &mut [u8],
-    cells: &[u32],
-    amounts: &[i64],
-    tallies: &[u32],
-    n: usize,
-    dims: usize,
-) -> usize
-    requires { ⌜ (n * dims ≡ length (now cells)) × (n ≤ length (now amounts)) × (n ≤ length (now tallies)) × (n ≤ 1024) × (4 + n * (4 * dims + 12) ≤ length (now out)) ⌝ }
-    ensures { λ r. ⌜ Wrote (section cellBytes (rowsOf dims n (now (cells .entry)) (now (amounts .entry)) (now (tallies .entry)))) (now (out .entry)) (now (out .exit)) r ⌝ }
+fn put_counted(out: &mut [u8], cells: &[u32], n: usize, dims: usize) -> usize
+    requires { ⌜ (n * width dims ≡ length (now cells)) × (n ≤ 1024) × (4 + n * (4 * dims + 12) ≤ length (now out)) ⌝ }
+    ensures { λ r. ⌜ Wrote (section cellBytes (rowsOf dims n (now (cells .entry)))) (now (out .entry)) (now (out .exit)) r ⌝ }
 {
     let at = fields::put_word(out, n as u32);
-    at + archive_cells::put_cells(&mut out[at..], cells, amounts, tallies, n, dims)
+    at + archive_cells::put_cells(&mut out[at..], cells, n, dims)
 }
 
 // Writes the listed cuboid of a set where there is room for it. Returns how long it is.
-pub fn write_cuboid(
-    out: &mut [u8],
-    codes: &[u32],
-    sums: &[i64],
-    counts: &[u32],
-    rows: usize,
-    dims: usize,
-    set: u32,
-) -> usize
-    requires { ⌜ Ready dims rows (now codes) (now sums) (now counts) ⌝ }
-    ensures { λ r. ⌜ Fitted (cuboidBytes dims (rowsOf dims rows (now (codes .entry)) (now (sums .entry)) (now (counts .entry))) set) (now (out .entry)) (now (out .exit)) r ⌝ }
+pub fn write_cuboid(out: &mut [u8], rows: &[u32], n: usize, dims: usize, set: u32) -> usize
+    requires { ⌜ Ready dims n (now rows) ⌝ }
+    ensures { λ r. ⌜ Fitted (cuboidBytes dims (rowsOf dims n (now (rows .entry))) set) (now (out .entry)) (now (out .exit)) r ⌝ }
 {
     let mut index = [0u32; 1024];
-    let mut cells = [0u32; 8192];
-    let mut amounts = [0i64; 1024];
-    let mut tallies = [0u32; 1024];
-    let n = find_cells(
-        codes,
-        sums,
-        counts,
-        rows,
-        dims,
-        set,
-        &mut index[..rows],
-        &mut cells,
-        &mut amounts,
-        &mut tallies,
-    );
-    let size = n * dims;
-    let len = 4 + n * (4 * dims + 12);
+    let mut cells = [0u32; 11264];
+    let count = find_cells(rows, n, dims, set, &mut index[..n], &mut cells);
+    let size = count * (dims + 3);
+    let len = 4 + count * (4 * dims + 12);
     if out.len() < len {
         return len;
     }
-    put_counted(out, &cells[..size], &amounts[..n], &tallies[..n], n, dims)
-}
-
-// How many cells a set has that exist, by its slot: an empty table has one, of the empty set.
-fn count_cells(slot: &[u16], rows: usize, set: u32) -> usize
-    requires { ⌜ length (now slot) ≤ 1024 ⌝ }
-    ensures { λ r. ⌜ r ≡ cellCount rows set (now (slot .entry)) ⌝ }
-{
-    if rows != 0 {
-        return rows_crowds::count_groups(slot);
-    }
-    if set == 0 { 1 } else { 0 }
-}
-
-// The length of a listed cuboid.
-fn cuboid_len(
-    codes: &[u32],
-    sums: &[i64],
-    counts: &[u32],
-    rows: usize,
-    dims: usize,
-    set: u32,
-    store: &[u16],
-    used: &[usize],
-) -> usize
-    requires { ⌜ Slotted dims rows (now codes) (now sums) (now counts) (now store) (now used) × (set < 2 ^ dims) ⌝ }
-    ensures { λ r. ⌜ r ≡ length (cuboidBytes dims (rowsOf dims rows (now (codes .entry)) (now (sums .entry)) (now (counts .entry))) set) ⌝ }
-    ensures { λ r. ⌜ r ≤ 45060 ⌝ }
-{
-    let slot = rows_crowds::slot_of(store, used, set as usize);
-    let n = count_cells(slot, rows, set);
-    4 + n * (4 * dims + 12)
-}
-
-// The length of the expansion.
-fn expansion_len(
-    codes: &[u32],
-    sums: &[i64],
-    counts: &[u32],
-    rows: usize,
-    dims: usize,
-    store: &[u16],
-    used: &[usize],
-) -> usize
-    requires { ⌜ Slotted dims rows (now codes) (now sums) (now counts) (now store) (now used) ⌝ }
-    ensures { λ r. ⌜ r ≡ length (expansionBytes dims (rowsOf dims rows (now (codes .entry)) (now (sums .entry)) (now (counts .entry)))) ⌝ }
-{
-    let all = lattice::sets_of(dims as u32);
-    let mut len = 0;
-    for k in 0..256 {
-        let set = lattice::set_at(k);
-        if set < all {
-            len += cuboid_len(codes, sums, counts, rows, dims, set, store, used);
-        }
-    }
-    len
-}
-
-// Writes the cell of an empty table: ALL in each place.
-fn put_blank(out: &mut [u8], dims: usize) -> usize
-    requires { ⌜ (dims ≤ 8) × (4 * dims + 12 ≤ length (now out)) ⌝ }
-    ensures { λ r. ⌜ Wrote (flatMap cellBytes (cuboid (plain dims) measure [] 0)) (now (out .entry)) (now (out .exit)) r ⌝ }
-{
-    let codes = [0u32; 8];
-    let missing = [65535u32; 8];
-    let total = cube::Total { sum: 0, count: 0 };
-    archive_groups::put_group(out, &codes[..dims], &missing, total)
-}
-
-// Writes the cells of a set that exist, by its slot.
-fn put_existing(
-    out: &mut [u8],
-    codes: &[u32],
-    sums: &[i64],
-    counts: &[u32],
-    rows: usize,
-    dims: usize,
-    set: u32,
-    slot: &[u16],
-) -> usize
-    requires { ⌜ Ready dims rows (now codes) (now sums) (now counts) × (now slot ≡ packed (crowds 1 (key set (cut dims rows (now codes))) rows)) ⌝ }
-    requires { ⌜ length (flatMap cellBytes (cuboid (plain dims) measure (rowsOf dims rows (now codes) (now sums) (now counts)) set)) ≤ length (now out) ⌝ }
-    ensures { λ r. ⌜ Wrote (flatMap cellBytes (cuboid (plain dims) measure (rowsOf dims rows (now (codes .entry)) (now (sums .entry)) (now (counts .entry))) set)) (now (out .entry)) (now (out .exit)) r ⌝ }
-{
-    if rows != 0 {
-        return archive_groups::put_groups(out, codes, sums, counts, rows, dims, set, slot);
-    }
-    if set != 0 {
-        return 0;
-    }
-    put_blank(out, dims)
-}
-
-// Writes the listed cuboid of a set.
-fn put_cuboid(
-    out: &mut [u8],
-    codes: &[u32],
-    sums: &[i64],
-    counts: &[u32],
-    rows: usize,
-    dims: usize,
-    set: u32,
-    store: &[u16],
-    used: &[usize],
-) -> usize
-    requires { ⌜ Slotted dims rows (now codes) (now sums) (now counts) (now store) (now used) × (set < 2 ^ dims) ⌝ }
-    requires { ⌜ length (cuboidBytes dims (rowsOf dims rows (now codes) (now sums) (now counts)) set) ≤ length (now out) ⌝ }
-    ensures { λ r. ⌜ Wrote (cuboidBytes dims (rowsOf dims rows (now (codes .entry)) (now (sums .entry)) (now (counts .entry))) set) (now (out .entry)) (now (out .exit)) r ⌝ }
-{
-    let slot = rows_crowds::slot_of(store, used, set as usize);
-    let n = count_cells(slot, rows, set);
-    let at = fields::put_word(out, n as u32);
-    at + put_existing(&mut out[at..], codes, sums, counts, rows, dims, set, slot)
-}
-
-// Writes the expansion: the cuboids of all sets in lattice order.
-fn put_expansion(
-    out: &mut [u8],
-    codes: &[u32],
-    sums: &[i64],
-    counts: &[u32],
-    rows: usize,
-    dims: usize,
-    store: &[u16],
-    used: &[usize],
-) -> usize
-    requires { ⌜ Slotted dims rows (now codes) (now sums) (now counts) (now store) (now used) ⌝ }
-    requires { ⌜ length (expansionBytes dims (rowsOf dims rows (now codes) (now sums) (now counts))) ≤ length (now out) ⌝ }
-    ensures { λ r. ⌜ Wrote (expansionBytes dims (rowsOf dims rows (now (codes .entry)) (now (sums .entry)) (now (counts .entry)))) (now (out .entry)) (now (out .exit)) r ⌝ }
-{
-    let all = lattice::sets_of(dims as u32);
-    let mut at = 0;
-    for k in 0..256 {
-        let set = lattice::set_at(k);
-        if all <= set {
-            continue;
-        }
-        at += put_cuboid(
-            &mut out[at..],
-            codes,
-            sums,
-            counts,
-            rows,
-            dims,
-            set,
-            store,
-            used,
-        );
-    }
-    at
-}
-
-// Writes the expansion where there is room for it; the slots that are lent have the groups of two rows or more. Returns how long it is.
-pub fn write_expansion(
-    out: &mut [u8],
-    codes: &[u32],
-    sums: &[i64],
-    counts: &[u32],
-    rows: usize,
-    dims: usize,
-    store: &mut [u16],
-    used: &mut [usize],
-) -> usize
-    requires { ⌜ Grouped dims rows (now codes) (now sums) (now counts) (now store) (now used) ⌝ }
-    ensures { λ r. ⌜ Fitted (expansionBytes dims (rowsOf dims rows (now (codes .entry)) (now (sums .entry)) (now (counts .entry)))) (now (out .entry)) (now (out .exit)) r ⌝ }
-{
-    rows_crowds::complete_slots(codes, rows, dims, store, used);
-    let len = expansion_len(codes, sums, counts, rows, dims, store, used);
-    if out.len() < len {
-        return len;
-    }
-    put_expansion(out, codes, sums, counts, rows, dims, store, used)
+    put_counted(out, &cells[..size], count, dims)
 }

@@ -1,10 +1,11 @@
 -- The counts of a set's cells: they are those of the grouped rows, in flat lists, and together as many as the readings of all rows.
 use mathlib.Core.Path.{_≡_, refl, sym, _∙_, ap}
-use mathlib.Core.List.{List, [], _∷_, map, List·Memᴰ·head}
-use Prim.Native.Nat.{ℕ, zero, suc, _+_, _≤_, _<_}
+use mathlib.Core.List.{List, [], _∷_, map, map-append, List·Memᴰ·head}
+use Prim.Native.Nat.{ℕ, _+_, _*_, _≤_, _<_}
+use native.Mathlib.Numerals.{add-one}
 use native.Mathlib.Omega.{arith}
-use lib.IntN.{ℤ}
-use lib.ListN.{length, take, drop}
+use lib.ListN.{length, take, set}
+use lib.Seq.{take-suc-set}
 use Rattle.lists.specs.Lists.{_∈_, sum}
 use Rattle.lattice.specs.Sets.{sets}
 use Rattle.cube.specs.declared.Total.{Total}
@@ -15,20 +16,27 @@ use Rattle.cube.specs.Cube.{grouped, cells}
 use Rattle.cube.specs.Table.{Table}
 use Rattle.cube.proofs.Existing.{cells-rows}
 use Rattle.cube.proofs.Readings.{count-cells}
-use Rattle.rows.specs.Rows.{rowsOf}
+use Rattle.rows.specs.Rows.{width, rowsOf, rowTotal}
+use Rattle.rows.proofs.Flat.{placed, total-at, rows-more}
+use Rattle.rows_ready.proofs.Ready.{rows-front}
 use Rattle.call_fee.specs.Fees.{countIn, weights}
 
-rows-counts : (d n : ℕ) (codes : List ℕ) (sums : List ℤ) (counts : List ℕ) → n ≤ length counts → map countIn (rowsOf d n codes sums counts) ≡ take n counts
+-- the counts of no rows, and of one row more
+pub counts-none : (d : ℕ) (ws l : List ℕ) → take 0 l ≡ map countIn (rowsOf d 0 ws)
 unfolding rowsOf
-rows-counts d zero codes sums counts h = refl
-rows-counts d (suc n) codes sums [] h = absurd (omega arith)
-rows-counts d (suc n) codes sums (c ∷ counts) h = ap (λ (l : List ℕ). c ∷ l) (rows-counts d n (drop d codes) (drop 1 sums) counts (omega (arith, h)))
+counts-none d ws l = refl
+
+pub counts-more : (d n i : ℕ) (ws l : List ℕ) {t : Total} → i < n → i < length l → t ≡ rowTotal d n ws i → take i l ≡ map countIn (rowsOf d i ws)
+    → take (i + 1) (set l i (t .count)) ≡ map countIn (rowsOf d (i + 1) ws)
+counts-more d n i ws l {t} h k e f =
+    let one : t .count ≡ placed d ws i .total .count = ap (λ (u : Total). u .count) (e ∙ total-at d n i ws h) in
+    rw (add-one, take-suc-set l i (t .count) k, rows-more d i ws, map-append, f, one)
 
 -- the counts of grouped rows are the weights
-pub weights-front : (d n : ℕ) (codes : List ℕ) (amounts : List ℤ) (tallies : List ℕ) (rows : List (Row Total)) (s : ℕ) → 0 < length rows → n ≤ length tallies
-    → rowsOf d n codes amounts tallies ≡ grouped (plain d) measure rows s → take n tallies ≡ weights d rows s
+pub weights-grouped : (d n : ℕ) (ws l : List ℕ) (rows : List (Row Total)) (s : ℕ) → 0 < length rows
+    → l ≡ map countIn (rowsOf d n (take (n * width d) ws)) → rowsOf d n ws ≡ grouped (plain d) measure rows s → l ≡ weights d rows s
 unfolding weights
-weights-front d n codes amounts tallies rows s some h e = sym (rows-counts d n codes amounts tallies h) ∙ ap (map countIn) (e ∙ sym (cells-rows (plain d) measure rows s some))
+weights-grouped d n ws l rows s some f e = f ∙ ap (map countIn) (rows-front d n ws ∙ e ∙ sym (cells-rows (plain d) measure rows s some))
 
 sum-counts : (l : List (Row Total)) → sum (map countIn l) ≡ countOf l
 sum-counts [] = refl

@@ -3,7 +3,6 @@ use mathlib.Core.Path.{_≡_, sym, ap, subst, _∙_}
 use mathlib.Core.List.{List, []}
 use Prim.Native.Nat.{ℕ, _^_, _≤_, _<_}
 use native.Mathlib.Omega.{arith}
-use lib.IntN.{ℤ}
 use lib.ListN.{length}
 use borrow.Author.Tests.{lt-ltb, le-ltb, le-leb, lt-leb}
 use Rattle.cube.specs.declared.Total.{Total}
@@ -25,13 +24,13 @@ pub fee-refused : (s : List ℕ) {k : ℕ} → archiveAnswer (readArchive s) ≡
 unfolding sharesFee
 fee-refused s e fee set = rw (refused s e)
 
-module _ {s : List ℕ} {d n m : ℕ} {codes : List ℕ} {sums : List ℤ} {counts : List ℕ} (o : Opened s d n m codes sums counts) where
+module _ {s : List ℕ} {d n m : ℕ} {ws : List ℕ} (o : Opened s d n m ws) where
   abbrev rows : List (Row Total)
-  rows = rowsOf d n codes sums counts
+  rows = rowsOf d n ws
 
   -- as many base rows as the code says
   held-rows : length (rowsIn (o .held)) ≡ n
-  held-rows = sym (ap length (o .rows)) ∙ rows-length d n codes sums counts
+  held-rows = sym (ap length (o .rows)) ∙ rows-length d n ws
 
   pub fee-no-set : (fee : ℕ) {set : ℕ} → 2 ^ d ≤ set → sharesFee s fee set ≡ stopped 14
   unfolding sharesFee

@@ -3,45 +3,40 @@
 use archive_entries::ArchiveRead;
 use call_answers::Written;
 ghost use mathlib.Core.Path.{_≡_};
-ghost use Prim.Native.Nat.{_^_, _≤_, _<_};
+ghost use mathlib.Core.List.{map};
+ghost use Prim.Native.Nat.{_*_, _^_, _≤_, _<_};
 ghost use lib.ListN.{length, take};
 ghost use Rattle.lists.specs.Lists.{sum};
 ghost use Rattle.cube.specs.Bounds.{countOf};
-ghost use Rattle.rows.specs.Rows.{rowsOf};
+ghost use Rattle.rows.specs.Rows.{width, rowsOf};
 ghost use Rattle.rows_ready.specs.Ready.{Ready};
 ghost use Rattle.call_answers.specs.Answers.{bytes, Answered};
 ghost use Rattle.call_ask.specs.Accepts.{Accepts};
 ghost use Rattle.fee_list.specs.Listed.{feeBytes};
-ghost use Rattle.call_fee.specs.Fees.{weights, sharesFee};
+ghost use Rattle.call_fee.specs.Fees.{countIn, weights, sharesFee};
+
+// Copies the counts of rows over the front of a lent list.
+fn copy_counts(rows: &[u32], n: usize, dims: usize, counts: &mut [u32])
+    requires { ⌜ (n * width dims ≡ length (now rows)) × (n ≤ length (now counts)) ⌝ }
+    ensures { λ _. ⌜ take n (now (counts .exit)) ≡ map countIn (rowsOf dims n (now (rows .entry))) ⌝ }
+{
+    for i in 0..n {
+        let total = rows::total_at(rows, n, dims, i);
+        counts[i] = total.count;
+    }
+}
 
 // The counts of the cells of a set, over the front of a lent list. Returns how many there are.
-fn cell_counts(
-    codes: &[u32],
-    sums: &[i64],
-    counts: &[u32],
-    rows: usize,
-    dims: usize,
-    set: u32,
-    tallies: &mut [u32],
-) -> usize
-    requires { ⌜ Ready dims rows (now codes) (now sums) (now counts) × (0 < rows) × (rows ≤ length (now tallies)) ⌝ }
-    ensures { λ r. ⌜ (take r (now (tallies .exit)) ≡ weights dims (rowsOf dims rows (now (codes .entry)) (now (sums .entry)) (now (counts .entry))) set) × (r ≤ rows) ⌝ }
+fn cell_counts(rows: &[u32], n: usize, dims: usize, set: u32, tallies: &mut [u32]) -> usize
+    requires { ⌜ Ready dims n (now rows) × (0 < n) × (n ≤ length (now tallies)) ⌝ }
+    ensures { λ r. ⌜ (take r (now (tallies .exit)) ≡ weights dims (rowsOf dims n (now (rows .entry))) set) × (r ≤ n) ⌝ }
 {
     let mut index = [0u32; 1024];
-    let mut cells = [0u32; 8192];
-    let mut amounts = [0i64; 1024];
-    rows_runs::group_rows(
-        codes,
-        sums,
-        counts,
-        rows,
-        dims,
-        set,
-        &mut index[..rows],
-        &mut cells,
-        &mut amounts,
-        tallies,
-    )
+    let mut cells = [0u32; 11264];
+    let count = rows_runs::group_rows(rows, n, dims, set, &mut index[..n], &mut cells);
+    let size = count * (dims + 3);
+    copy_counts(&cells[..size], count, dims, tallies);
+    count
 }
 
 // Writes the shares of a fee by counts where there is room for them.
@@ -56,30 +51,19 @@ fn fit_fee(out: &mut [u8], fee: u64, counts: &[u32]) -> Written
 }
 
 // Shares a fee over the cells of a set, by base rows with at least one reading in all.
-fn share_rows(
-    out: &mut [u8],
-    codes: &[u32],
-    sums: &[i64],
-    counts: &[u32],
-    rows: usize,
-    dims: usize,
-    set: u32,
-    fee: u64,
-) -> Written
-    requires { ⌜ Ready dims rows (now codes) (now sums) (now counts) × (set < 2 ^ dims) × (fee ≤ 1000000000) × (0 < countOf (rowsOf dims rows (now codes) (now sums) (now counts))) ⌝ }
-    ensures { λ r. ⌜ Answered (bytes (feeBytes fee (weights dims (rowsOf dims rows (now (codes .entry)) (now (sums .entry)) (now (counts .entry))) set))) (now (out .entry)) (now (out .exit)) r ⌝ }
+fn share_rows(out: &mut [u8], rows: &[u32], n: usize, dims: usize, set: u32, fee: u64) -> Written
+    requires { ⌜ Ready dims n (now rows) × (set < 2 ^ dims) × (fee ≤ 1000000000) × (0 < countOf (rowsOf dims n (now rows))) ⌝ }
+    ensures { λ r. ⌜ Answered (bytes (feeBytes fee (weights dims (rowsOf dims n (now (rows .entry))) set))) (now (out .entry)) (now (out .exit)) r ⌝ }
 {
     let mut tallies = [0u32; 1024];
-    let n = cell_counts(codes, sums, counts, rows, dims, set, &mut tallies);
-    fit_fee(out, fee, &tallies[..n])
+    let count = cell_counts(rows, n, dims, set, &mut tallies);
+    fit_fee(out, fee, &tallies[..count])
 }
 
-// Shares a fee over the cells of a set of an archive that was accepted.
+// Shares a fee over the cells of a set of an archive that was accepted. Eight parameters: what was read of the archive is three numbers.
 fn share_read(
     s: &[u8],
-    codes: &[u32],
-    sums: &[i64],
-    counts: &[u32],
+    rows: &[u32],
     dims: u32,
     bases: u32,
     cells: u32,
@@ -87,7 +71,7 @@ fn share_read(
     set: u32,
     out: &mut [u8],
 ) -> Written
-    requires { ⌜ Accepts (now s) (now codes) (now sums) (now counts) dims bases cells ⌝ }
+    requires { ⌜ Accepts (now s) (now rows) dims bases cells ⌝ }
     ensures { λ r. ⌜ Answered (sharesFee (now (s .entry)) fee set) (now (out .entry)) (now (out .exit)) r ⌝ }
 {
     if lattice::sets_of(dims) <= set {
@@ -101,35 +85,18 @@ fn share_read(
     }
     let d = dims as usize;
     let n = bases as usize;
-    let size = n * d;
-    share_rows(
-        out,
-        &codes[..size],
-        &sums[..n],
-        &counts[..n],
-        n,
-        d,
-        set,
-        fee,
-    )
+    let size = n * (d + 3);
+    share_rows(out, &rows[..size], n, d, set, fee)
 }
 
-// Reads an archive into the arrays that are lent, and shares a fee over the cells of a set.
-fn share_in(
-    s: &[u8],
-    codes: &mut [u32; 8192],
-    sums: &mut [i64; 1024],
-    counts: &mut [u32; 1024],
-    fee: u64,
-    set: u32,
-    out: &mut [u8],
-) -> Written
+// Reads an archive into the array that is lent, and shares a fee over the cells of a set.
+fn share_in(s: &[u8], rows: &mut [u32; 11264], fee: u64, set: u32, out: &mut [u8]) -> Written
     ensures { λ r. ⌜ Answered (sharesFee (now (s .entry)) fee set) (now (out .entry)) (now (out .exit)) r ⌝ }
 {
-    match archive_judge::read_required(s, codes, sums, counts) {
+    match archive_read::read_required(s, rows) {
         ArchiveRead::Stop(n) => Written::Stop(n),
         ArchiveRead::Entries { dims, bases, cells } => {
-            share_read(s, codes, sums, counts, dims, bases, cells, fee, set, out)
+            share_read(s, rows, dims, bases, cells, fee, set, out)
         }
     }
 }
@@ -138,16 +105,6 @@ fn share_in(
 pub fn share_fee(archive: &[u8], fee: u32, set: u32, out: &mut [u8]) -> Written
     ensures { λ r. ⌜ Answered (sharesFee (now (archive .entry)) fee set) (now (out .entry)) (now (out .exit)) r ⌝ }
 {
-    let mut codes = [0u32; 8192];
-    let mut sums = [0i64; 1024];
-    let mut counts = [0u32; 1024];
-    share_in(
-        archive,
-        &mut codes,
-        &mut sums,
-        &mut counts,
-        fee as u64,
-        set,
-        out,
-    )
+    let mut rows = [0u32; 11264];
+    share_in(archive, &mut rows, fee as u64, set, out)
 }

@@ -5,7 +5,6 @@ use mathlib.Core.Bool.{true, false, false≢true}
 use mathlib.Core.List.{List, []}
 use Prim.Native.Nat.{ℕ, _+_, _*_, _≤_}
 use native.Mathlib.Omega.{arith}
-use lib.IntN.{ℤ}
 use lib.ListN.{length}
 use Rattle.lists.specs.Order.{same}
 use Rattle.lists.proofs.Tests.{refuted}
@@ -43,23 +42,22 @@ second-refused s t {d} {n} {m} {k} e f = go (readArchive s) e
     go (halt j) g = let z : false ≡ true = cc in absurd (false≢true z)
     go (got a rest) g = rw (refused t f)
 
--- an archive's sizes and rows, as they stand in its bytes and in flat lists
-module _ {s : List ℕ} {d n m : ℕ} {codes : List ℕ} {sums : List ℤ} {counts : List ℕ} (o : Opened s d n m codes sums counts) where
+-- an archive's sizes and rows, as they stand in its bytes and in a flat list
+module _ {s : List ℕ} {d n m : ℕ} {ws : List ℕ} (o : Opened s d n m ws) where
   -- the sizes stand within the bytes
   pub opened-sizes : 8 + 4 * d ≤ length s
   opened-sizes = let h = header-read s CUBE (parts s (read-forth s (o .read) .0) .2) in omega (arith, h .whole, h .dims, o .dims)
 
-  opened-rows : rowsOf (length (wordsAt s d 8)) (length counts) codes sums counts ≡ rowsIn (o .held)
-  opened-rows = ap₂ (λ (i j : ℕ). rowsOf i j codes sums counts) (length-wordsAt s d 8) (o .ready .tallies) ∙ o .rows
+  opened-rows : rowsOf (length (wordsAt s d 8)) n ws ≡ rowsIn (o .held)
+  opened-rows = ap (λ (i : ℕ). rowsOf i n ws) (length-wordsAt s d 8) ∙ o .rows
 
-  pub opened-store : {zs : List ℕ} → zs ≡ wordsAt s d 8 → Store zs codes sums counts
-  opened-store z = subst (λ (l : List ℕ). Store l codes sums counts) (sym z) (record {
-    ready = subst (λ (i : ℕ). Ready i (length counts) codes sums counts) (sym (length-wordsAt s d 8)) (subst (λ (j : ℕ). Ready d j codes sums counts) (sym (o .ready .tallies)) (o .ready));
+  pub opened-store : {zs : List ℕ} → zs ≡ wordsAt s d 8 → Store zs n ws
+  opened-store z = subst (λ (l : List ℕ). Store l n ws) (sym z) (record {
+    ready = subst (λ (i : ℕ). Ready i n ws) (sym (length-wordsAt s d 8)) (o .ready);
     limits = subst (Limits (wordsAt s d 8)) (sym opened-rows) (subst (λ (zs : List ℕ). Limits zs (rowsIn (o .held))) (o .sizes) (archive-forth s (o .held) [] (o .are) (o .read) .0));
   })
 
-module _ {s t : List ℕ} {d d′ n n′ m m′ : ℕ} {codes codes′ : List ℕ} {sums sums′ : List ℤ} {counts counts′ : List ℕ}
-    (o : Opened s d n m codes sums counts) (p : Opened t d′ n′ m′ codes′ sums′ counts′) where
+module _ {s t : List ℕ} {d d′ n n′ m m′ : ℕ} {ws ws′ : List ℕ} (o : Opened s d n m ws) (p : Opened t d′ n′ m′ ws′) where
   apart : same (wordsAt s d 8) (wordsAt t d′ 8) ≡ false → joins s t ≡ stop 17
   unfolding joins
   apart e = rw (o .read, p .read, o .sizes, p .sizes, e)
@@ -67,8 +65,7 @@ module _ {s t : List ℕ} {d d′ n n′ m m′ : ℕ} {codes codes′ : List �
   pub joins-dims : d ≢ d′ → joins s t ≡ stop 17
   joins-dims h = apart (refuted (λ e. h (sym (length-wordsAt s d 8) ∙ ap length (same-eq (wordsAt s d 8) (wordsAt t d′ 8) e) ∙ length-wordsAt t d′ 8)))
 
-module _ {s t : List ℕ} {d n n′ m m′ : ℕ} {codes codes′ : List ℕ} {sums sums′ : List ℤ} {counts counts′ : List ℕ}
-    (o : Opened s d n m codes sums counts) (p : Opened t d n′ m′ codes′ sums′ counts′) where
+module _ {s t : List ℕ} {d n n′ m m′ : ℕ} {ws ws′ : List ℕ} (o : Opened s d n m ws) (p : Opened t d n′ m′ ws′) where
   pub joins-sizes : false ≡ same (wordsAt s d 8) (wordsAt t d 8) → joins s t ≡ stop 17
   joins-sizes e = apart o p (sym e)
 
@@ -76,12 +73,12 @@ module _ {s t : List ℕ} {d n n′ m m′ : ℕ} {codes codes′ : List ℕ} {s
     alike : zs ≡ wordsAt t d 8
     alike = z ∙ same-eq (wordsAt s d 8) (wordsAt t d 8) (sym e)
 
-    pub opened-other : Store zs codes′ sums′ counts′
+    pub opened-other : Store zs n′ ws′
     opened-other = opened-store p alike
 
-    pub joins-filed : joins s t ≡ filed zs (united totals (length zs) (rowsOf (length zs) (length counts) codes sums counts) (rowsOf (length zs) (length counts′) codes′ sums′ counts′))
+    pub joins-filed : joins s t ≡ filed zs (united totals (length zs) (rowsOf (length zs) n ws) (rowsOf (length zs) n′ ws′))
     unfolding joins
     joins-filed =
-        let f = ap (λ (l : List ℕ). rowsOf (length l) (length counts) codes sums counts) z ∙ opened-rows o in
-        let g = ap (λ (l : List ℕ). rowsOf (length l) (length counts′) codes′ sums′ counts′) alike ∙ opened-rows p in
+        let f = ap (λ (l : List ℕ). rowsOf (length l) n ws) z ∙ opened-rows o in
+        let g = ap (λ (l : List ℕ). rowsOf (length l) n′ ws′) alike ∙ opened-rows p in
         rw (o .read, p .read, o .sizes, p .sizes, ← e, ← z) (ap₂ (λ (a b : List (Row Total)). filed zs (united totals (length zs) a b)) (sym f) (sym g))

@@ -1,17 +1,15 @@
 -- Two lists of base rows in flat lists, merged into a store: what is filed of it.
-use mathlib.Core.Path.{_≡_, refl, sym, ap, _∙_}
-use mathlib.Core.List.{List, [], _∷_}
+use mathlib.Core.Path.{_≡_, refl, sym, _∙_}
+use mathlib.Core.List.{List}
 use Prim.Native.Nat.{ℕ, _+_, _*_, _≤_, _<_}
-use native.Mathlib.Nat.{mul-le-mul}
 use native.Mathlib.Omega.{arith}
-use lib.IntN.{ℤ}
-use lib.ListN.{length, take, drop}
+use lib.ListN.{length, take}
 use lib.Seq.{length-take-le}
-use Rattle.lists.specs.Lists.{sum}
+use Rattle.rows.proofs.Rows.{rows-small}
 use Rattle.cube.specs.declared.Total.{Total}
 use Rattle.cube.specs.Measure.{Row, sums as totals}
 use Rattle.cube.specs.Bounds.{countOf}
-use Rattle.rows.specs.Rows.{rowsOf}
+use Rattle.rows.specs.Rows.{width, rowsOf}
 use Rattle.rows.proofs.Flat.{rows-length}
 use Rattle.rows_ready.specs.Ready.{Ready}
 use Rattle.rows_ready.proofs.Ready.{rows-front}
@@ -24,55 +22,45 @@ use Rattle.call_join.specs.Joins.{filed}
 use Rattle.call_join.specs.Stores.{Store}
 use Rattle.call_join.proofs.Limits.{filed-counts, filed-over, limits-merged, filed-merged}
 
--- the readings of rows in flat lists
-count-sum : (d : ℕ) (codes : List ℕ) (sums : List ℤ) (counts : List ℕ) → countOf (rowsOf d (length counts) codes sums counts) ≡ sum counts
-unfolding rowsOf
-count-sum d codes sums [] = refl
-count-sum d codes sums (n ∷ counts) = ap (λ (k : ℕ). n + k) (count-sum d (drop d codes) (drop 1 sums) counts)
-
-module _ {zs codes : List ℕ} {sums : List ℤ} {counts codes′ : List ℕ} {sums′ : List ℤ} {counts′ : List ℕ} (p : Store zs codes sums counts) (q : Store zs codes′ sums′ counts′) where
+module _ {zs : List ℕ} {n : ℕ} {ws : List ℕ} {m : ℕ} {ws′ : List ℕ} (p : Store zs n ws) (q : Store zs m ws′) where
   abbrev first : List (Row Total)
-  first = rowsOf (length zs) (length counts) codes sums counts
+  first = rowsOf (length zs) n ws
 
   abbrev second : List (Row Total)
-  second = rowsOf (length zs) (length counts′) codes′ sums′ counts′
+  second = rowsOf (length zs) m ws′
 
-  counted : countOf first + countOf second ≡ sum counts + sum counts′
-  counted = omega (arith, count-sum (length zs) codes sums counts, count-sum (length zs) codes′ sums′ counts′)
+  pub stores-small : countOf first + countOf second ≤ 2097152
+  stores-small = omega (arith, p .limits .counts, q .limits .counts)
 
-  pub stores-small : sum counts + sum counts′ ≤ 2097152
-  stores-small = omega (arith, counted, p .limits .counts, q .limits .counts)
+  pub stores-many : 1048576 < countOf first + countOf second → filed zs (united totals (length zs) first second) ≡ stop 18
+  stores-many = filed-counts zs first second (p .limits) (q .limits)
 
-  pub stores-many : 1048576 < sum counts + sum counts′ → filed zs (united totals (length zs) first second) ≡ stop 18
-  stores-many h = filed-counts zs first second (p .limits) (q .limits) (omega (arith, h, counted))
+  pub stores-pair : countOf first + countOf second ≤ 1048576 → Pair (length zs) n ws m ws′
+  stores-pair h = record { one = p .ready; other = q .ready; few = h }
 
-  pub stores-pair : sum counts + sum counts′ ≤ 1048576 → Pair (length zs) codes sums counts codes′ sums′ counts′
-  stores-pair h = record { one = p .ready; other = q .ready; few = omega (arith, h, counted) }
-
-  module _ {n : ℕ} {cells : List ℕ} {amounts : List ℤ} {tallies : List ℕ} (s : Collected 1024 (merged totals first second) (length zs) n cells amounts tallies) where
-    pub stored-over : 1024 < n → filed zs (united totals (length zs) first second) ≡ stop 18
+  module _ {k : ℕ} {cells : List ℕ} (s : Collected 1024 (merged totals first second) (length zs) k cells) where
+    pub stored-over : 1024 < k → filed zs (united totals (length zs) first second) ≡ stop 18
     stored-over h = filed-over zs first second (p .limits) (q .limits) (s .more h)
 
-    module _ (room : (8192 ≤ length cells) × (1024 ≤ length amounts) × (1024 ≤ length tallies)) (few : sum counts + sum counts′ ≤ 1048576) (h : n ≤ 1024) where
-      pub stored-small : n * length zs ≤ 8192
-      stored-small = let m = mul-le-mul h (p .ready .dims) in omega (arith, m)
+    module _ (room : 11264 ≤ length cells) (few : countOf first + countOf second ≤ 1048576) (h : k ≤ 1024) where
+      pub stored-small : k * width (length zs) ≤ 11264
+      stored-small = rows-small (length zs) k (p .ready .dims) h
 
-      -- the rows in the fronts of the arrays
+      -- the rows in the front of the array
       abbrev front : List (Row Total)
-      front = rowsOf (length zs) n (take (n * length zs) cells) (take n amounts) (take n tallies)
+      front = rowsOf (length zs) k (take (k * width (length zs)) cells)
 
       is-merged : front ≡ merged totals first second
-      is-merged = rows-front (length zs) n cells amounts tallies ∙ s .fits h
+      is-merged = rows-front (length zs) k cells ∙ s .fits h
 
       short : length front ≤ 1024
-      short = omega (arith, h, rows-length (length zs) n (take (n * length zs) cells) (take n amounts) (take n tallies))
+      short = omega (arith, h, rows-length (length zs) k (take (k * width (length zs)) cells))
 
       pub stored-limits : Limits zs front
-      stored-limits = limits-merged zs first second (p .limits) (q .limits) front is-merged short (omega (arith, few, counted))
+      stored-limits = limits-merged zs first second (p .limits) (q .limits) front is-merged short few
 
-      pub stored-ready : Ready (length zs) n (take (n * length zs) cells) (take n amounts) (take n tallies)
-      stored-ready = limits-ready stored-limits refl refl (sym (length-take-le (n * length zs) cells (omega (arith, stored-small, room .0)))) (length-take-le n amounts (omega (arith, h, room .1)))
-          (length-take-le n tallies (omega (arith, h, room .2)))
+      pub stored-ready : Ready (length zs) k (take (k * width (length zs)) cells)
+      stored-ready = limits-ready stored-limits refl refl (sym (length-take-le (k * width (length zs)) cells (omega (arith, stored-small, room))))
 
       pub stored-filed : filed zs (united totals (length zs) first second) ≡ bytes (archiveBytes zs front)
-      stored-filed = filed-merged zs first second (p .limits) (q .limits) front is-merged short (omega (arith, few, counted))
+      stored-filed = filed-merged zs first second (p .limits) (q .limits) front is-merged short few

@@ -33,91 +33,62 @@ fn same_sizes(first: &[u8], second: &[u8], sizes: &mut [u32], others: &mut [u32]
 // Writes the archive of two lists of base rows, of the same sizes, as one, with a lent array for slots.
 fn join_rows(
     sizes: &[u32],
-    codes1: &[u32],
-    sums1: &[i64],
-    counts1: &[u32],
-    codes2: &[u32],
-    sums2: &[i64],
-    counts2: &[u32],
+    rows1: &[u32],
+    n: usize,
+    rows2: &[u32],
+    m: usize,
     store: &mut [u16],
     out: &mut [u8],
 ) -> Written
-    requires { ⌜ Store (now sizes) (now codes1) (now sums1) (now counts1) × Store (now sizes) (now codes2) (now sums2) (now counts2) × (262144 ≤ length (now store)) ⌝ }
-    ensures { λ r. ⌜ Answered (filed (now (sizes .entry)) (united totals (length (now (sizes .entry))) (rowsOf (length (now (sizes .entry))) (length (now (counts1 .entry))) (now (codes1 .entry)) (now (sums1 .entry)) (now (counts1 .entry))) (rowsOf (length (now (sizes .entry))) (length (now (counts2 .entry))) (now (codes2 .entry)) (now (sums2 .entry)) (now (counts2 .entry))))) (now (out .entry)) (now (out .exit)) r ⌝ }
+    requires { ⌜ Store (now sizes) n (now rows1) × Store (now sizes) m (now rows2) × (262144 ≤ length (now store)) ⌝ }
+    ensures { λ r. ⌜ Answered (filed (now (sizes .entry)) (united totals (length (now (sizes .entry))) (rowsOf (length (now (sizes .entry))) n (now (rows1 .entry))) (rowsOf (length (now (sizes .entry))) m (now (rows2 .entry))))) (now (out .entry)) (now (out .exit)) r ⌝ }
 {
-    if 1048576 < fee_shares::total_of(counts1) + fee_shares::total_of(counts2) {
-        return Written::Stop(18);
-    }
-    let mut codes = [0u32; 8192];
-    let mut sums = [0i64; 1024];
-    let mut counts = [0u32; 1024];
     let d = sizes.len();
-    let n = rows_merge::merge_rows(
-        codes1,
-        sums1,
-        counts1,
-        codes2,
-        sums2,
-        counts2,
-        d,
-        &mut codes,
-        &mut sums,
-        &mut counts,
-    );
-    if 1024 < n {
+    if 1048576 < rows_merge::readings_in(rows1, n, d) + rows_merge::readings_in(rows2, m, d) {
         return Written::Stop(18);
     }
-    let size = n * d;
-    call_build::fit_archive(
-        out,
-        sizes,
-        &codes[..size],
-        &sums[..n],
-        &counts[..n],
-        n,
-        store,
-    )
+    let mut rows = [0u32; 11264];
+    let k = rows_merge::merge_rows(rows1, n, rows2, m, d, &mut rows);
+    if 1024 < k {
+        return Written::Stop(18);
+    }
+    let size = k * (d + 3);
+    call_build::fit_archive(out, sizes, &rows[..size], k, store)
 }
 
-// Joins two archives that were accepted; the arrays have their base rows.
+// Joins two archives that were accepted; the arrays have their base rows. Ten parameters: two archives with what was read of each.
 fn join_read(
     first: &[u8],
-    codes1: &[u32],
-    sums1: &[i64],
-    counts1: &[u32],
+    rows1: &[u32],
     dims1: u32,
-    rows1: u32,
+    bases1: u32,
     second: &[u8],
-    codes2: &[u32],
-    sums2: &[i64],
-    counts2: &[u32],
+    rows2: &[u32],
     dims2: u32,
-    rows2: u32,
+    bases2: u32,
     store: &mut [u16],
     out: &mut [u8],
 ) -> Written
-    requires { ⌜ Accepted (now first) (now codes1) (now sums1) (now counts1) dims1 rows1 × Accepted (now second) (now codes2) (now sums2) (now counts2) dims2 rows2 × (262144 ≤ length (now store)) ⌝ }
+    requires { ⌜ Accepted (now first) (now rows1) dims1 bases1 × Accepted (now second) (now rows2) dims2 bases2 × (262144 ≤ length (now store)) ⌝ }
     ensures { λ r. ⌜ Answered (joins (now (first .entry)) (now (second .entry))) (now (out .entry)) (now (out .exit)) r ⌝ }
 {
     if dims1 != dims2 {
         return Written::Stop(17);
     }
     let d = dims1 as usize;
-    let n = rows1 as usize;
-    let m = rows2 as usize;
-    let size1 = n * d;
-    let size2 = m * d;
+    let n = bases1 as usize;
+    let m = bases2 as usize;
+    let size1 = n * (d + 3);
+    let size2 = m * (d + 3);
     let mut sizes = [0u32; 8];
     let mut others = [0u32; 8];
     if same_sizes(first, second, &mut sizes[..d], &mut others[..d]) {
         join_rows(
             &sizes[..d],
-            &codes1[..size1],
-            &sums1[..n],
-            &counts1[..n],
-            &codes2[..size2],
-            &sums2[..m],
-            &counts2[..m],
+            &rows1[..size1],
+            n,
+            &rows2[..size2],
+            m,
             store,
             out,
         )
@@ -129,26 +100,22 @@ fn join_read(
 // Reads both archives into the arrays that are lent, the first whole before the second, and joins them. One array has the slots of both checks and then those of the new archive.
 fn join_in(
     first: &[u8],
-    codes1: &mut [u32; 8192],
-    sums1: &mut [i64; 1024],
-    counts1: &mut [u32; 1024],
+    rows1: &mut [u32; 11264],
     second: &[u8],
-    codes2: &mut [u32; 8192],
-    sums2: &mut [i64; 1024],
-    counts2: &mut [u32; 1024],
+    rows2: &mut [u32; 11264],
     store: &mut [u16; 262144],
     out: &mut [u8],
 ) -> Written
     ensures { λ r. ⌜ Answered (joins (now (first .entry)) (now (second .entry))) (now (out .entry)) (now (out .exit)) r ⌝ }
 {
-    match archive_judge::read_lent(first, codes1, sums1, counts1, store) {
+    match archive_read::read_lent(first, rows1, store) {
         ArchiveRead::Stop(n) => Written::Stop(n),
         ArchiveRead::Entries {
             dims,
             bases,
             cells: _,
         } => {
-            match archive_judge::read_lent(second, codes2, sums2, counts2, store) {
+            match archive_read::read_lent(second, rows2, store) {
                 ArchiveRead::Stop(n) => Written::Stop(n),
                 ArchiveRead::Entries {
                     dims: dims2,
@@ -156,15 +123,11 @@ fn join_in(
                     cells: _,
                 } => join_read(
                     first,
-                    codes1,
-                    sums1,
-                    counts1,
+                    rows1,
                     dims,
                     bases,
                     second,
-                    codes2,
-                    sums2,
-                    counts2,
+                    rows2,
                     dims2,
                     bases2,
                     store,
@@ -179,23 +142,8 @@ fn join_in(
 pub fn join(first: &[u8], second: &[u8], out: &mut [u8]) -> Written
     ensures { λ r. ⌜ Answered (joins (now (first .entry)) (now (second .entry))) (now (out .entry)) (now (out .exit)) r ⌝ }
 {
-    let mut codes1 = [0u32; 8192];
-    let mut sums1 = [0i64; 1024];
-    let mut counts1 = [0u32; 1024];
-    let mut codes2 = [0u32; 8192];
-    let mut sums2 = [0i64; 1024];
-    let mut counts2 = [0u32; 1024];
+    let mut rows1 = [0u32; 11264];
+    let mut rows2 = [0u32; 11264];
     let mut store = [0u16; 262144];
-    join_in(
-        first,
-        &mut codes1,
-        &mut sums1,
-        &mut counts1,
-        second,
-        &mut codes2,
-        &mut sums2,
-        &mut counts2,
-        &mut store,
-        out,
-    )
+    join_in(first, &mut rows1, second, &mut rows2, &mut store, out)
 }

@@ -24,7 +24,7 @@ use Rattle.rows_order.specs.Index.{key as keyOf, arranged}
 use Rattle.rows_slots.specs.Slots.{shares}
 use Rattle.rows_slots.proofs.Groups.{crowds-flat}
 use Rattle.rows_crowds.proofs.Left.{shares-single}
-use Rattle.archive_judge.specs.Sharing.{Sharing}
+use Rattle.archive_read.specs.Sharing.{Sharing}
 use Rattle.call_keys.specs.Laid.{Laid}
 use Rattle.call_keys.specs.Bare.{bare, leastBare}
 
@@ -40,9 +40,9 @@ smallest-same d p q (s ∷ l) acc h =
     ap (λ (b : Bool). smallest (plain d) p l (acc ++ only (b && not (some (plain d .holds s) acc)) s [])) (h s (List·Memᴰ·head refl))
     ∙ smallest-same d p q l (acc ++ only (q s && not (some (plain d .holds s) acc)) s []) (λ t m. h t (List·Memᴰ·tail m))
 
-module _ {d n : ℕ} {codes used : List ℕ} (rows : Laid d n codes) (told : Sharing d n codes used) where
+module _ {d n : ℕ} {ws used : List ℕ} (rows : Laid d n ws) (told : Sharing d n ws used) where
   abbrev xs : List (List ℕ)
-  xs = cut d n codes
+  xs = cut d n ws
 
   module _ {s : ℕ} (m : s ∈ sets d) where
     abbrev keys : ℕ → List ℕ
@@ -53,7 +53,7 @@ module _ {d n : ℕ} {codes used : List ℕ} (rows : Laid d n codes) (told : Sha
     sharers = keep (shares 2 keys n) (arranged keys n)
 
     sharing : (i : ℕ) → i < n → shares 2 keys n i ≡ not (single (plain d) xs s (rowAt xs i))
-    sharing i h = shares-single d n s codes (rows .size) (rows .few) (rows .base) i h m
+    sharing i h = shares-single d n s ws (rows .size) (rows .few) (rows .base) i h m
 
     none-key : length sharers ≡ 0 → key (plain d) xs s ≡ true
     unfolding key

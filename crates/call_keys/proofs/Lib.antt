@@ -1,6 +1,4 @@
 -- Why the calls on keys keep what they promise.
-pub mod Follows
-pub mod Neighbours
 pub mod Listing
 pub mod Bare
 pub mod Outcomes

@@ -1,96 +1,25 @@
-// Which codes fix which, from an archive: the smallest keys, and whether a set fixes a dimension.
-// Both calls answer for whatever bytes they are lent. The one that writes looks at the output last, and leaves every byte of it alone when it stops.
+// The smallest keys of an archive.
+// The call answers for whatever bytes it is lent, looks at the output last, and leaves every byte of it alone when it stops.
 use archive_entries::ArchiveRead;
 use call_answers::Written;
 ghost use mathlib.Core.Path.{_≡_};
-ghost use Prim.Native.Nat.{_*_, _^_, _≤_, _<_};
+ghost use Prim.Native.Nat.{_^_, _≤_, _<_};
 ghost use lib.ListN.{length, take};
 ghost use Rattle.lists.specs.Lists.{some};
 ghost use Rattle.lattice.specs.Sets.{holds};
-ghost use Rattle.cube.specs.Codes.{agree, plain};
-ghost use Rattle.cube.specs.Keys.{fixes as fixing};
-ghost use Rattle.rows_order.specs.Index.{Valid};
 ghost use Rattle.archive_entries.specs.Reading.{readArchive};
-ghost use Rattle.archive_judge.specs.Sharing.{Shares};
-ghost use Rattle.rows.specs.Rows.{cut, rowAt};
+ghost use Rattle.archive_read.specs.Sharing.{Shares};
 ghost use Rattle.archive_cells.specs.ListBytes.{listBytes};
 ghost use Rattle.call_answers.specs.Answers.{bytes, Answered};
 ghost use Rattle.call_ask.specs.Accepts.{Accepts};
-ghost use Rattle.call_keys.specs.Laid.{Laid, follows};
 ghost use Rattle.call_keys.specs.Bare.{bare, leastBare};
-ghost use Rattle.call_keys.specs.Calls.{listsKeys, tellsFixed};
+ghost use Rattle.call_keys.specs.Calls.{listsKeys};
 
 // What the question whether a set fixes a dimension answers: yes, no, or a stop's number.
 pub enum Fixed {
     Yes,
     No,
     Stop(u32),
-}
-
-// Whether two rows agree on a set.
-fn agrees(mine: &[u32], other: &[u32], set: u32) -> bool
-    requires { ⌜ length (now mine) ≡ length (now other) ⌝ }
-    ensures { λ r. ⌜ r ≡ agree set (now (mine .entry)) (now (other .entry)) ⌝ }
-{
-    match rows::compare(mine, other, set) {
-        rows::Order::Before(_) => false,
-        rows::Order::Equal => true,
-        rows::Order::After(_) => false,
-    }
-}
-
-// Whether rows i and j agree on a set of `fixed` dimensions if they agree on a set.
-fn pair_fixes(
-    codes: &[u32],
-    rows: usize,
-    dims: usize,
-    set: u32,
-    fixed: u32,
-    i: usize,
-    j: usize,
-) -> bool
-    requires { ⌜ (rows * dims ≡ length (now codes)) × (i < rows) × (j < rows) ⌝ }
-    ensures { λ r. ⌜ r ≡ follows set fixed (rowAt (cut dims rows (now (codes .entry))) i) (rowAt (cut dims rows (now (codes .entry))) j) ⌝ }
-{
-    let mine = rows::row_of(codes, rows, dims, i);
-    let other = rows::row_of(codes, rows, dims, j);
-    if !agrees(mine, other, set) {
-        return true;
-    }
-    agrees(mine, other, fixed)
-}
-
-// Whether rows that agree on a set agree on a set of `fixed` dimensions. In the order of the set, which the index takes, rows that agree on it stand side by side,
-// so neighbours tell.
-fn neighbours_fix(
-    codes: &[u32],
-    rows: usize,
-    dims: usize,
-    set: u32,
-    fixed: u32,
-    index: &mut [u32],
-) -> bool
-    requires { ⌜ (rows * dims ≡ length (now codes)) × (length (now index) ≡ rows) × (rows ≤ 1024) × Valid dims (cut dims rows (now codes)) ⌝ }
-    ensures { λ r. ⌜ r ≡ fixing (plain dims) (cut dims rows (now (codes .entry))) set fixed ⌝ }
-{
-    rows_order::order_rows(codes, rows, dims, set, index);
-    for k in 1..rows {
-        let i = index[k - 1] as usize;
-        let j = index[k] as usize;
-        if !pair_fixes(codes, rows, dims, set, fixed, i, j) {
-            return false;
-        }
-    }
-    true
-}
-
-// Whether rows that agree on a set agree on a set of `fixed` dimensions.
-fn rows_fix(codes: &[u32], rows: usize, dims: usize, set: u32, fixed: u32) -> bool
-    requires { ⌜ Laid dims rows (now codes) ⌝ }
-    ensures { λ r. ⌜ r ≡ fixing (plain dims) (cut dims rows (now (codes .entry))) set fixed ⌝ }
-{
-    let mut index = [0u32; 1024];
-    neighbours_fix(codes, rows, dims, set, fixed, &mut index[..rows])
 }
 
 // Whether no cell of a set is shared.
@@ -164,36 +93,27 @@ fn fit_bare(out: &mut [u8], dims: usize, used: &[usize]) -> Written
 // Lists the smallest keys of an archive that was accepted: the smallest sets of which its base rows share no cell.
 fn keys_read(
     s: &[u8],
-    codes: &[u32],
-    sums: &[i64],
-    counts: &[u32],
+    rows: &[u32],
     dims: u32,
     bases: u32,
     cells: u32,
     used: &[usize],
     out: &mut [u8],
 ) -> Written
-    requires { ⌜ Accepts (now s) (now codes) (now sums) (now counts) dims bases cells × Shares (readArchive (now s)) (now codes) (now used) ⌝ }
+    requires { ⌜ Accepts (now s) (now rows) dims bases cells × Shares (readArchive (now s)) (now rows) (now used) ⌝ }
     ensures { λ r. ⌜ Answered (listsKeys (now (s .entry))) (now (out .entry)) (now (out .exit)) r ⌝ }
 {
     fit_bare(out, dims as usize, used)
 }
 
 // Reads an archive into the arrays that are lent, and lists its smallest keys.
-fn keys_in(
-    s: &[u8],
-    codes: &mut [u32; 8192],
-    sums: &mut [i64; 1024],
-    counts: &mut [u32; 1024],
-    used: &mut [usize; 256],
-    out: &mut [u8],
-) -> Written
+fn keys_in(s: &[u8], rows: &mut [u32; 11264], used: &mut [usize; 256], out: &mut [u8]) -> Written
     ensures { λ r. ⌜ Answered (listsKeys (now (s .entry))) (now (out .entry)) (now (out .exit)) r ⌝ }
 {
-    match archive_judge::read_sharing(s, codes, sums, counts, used) {
+    match archive_read::read_sharing(s, rows, used) {
         ArchiveRead::Stop(n) => Written::Stop(n),
         ArchiveRead::Entries { dims, bases, cells } => {
-            keys_read(s, codes, sums, counts, dims, bases, cells, used, out)
+            keys_read(s, rows, dims, bases, cells, used, out)
         }
     }
 }
@@ -202,73 +122,7 @@ fn keys_in(
 pub fn smallest_keys(archive: &[u8], out: &mut [u8]) -> Written
     ensures { λ r. ⌜ Answered (listsKeys (now (archive .entry))) (now (out .entry)) (now (out .exit)) r ⌝ }
 {
-    let mut codes = [0u32; 8192];
-    let mut sums = [0i64; 1024];
-    let mut counts = [0u32; 1024];
+    let mut rows = [0u32; 11264];
     let mut used = [0usize; 256];
-    keys_in(archive, &mut codes, &mut sums, &mut counts, &mut used, out)
-}
-
-// Tells whether a set fixes a dimension in an archive that was accepted.
-fn fixes_read(
-    s: &[u8],
-    codes: &[u32],
-    sums: &[i64],
-    counts: &[u32],
-    dims: u32,
-    bases: u32,
-    cells: u32,
-    set: u32,
-    dimension: u32,
-) -> Fixed
-    requires { ⌜ Accepts (now s) (now codes) (now sums) (now counts) dims bases cells ⌝ }
-    ensures { λ r. ⌜ r ≡ tellsFixed (now (s .entry)) set dimension ⌝ }
-{
-    if lattice::sets_of(dims) <= set {
-        return Fixed::Stop(14);
-    }
-    if dimension == 0 {
-        return Fixed::Stop(16);
-    }
-    if dims < dimension {
-        return Fixed::Stop(16);
-    }
-    let d = dims as usize;
-    let n = bases as usize;
-    let size = n * d;
-    let fixed = lattice::sets_of(dimension - 1);
-    if rows_fix(&codes[..size], n, d, set, fixed) {
-        Fixed::Yes
-    } else {
-        Fixed::No
-    }
-}
-
-// Reads an archive into the arrays that are lent, and tells whether a set fixes a dimension.
-fn fixes_in(
-    s: &[u8],
-    codes: &mut [u32; 8192],
-    sums: &mut [i64; 1024],
-    counts: &mut [u32; 1024],
-    set: u32,
-    dimension: u32,
-) -> Fixed
-    ensures { λ r. ⌜ r ≡ tellsFixed (now (s .entry)) set dimension ⌝ }
-{
-    match archive_judge::read_required(s, codes, sums, counts) {
-        ArchiveRead::Stop(n) => Fixed::Stop(n),
-        ArchiveRead::Entries { dims, bases, cells } => {
-            fixes_read(s, codes, sums, counts, dims, bases, cells, set, dimension)
-        }
-    }
-}
-
-// Whether a set fixes a dimension, counted from 1: base rows that agree on the set agree on the dimension too.
-pub fn fixes(archive: &[u8], set: u32, dimension: u32) -> Fixed
-    ensures { λ r. ⌜ r ≡ tellsFixed (now (archive .entry)) set dimension ⌝ }
-{
-    let mut codes = [0u32; 8192];
-    let mut sums = [0i64; 1024];
-    let mut counts = [0u32; 1024];
-    fixes_in(archive, &mut codes, &mut sums, &mut counts, set, dimension)
+    keys_in(archive, &mut rows, &mut used, out)
 }

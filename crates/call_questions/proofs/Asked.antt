@@ -1,11 +1,10 @@
--- The answer to a question to base rows in flat lists, by the first row that falls in the cell.
+-- The answer to a question to base rows in a flat list, by the first row that falls in the cell.
 use mathlib.Core.Path.{_≡_, sym, ap, _∙_}
 use mathlib.Core.Bool.{Bool, true, false}
 use mathlib.Core.List.{List}
 use Prim.Native.Nat.{ℕ, _+_, _*_, _^_, _≤_, _<_}
 use native.Mathlib.Omega.{arith}
-use lib.IntN.{ℤ, pos}
-use lib.ListN.{length, getD}
+use lib.ListN.{length}
 use Rattle.lists.specs.Lists.{_∈_}
 use Rattle.lists.specs.Search.{Between}
 use Rattle.fields.specs.Words.{wordAt}
@@ -13,10 +12,10 @@ use Rattle.fields.specs.Twos.{sumAt}
 use Rattle.cube.specs.declared.Total.{Total}
 use Rattle.cube.specs.Measure.{Row, sums as measure, codesOf}
 use Rattle.cube.specs.Codes.{falls, set-of, plain}
-use Rattle.cube.specs.Condensed.{found, single, normals, Base, lookup, ours}
-use Rattle.rows.specs.Rows.{cut, rowAt, rowsOf}
+use Rattle.cube.specs.Condensed.{single, normals, Base, lookup, ours}
+use Rattle.rows.specs.Rows.{cut, rowAt, rowsOf, rowTotal}
 use Rattle.rows.proofs.Rows.{cut-length, rows-codes}
-use Rattle.rows.proofs.Flat.{rows-length, rows-at}
+use Rattle.rows.proofs.Flat.{rows-length}
 use Rattle.archive_entries.proofs.Limits.{normals-few}
 use Rattle.rows_ready.specs.Ready.{Ready}
 use Rattle.rows_ready.proofs.Ready.{ready-base}
@@ -32,15 +31,15 @@ pub record Entry (s : List ℕ) (place d number : ℕ) (a : Look) : Type 0 where
   pub fits : number < 2 ^ 32
   pub answers : Cell (sumAt s (place + 4 * d)) (wordAt s (place + 4 * d + 8)) number ≡ a
 
-module _ {d n : ℕ} {codes : List ℕ} {sums : List ℤ} {counts : List ℕ} (ready : Ready d n codes sums counts) (c : List ℕ) where
+module _ {d n : ℕ} {ws : List ℕ} (ready : Ready d n ws) (c : List ℕ) where
   abbrev table : List (Row Total)
-  table = rowsOf d n codes sums counts
+  table = rowsOf d n ws
 
   abbrev pub asked : Look
   asked = looked (lookup (plain d) c (ours (plain d) measure table))
 
-  same-codes : codesOf table ≡ cut d n codes
-  same-codes = rows-codes d n codes sums counts
+  same-codes : codesOf table ≡ cut d n ws
+  same-codes = rows-codes d n ws
 
   base : Base (plain d) (codesOf table)
   base = rw same-codes (ready-base ready)
@@ -50,12 +49,12 @@ module _ {d n : ℕ} {codes : List ℕ} {sums : List ℤ} {counts : List ℕ} (r
   asked-room held = held-room held base (ready .summable)
 
   -- no row falls in the cell
-  pub asked-none : First c (cut d n codes) n → looked (rowless d n c) ≡ asked
+  pub asked-none : First c (cut d n ws) n → looked (rowless d n c) ≡ asked
   asked-none f =
-      ap (λ (k : ℕ). looked (rowless d k c)) (sym (rows-length d n codes sums counts))
+      ap (λ (k : ℕ). looked (rowless d k c)) (sym (rows-length d n ws))
       ∙ ap looked (answer-none d table base c (rw (same-codes, rows-length) f))
 
-  module _ (i : ℕ) (h : i < n) (f : First c (cut d n codes) i) where
+  module _ (i : ℕ) (h : i < n) (f : First c (cut d n ws) i) where
     inside : i < length table
     inside = rw rows-length h
 
@@ -63,13 +62,12 @@ module _ {d n : ℕ} {codes : List ℕ} {sums : List ℤ} {counts : List ℕ} (r
     falls-here = rw same-codes (f .here (rw cut-length h))
 
     abbrev alone : Bool
-    alone = single (plain d) (cut d n codes) (set-of c) (rowAt (cut d n codes) i)
+    alone = single (plain d) (cut d n ws) (set-of c) (rowAt (cut d n ws) i)
 
     -- one row does
-    pub asked-row : alone ≡ true → Cell (getD sums i (pos 0)) (getD counts i 0) i ≡ asked
-    asked-row e =
-        sym (ap looked (answer-row d table base c i inside falls-here (rw same-codes e)
-        ∙ ap (λ (r : Row Total). found i (r .total)) (rows-at d n i codes sums counts h)))
+    pub asked-row : alone ≡ true → Cell (rowTotal d n ws i .sum) (rowTotal d n ws i .count) i ≡ asked
+    unfolding rowTotal
+    asked-row e = sym (ap looked (answer-row d table base c i inside falls-here (rw same-codes e)))
 
     -- two or more do
     module _ {s : List ℕ} {at m k : ℕ} (held : NormalsAt s at m d table) (e : length c ≡ d) (g : Between (entryBefore s at c) m k k) (p : alone ≡ false) where
@@ -84,5 +82,5 @@ module _ {d n : ℕ} {codes : List ℕ} {sums : List ℤ} {counts : List ℕ} (r
         within = held-within held base (ready .summable) k here;
         fits = omega (arith, here, held-count held, normals-few d table (ready .dims) (rw rows-length (ready .few)), ready .few);
         answers = sym (ap looked (answer-normal d table base c held (ready .summable) e g normal)
-            ∙ ap (λ (j : ℕ). Cell (sumAt s (at + k * (4 * d + 12) + 4 * d)) (wordAt s (at + k * (4 * d + 12) + 4 * d + 8)) (j + k)) (rows-length d n codes sums counts));
+            ∙ ap (λ (j : ℕ). Cell (sumAt s (at + k * (4 * d + 12) + 4 * d)) (wordAt s (at + k * (4 * d + 12) + 4 * d + 8)) (j + k)) (rows-length d n ws));
       }

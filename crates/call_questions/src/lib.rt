@@ -8,7 +8,7 @@ ghost use Rattle.fields.specs.Words.{wordsAt};
 ghost use Rattle.cube.specs.Measure.{sums as measure};
 ghost use Rattle.cube.specs.Codes.{falls, set-of, keys, plain};
 ghost use Rattle.cube.specs.Condensed.{ours, lookup};
-ghost use Rattle.rows.specs.Rows.{cut, rowsOf};
+ghost use Rattle.rows.specs.Rows.{width, cut, rowsOf};
 ghost use Rattle.rows_ready.specs.Ready.{Ready};
 ghost use Rattle.call_questions.specs.Questions.{asks, looked, rowless, First, entryBefore, NormalsAt};
 
@@ -68,16 +68,16 @@ fn set_of(cell: &[u32]) -> u32
 }
 
 // The first row that falls in a cell, or how many rows there are.
-fn first_row(codes: &[u32], rows: usize, dims: usize, cell: &[u32]) -> usize
-    requires { ⌜ (rows * dims ≡ length (now codes)) × (length (now cell) ≡ dims) ⌝ }
-    ensures { λ r. ⌜ First (now (cell .entry)) (cut dims rows (now (codes .entry))) r ⌝ }
+fn first_row(rows: &[u32], n: usize, dims: usize, cell: &[u32]) -> usize
+    requires { ⌜ (n * width dims ≡ length (now rows)) × (length (now cell) ≡ dims) ⌝ }
+    ensures { λ r. ⌜ First (now (cell .entry)) (cut dims n (now (rows .entry))) r ⌝ }
 {
-    for i in 0..rows {
-        if falls_in(cell, rows::row_of(codes, rows, dims, i)) {
+    for i in 0..n {
+        if falls_in(cell, rows::row_of(rows, n, dims, i)) {
             return i;
         }
     }
-    rows
+    n
 }
 
 // Whether a cell is listed before another: fewer dimensions first, then the smaller set number, then the codes; 255 is the set of all dimensions.
@@ -133,11 +133,11 @@ fn find_cell(s: &[u8], at: usize, n: usize, cell: &[u32]) -> usize
 }
 
 // The answer for a cell that no row falls in: an empty table has all ALL, and its entry is the first.
-fn without_rows(rows: usize, cell: &[u32]) -> Look
+fn without_rows(n: usize, cell: &[u32]) -> Look
     requires { ⌜ length (now cell) ≤ 8 ⌝ }
-    ensures { λ r. ⌜ r ≡ looked (rowless (length (now (cell .entry))) rows (now (cell .entry))) ⌝ }
+    ensures { λ r. ⌜ r ≡ looked (rowless (length (now (cell .entry))) n (now (cell .entry))) ⌝ }
 {
-    if rows != 0 {
+    if n != 0 {
         return Look::NoRecord;
     }
     if set_of(cell) != 0 {
@@ -149,36 +149,35 @@ fn without_rows(rows: usize, cell: &[u32]) -> Look
     Look::Cell { sum, count, entry }
 }
 
-// The entry that stands for a cell: that of the one row that falls in it, or else the normal entry at the cell. The n normal entries stand in the bytes s from a place on.
+// The entry that stands for a cell: that of the one row that falls in it, or else the normal entry at the cell. The m normal entries stand in the bytes s from a place on.
 pub fn answer(
     s: &[u8],
     at: usize,
+    m: usize,
+    rows: &[u32],
     n: usize,
-    codes: &[u32],
-    sums: &[i64],
-    counts: &[u32],
-    rows: usize,
     dims: usize,
     cell: &[u32],
 ) -> Look
-    requires { ⌜ Ready dims rows (now codes) (now sums) (now counts) × (length (now cell) ≡ dims) ⌝ }
-    requires { ⌜ NormalsAt (now s) at n dims (rowsOf dims rows (now codes) (now sums) (now counts)) ⌝ }
-    ensures { λ r. ⌜ r ≡ looked (lookup (plain dims) (now (cell .entry)) (ours (plain dims) measure (rowsOf dims rows (now (codes .entry)) (now (sums .entry)) (now (counts .entry))))) ⌝ }
+    requires { ⌜ Ready dims n (now rows) × (length (now cell) ≡ dims) ⌝ }
+    requires { ⌜ NormalsAt (now s) at m dims (rowsOf dims n (now rows)) ⌝ }
+    ensures { λ r. ⌜ r ≡ looked (lookup (plain dims) (now (cell .entry)) (ours (plain dims) measure (rowsOf dims n (now (rows .entry))))) ⌝ }
 {
-    let i = first_row(codes, rows, dims, cell);
-    if i == rows {
-        return without_rows(rows, cell);
+    let i = first_row(rows, n, dims, cell);
+    if i == n {
+        return without_rows(n, cell);
     }
-    if rows::is_single(codes, rows, dims, i, set_of(cell)) {
-        let sum = sums[i];
-        let count = counts[i];
+    if rows::is_single(rows, n, dims, i, set_of(cell)) {
+        let total = rows::total_at(rows, n, dims, i);
+        let sum = total.sum;
+        let count = total.count;
         let entry = i as u32;
         return Look::Cell { sum, count, entry };
     }
-    let k = find_cell(s, at, n, cell);
+    let k = find_cell(s, at, m, cell);
     let place = at + k * (4 * dims + 12) + 4 * dims;
     let sum = fields::sum_at(s, place);
     let count = fields::word_at(s, place + 8);
-    let entry = (rows + k) as u32;
+    let entry = (n + k) as u32;
     Look::Cell { sum, count, entry }
 }

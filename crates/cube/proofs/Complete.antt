@@ -13,7 +13,7 @@ use Rattle.lattice.specs.Sets.{sets}
 use Rattle.lattice.proofs.Sets.{sets-rising}
 use Rattle.cube.specs.Measure.{Measure, Row, codesOf}
 use Rattle.cube.specs.Lattice.{Lattice, Laws}
-use Rattle.cube.specs.Codes.{ALL, set-of, plain}
+use Rattle.cube.specs.Codes.{set-of, plain}
 use Rattle.cube.specs.Cube.{Exists, cuboid, existing, total, filled, cells, complete}
 use Rattle.cube.specs.Table.{Table, listed-before}
 use Rattle.cube.proofs.Codes.{plain-laws, coded-length, length-cell}

@@ -56,7 +56,7 @@ pub extern "C" fn cube_look_up(
     ensures { λ _. ⌜ now (sum .exit) ≡ sumLeft (looksUp (now (archive .entry)) (now (question .entry))) (now (sum .entry)) ⌝ }
     ensures { λ _. ⌜ (now (count .exit) ≡ countLeft (looksUp (now (archive .entry)) (now (question .entry))) (now (count .entry))) × (now (entry .exit) ≡ entryLeft (looksUp (now (archive .entry)) (now (question .entry))) (now (entry .entry))) ⌝ }
 {
-    match call_ask::look_up(archive, question) {
+    match call_look::look_up(archive, question) {
         Found::Cell {
             sum: s,
             count: n,
@@ -104,7 +104,7 @@ pub extern "C" fn cube_smallest_keys(archive: &[u8], out: &mut [u8]) -> u64
 pub extern "C" fn cube_fixes(archive: &[u8], set: u32, dimension: u32) -> u64
     ensures { λ r. ⌜ r ≡ fixedNumber (tellsFixed (now (archive .entry)) set dimension) ⌝ }
 {
-    match call_keys::fixes(archive, set, dimension) {
+    match call_fixes::fixes(archive, set, dimension) {
         Fixed::Yes => 1,
         Fixed::No => 0,
         Fixed::Stop(n) => 0x8000_0000_0000_0000 + n as u64,

@@ -1,6 +1,6 @@
 -- A word stands at a place just if its four bytes make it.
 use mathlib.Core.Path.{_≡_, refl, sym, ap, _∙_}
-use mathlib.Core.Bool.{Bool, true, false, _&&_, false≢true}
+use mathlib.Core.Bool.{Bool, true, _&&_}
 use mathlib.Core.List.{List, [], _∷_}
 use Prim.Native.Nat.{ℕ, _+_, _/_, _%_, _^_, _≤_, _<_}
 use native.Mathlib.Nat.{add-zero}
@@ -12,7 +12,7 @@ use lib.Seq.{getD-drop, drop-drop}
 use borrow.Author.Tests.{eq-eqb, eqb-true, eqb-false}
 use Rattle.lists.proofs.Tests.{cases, truth, both, refuted}
 use Rattle.fields.specs.Words.{word, wordBytes}
-use Rattle.fields.specs.Twos.{bitsOf, sumBytes}
+use Rattle.fields.specs.Twos.{lowOf, highOf, sumBytes}
 use Rattle.fields.specs.Opening.{startsWith}
 use Rattle.fields.specs.OpeningLaws.{startsWith-append}
 
@@ -55,7 +55,7 @@ starts-word s at w h ha hb hc hd hw =
 
 -- a sum is two words
 pub starts-sum : (s : List ℕ) (at : ℕ) (z : ℤ)
-    → startsWith (drop at s) (sumBytes z) ≡ startsWith (drop at s) (wordBytes (bitsOf 64 z % 2 ^ 32)) && startsWith (drop (at + 4) s) (wordBytes (bitsOf 64 z / 2 ^ 32))
+    → startsWith (drop at s) (sumBytes z) ≡ startsWith (drop at s) (wordBytes (lowOf z)) && startsWith (drop (at + 4) s) (wordBytes (highOf z))
 starts-sum s at z =
-    startsWith-append (drop at s) (wordBytes (bitsOf 64 z % 2 ^ 32)) (wordBytes (bitsOf 64 z / 2 ^ 32))
-    ∙ ap (λ (l : List ℕ). startsWith (drop at s) (wordBytes (bitsOf 64 z % 2 ^ 32)) && startsWith l (wordBytes (bitsOf 64 z / 2 ^ 32))) (drop-drop 4 at s)
+    startsWith-append (drop at s) (wordBytes (lowOf z)) (wordBytes (highOf z))
+    ∙ ap (λ (l : List ℕ). startsWith (drop at s) (wordBytes (lowOf z)) && startsWith l (wordBytes (highOf z))) (drop-drop 4 at s)

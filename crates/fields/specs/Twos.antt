@@ -2,6 +2,8 @@
 --
 --   signedOf k n     the integer that k bits stand for
 --   bitsOf k z       the k bits of an integer
+--   sumOf low high   the sum of two words, the low one and the high one
+--   lowOf z, highOf z  the two words of a sum
 --   sumAt s at       the sum at byte offset at of s: two words, the low one first
 --   sumBytes z       the eight bytes of a sum
 --   readingAt s at   the reading at byte offset at of s: one word
@@ -20,11 +22,20 @@ abbrev pub bitsOf : ℕ → ℤ → ℕ
 bitsOf k (pos n) = n
 bitsOf k (negsuc n) = 2 ^ k - suc n
 
+abbrev pub sumOf : ℕ → ℕ → ℤ
+sumOf low high = signedOf 64 (low + 2 ^ 32 * high)
+
+abbrev pub lowOf : ℤ → ℕ
+lowOf z = bitsOf 64 z % 2 ^ 32
+
+abbrev pub highOf : ℤ → ℕ
+highOf z = bitsOf 64 z / 2 ^ 32
+
 unfoldable pub sumAt : List ℕ → ℕ → ℤ
-sumAt s at = signedOf 64 (wordAt s at + 2 ^ 32 * wordAt s (at + 4))
+sumAt s at = sumOf (wordAt s at) (wordAt s (at + 4))
 
 abbrev pub sumBytes : ℤ → List ℕ
-sumBytes z = wordBytes (bitsOf 64 z % 2 ^ 32) ++ wordBytes (bitsOf 64 z / 2 ^ 32)
+sumBytes z = wordBytes (lowOf z) ++ wordBytes (highOf z)
 
 unfoldable pub readingAt : List ℕ → ℕ → ℤ
 readingAt s at = signedOf 32 (wordAt s at)

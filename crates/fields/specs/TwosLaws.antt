@@ -1,14 +1,14 @@
 -- Laws of two's complement, over the width.
 use mathlib.Core.Path.{_≡_, refl, ap, _∙_}
 use mathlib.Core.Bool.{Bool, true, false, cond}
-use Prim.Native.Nat.{ℕ, suc, _-_, _^_, _≤_, _<_}
+use Prim.Native.Nat.{ℕ, suc, _+_, _-_, _*_, _^_, _≤_, _<_}
 use native.Mathlib.Omega.{arith}
 use lib.Dec.{ltb}
 use lib.IntN.{ℤ, pos, negsuc}
 use lib.Pow.{pow-pos}
 use lib.Signed.{mag}
 use borrow.Author.Tests.{lt-ltb, le-ltb, ltb-true, ltb-false}
-use Rattle.fields.specs.Twos.{signedOf, bitsOf}
+use Rattle.fields.specs.Twos.{signedOf, bitsOf, sumOf, lowOf, highOf}
 
 -- bits of the lower half stand for themselves
 pub signed-low : (k n : ℕ) → n < 2 ^ k → signedOf (suc k) n ≡ pos n
@@ -27,6 +27,12 @@ bits-lt k (negsuc n) h = omega arith
 pub signed-bits : (k : ℕ) (z : ℤ) → mag z < 2 ^ k → signedOf (suc k) (bitsOf (suc k) z) ≡ z
 signed-bits k (pos n) h = signed-low k n h
 signed-bits k (negsuc n) h = signed-high k (2 ^ suc k - suc n) (omega arith) ∙ ap negsuc (omega arith)
+
+-- so do the two words of a sum
+pub sum-words : (z : ℤ) → mag z < 2 ^ 63 → sumOf (lowOf z) (highOf z) ≡ z
+sum-words z h =
+    let all : lowOf z + 2 ^ 32 * highOf z ≡ bitsOf 64 z = omega arith in
+    ap (signedOf 64) all ∙ signed-bits 63 z h
 
 -- bits are those of the integer that they stand for
 pub bits-signed : (k n : ℕ) → n < 2 ^ k → bitsOf k (signedOf k n) ≡ n

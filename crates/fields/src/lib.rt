@@ -4,7 +4,7 @@ ghost use mathlib.Core.Path.{_≡_};
 ghost use Prim.Native.Nat.{_+_, _*_, _≤_, _<_};
 ghost use lib.ListN.{length, drop};
 ghost use Rattle.fields.specs.Words.{wordAt, wordsAt, wordBytes, wordsBytes};
-ghost use Rattle.fields.specs.Twos.{signedOf, bitsOf, sumAt, sumBytes, readingAt};
+ghost use Rattle.fields.specs.Twos.{signedOf, bitsOf, sumOf, lowOf, highOf, sumAt, sumBytes, readingAt};
 ghost use Rattle.fields.specs.Opening.{startsWith};
 ghost use Rattle.fields.specs.Written.{Wrote};
 
@@ -95,14 +95,33 @@ fn unsigned(z: i64) -> u64
     }
 }
 
+// The sum of two words.
+pub fn sum_of(low: u32, high: u32) -> i64
+    ensures { λ r. ⌜ r ≡ sumOf low high ⌝ }
+{
+    signed(low as u64 + 0x1_0000_0000 * high as u64)
+}
+
+// The low word of a sum.
+pub fn low_of(sum: i64) -> u32
+    ensures { λ r. ⌜ r ≡ lowOf sum ⌝ }
+{
+    (unsigned(sum) % 0x1_0000_0000) as u32
+}
+
+// The high word of a sum.
+pub fn high_of(sum: i64) -> u32
+    ensures { λ r. ⌜ r ≡ highOf sum ⌝ }
+{
+    (unsigned(sum) / 0x1_0000_0000) as u32
+}
+
 // The sum at a byte offset.
 pub fn sum_at(s: &[u8], at: usize) -> i64
     requires { ⌜ at + 8 ≤ length (now s) ⌝ }
     ensures { λ r. ⌜ r ≡ sumAt (now (s .entry)) at ⌝ }
 {
-    let low = word_at(s, at) as u64;
-    let high = word_at(s, at + 4) as u64;
-    signed(low + 0x1_0000_0000 * high)
+    sum_of(word_at(s, at), word_at(s, at + 4))
 }
 
 // Writes a sum over the front of out.
@@ -110,9 +129,8 @@ pub fn put_sum(out: &mut [u8], sum: i64) -> usize
     requires { ⌜ 8 ≤ length (now out) ⌝ }
     ensures { λ r. ⌜ Wrote (sumBytes sum) (now (out .entry)) (now (out .exit)) r ⌝ }
 {
-    let n = unsigned(sum);
-    let at = put_word(out, (n % 0x1_0000_0000) as u32);
-    at + put_word(&mut out[at..], (n / 0x1_0000_0000) as u32)
+    let at = put_word(out, low_of(sum));
+    at + put_word(&mut out[at..], high_of(sum))
 }
 
 // Whether a sum stands at a byte offset.
@@ -120,9 +138,8 @@ pub fn sum_is(s: &[u8], at: usize, sum: i64) -> bool
     requires { ⌜ at + 8 ≤ length (now s) ⌝ }
     ensures { λ r. ⌜ r ≡ startsWith (drop at (now (s .entry))) (sumBytes sum) ⌝ }
 {
-    let n = unsigned(sum);
-    if word_is(s, at, (n % 0x1_0000_0000) as u32) {
-        return word_is(s, at + 4, (n / 0x1_0000_0000) as u32);
+    if word_is(s, at, low_of(sum)) {
+        return word_is(s, at + 4, high_of(sum));
     }
     false
 }

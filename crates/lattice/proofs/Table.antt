@@ -11,8 +11,7 @@ use borrow.Author.Tests.{eqb-true, ltb-true}
 use Rattle.lists.specs.Lists.{every, some, below}
 use Rattle.lists.specs.Order.{Rising}
 use Rattle.lists.proofs.Tests.{both, every-in, some-in}
-use Rattle.lists.proofs.Members.{below-of, at-in, in-at}
-use Rattle.lists.proofs.Places.{pairwise-at}
+use Rattle.lists.proofs.Members.{below-of, at-in}
 use Rattle.lists.proofs.Sorted.{rising-one, rising-cons, rising-unique}
 use Rattle.lattice.specs.Sets.{before, sets}
 use Rattle.lattice.proofs.Sets.{by-lattice, sets-in, sets-of, sets-rising}
@@ -50,10 +49,3 @@ all-sets = refl
 
 pub set-below : (k : ℕ) → k < 256 → getD (sets 8) k 0 < 256
 set-below k h = sets-in 8 (at-in 0 (sets 8) k (rw all-sets h))
-
--- the set at an earlier place comes before that at a later place, and each set has a place
-pub set-rises : (k j : ℕ) → k < j → j < 256 → before (getD (sets 8) k 0) (getD (sets 8) j 0) ≡ true
-set-rises k j h l = pairwise-at 0 (λ s t. before s t ≡ true) (sets 8) k j (sets-rising 8) h (rw all-sets l)
-
-pub set-place : (s : ℕ) → s < 256 → (k : ℕ) × (k < 256) × (getD (sets 8) k 0 ≡ s)
-set-place s h = let r = in-at 0 (sets-of 8 h) in (r .0, rw all-sets at (r .1), r .2)

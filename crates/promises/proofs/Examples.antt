@@ -16,9 +16,9 @@ use Rattle.cube.specs.Measure.{Row}
 use Rattle.cube.specs.Bounds.{canMake}
 use Rattle.cube.specs.Codes.{ALL}
 use Rattle.cube.specs.Cube.{cuboid, existing, total, grouped, cells as cellsOf}
-use Rattle.cube.specs.Condensed.{Entry, Answer, no-record, found, proper, single, listed, shared, common, normals, reach}
+use Rattle.cube.specs.Condensed.{Entry, proper, single, listed, shared, common, normals, reach}
 use Rattle.cube.specs.Table.{folded}
-use Rattle.cube.proofs.Examples.{Said, Example, examples}
+use Rattle.cube.proofs.Examples.{Example, examples}
 use Rattle.table.specs.Layout.{tableBytes}
 use Rattle.table.specs.Reading.{row, body, readTable}
 use Rattle.archive_entries.specs.Layout.{Held, cellBytes, baseBytes, section, layout, required, archiveBytes}

@@ -1,37 +1,68 @@
-// Rows of codes in a flat slice: row i of `dims` codes starts at i * dims.
+// Rows in one flat slice of words: row i of `dims` codes starts at i * (dims + 3); its codes, the low and the high word of its sum, its count.
+use cube::Total;
 ghost use mathlib.Core.Path.{_≡_};
-ghost use mathlib.Core.List.{[], _∷_, _++_};
-ghost use Prim.Native.Nat.{_+_, _*_, _≤_, _<_};
-ghost use lib.ListN.{length};
-ghost use Rattle.fields.specs.Words.{wordsAt};
+ghost use Prim.Native.Nat.{_*_, _<_};
+ghost use lib.ListN.{length, take, drop};
 ghost use Rattle.lists.specs.Lists.{Distinct};
 ghost use Rattle.cube.specs.Codes.{plain};
 ghost use Rattle.cube.specs.Condensed.{single};
-ghost use Rattle.rows.specs.Rows.{cut, rowAt, rowsOf};
+ghost use Rattle.rows.specs.Rows.{width, rowOf, cut, rowAt, rowTotal};
 ghost use Rattle.rows.specs.Compare.{compared};
 
-// The codes of a row.
-pub fn row_of(codes: &[u32], rows: usize, dims: usize, row: usize) -> &[u32]
-    requires { ⌜ (rows * dims ≡ length (now codes)) × (row < rows) ⌝ }
-    ensures { λ r. ⌜ (now r ≡ rowAt (cut dims rows (now (codes .entry))) row) × (length (now r) ≡ dims) ⌝ }
+// The words of a row.
+pub fn words_of(rows: &[u32], n: usize, dims: usize, row: usize) -> &[u32]
+    requires { ⌜ (n * width dims ≡ length (now rows)) × (row < n) ⌝ }
+    ensures { λ r. ⌜ (now r ≡ take (width dims) (drop (row * width dims) (now (rows .entry)))) × (length (now r) ≡ width dims) ⌝ }
 {
-    let from = row * dims;
-    let to = from + dims;
-    &codes[from..to]
+    let width = dims + 3;
+    let from = row * width;
+    let to = from + width;
+    &rows[from..to]
+}
+
+// The codes of a row.
+pub fn row_of(rows: &[u32], n: usize, dims: usize, row: usize) -> &[u32]
+    requires { ⌜ (n * width dims ≡ length (now rows)) × (row < n) ⌝ }
+    ensures { λ r. ⌜ (now r ≡ rowAt (cut dims n (now (rows .entry))) row) × (length (now r) ≡ dims) ⌝ }
+{
+    let words = words_of(rows, n, dims, row);
+    &words[..dims]
+}
+
+// The total of a row.
+pub fn total_at(rows: &[u32], n: usize, dims: usize, row: usize) -> Total
+    requires { ⌜ (n * width dims ≡ length (now rows)) × (row < n) ⌝ }
+    ensures { λ r. ⌜ r ≡ rowTotal dims n (now (rows .entry)) row ⌝ }
+{
+    let words = words_of(rows, n, dims, row);
+    let sum = fields::sum_of(words[dims], words[dims + 1]);
+    let count = words[dims + 2];
+    Total { sum, count }
+}
+
+// Writes a total behind the codes of a row.
+pub fn put_total(row: &mut [u32], dims: usize, total: Total)
+    requires { ⌜ length (now row) ≡ width dims ⌝ }
+    ensures { λ _. ⌜ rowOf dims (now (row .exit)) ≡ record { codes = take dims (now (row .entry)); total = total } ⌝ }
+{
+    let sum = total.sum;
+    row[dims] = fields::low_of(sum);
+    row[dims + 1] = fields::high_of(sum);
+    row[dims + 2] = total.count;
 }
 
 // Whether no other row agrees with `row` on a set: the first other row that agrees settles it.
-pub fn is_single(codes: &[u32], rows: usize, dims: usize, row: usize, set: u32) -> bool
-    requires { ⌜ (rows * dims ≡ length (now codes)) × (row < rows) × Distinct (cut dims rows (now codes)) ⌝ }
-    ensures { λ r. ⌜ r ≡ single (plain dims) (cut dims rows (now (codes .entry))) set (rowAt (cut dims rows (now (codes .entry))) row) ⌝ }
+pub fn is_single(rows: &[u32], n: usize, dims: usize, row: usize, set: u32) -> bool
+    requires { ⌜ (n * width dims ≡ length (now rows)) × (row < n) × Distinct (cut dims n (now rows)) ⌝ }
+    ensures { λ r. ⌜ r ≡ single (plain dims) (cut dims n (now (rows .entry))) set (rowAt (cut dims n (now (rows .entry))) row) ⌝ }
 {
-    let mine = row_of(codes, rows, dims, row);
+    let mine = row_of(rows, n, dims, row);
     let mut alone = true;
-    'rows: for i in 0..rows {
+    'rows: for i in 0..n {
         if i == row {
             continue;
         }
-        let other = row_of(codes, rows, dims, i);
+        let other = row_of(rows, n, dims, i);
         let mut rest = set;
         for d in 0..dims {
             if rest % 2 == 1 && mine[d] != other[d] {
@@ -72,28 +103,4 @@ pub fn compare(mine: &[u32], other: &[u32], set: u32) -> Order
         rest = rest / 2;
     }
     Order::Equal
-}
-
-// Stores the codes at a byte offset, with a sum and a count, as row i of the arrays.
-pub fn store_row(
-    s: &[u8],
-    at: usize,
-    dims: usize,
-    sum: i64,
-    count: u32,
-    i: usize,
-    codes: &mut [u32],
-    sums: &mut [i64],
-    counts: &mut [u32],
-)
-    requires { ⌜ at + 4 * dims ≤ length (now s) ⌝ }
-    requires { ⌜ (i * dims + dims ≤ length (now codes)) × (i < length (now sums)) × (i < length (now counts)) ⌝ }
-    ensures { λ _. ⌜ rowsOf dims (i + 1) (now (codes .exit)) (now (sums .exit)) (now (counts .exit))
-        ≡ rowsOf dims i (now (codes .entry)) (now (sums .entry)) (now (counts .entry)) ++ record { codes = wordsAt (now (s .entry)) dims at; total = record { sum = sum; count = count } } ∷ [] ⌝ }
-{
-    let from = i * dims;
-    let to = from + dims;
-    fields::read_words(s, at, &mut codes[from..to]);
-    sums[i] = sum;
-    counts[i] = count;
 }

@@ -1,19 +1,21 @@
 -- Sets of rows, bit by bit: one row more, the rows of two sets, no row.
 use mathlib.Core.Path.{_≡_, refl, sym, ap, ap₂, _∙_}
 use mathlib.Core.Logic.{_≢_}
-use mathlib.Core.Bool.{Bool, false, _||_}
-use mathlib.Core.List.{List}
+use mathlib.Core.Bool.{Bool, true, false, _&&_, _||_}
+use mathlib.Core.List.{List, [], _∷_}
 use Prim.Native.Nat.{ℕ, zero, suc, _+_, _*_, _/_, _%_, _^_, _≤_, _<_, max}
 use native.Mathlib.Nat.{pow-suc, div-eq-of-lt, zero-div, one-mul}
+use native.Mathlib.Numerals.{add-one}
 use native.Mathlib.Omega.{arith}
-use lib.Bits.{bitOr, or-shr, or-step, or-add-and, and-le-l, and-le-r}
+use lib.Bits.{bitOr, or-shr, or-step, or-add-and, and-le-r}
 use lib.Dec.{eqb, ltb, eqb·suc-suc}
-use lib.ListN.{length, getD, set, length-set, List·getD-eq-default}
+use lib.ListN.{length, getD, set, take, length-set, List·getD-eq-default}
 use lib.Pow.{pow-pos, shl-exact, shr-shr}
-use lib.Seq.{getD-set-same, getD-set-other}
+use lib.Seq.{take-suc, take-all, getD-set-same, getD-set-other}
 use borrow.Author.Tests.{eq-eqb, ne-eqb, eqb-true, eqb-false, ltb-true, ltb-false}
-use Rattle.lists.proofs.Tests.{cases, truth}
-use Rattle.rows_bits.specs.Rowsets.{has}
+use Rattle.lists.specs.Lists.{every}
+use Rattle.lists.proofs.Tests.{cases, truth, both, every-append}
+use Rattle.rows_bits.specs.Rowsets.{has, empty}
 
 -- bit i of a word
 abbrev bit : ℕ → ℕ → Bool
@@ -109,19 +111,36 @@ module _ {words others : List ℕ} (size : length words ≡ 32) where
         List·getD-eq-default l 0 (omega (arith, j .size, m)) ∙ sym (ap₂ bitOr (List·getD-eq-default words 0 (omega (arith, size, m))) (List·getD-eq-default others 0 (omega (arith, rest, m))))) in
         has-word l x word ∙ bit-or (getD words k 0) (getD others k 0) (x % 32) ∙ sym (ap₂ _||_ (has-word words x refl) (has-word others x refl))
 
--- ---- no row: where a word has the bits of all words before place i, and has none
+-- ---- no row: a word with the bits of all words before place i
 
-abbrev pub Bare : List ℕ → ℕ → ℕ → Type 0
-Bare words any i = any ≡ 0 → (k : ℕ) → k < i → getD words k 0 ≡ 0
+or-none : (v w : ℕ) → eqb (bitOr v w) 0 ≡ eqb v 0 && (eqb 0 w && true)
+or-none zero zero = refl
+or-none zero (suc w) = ne-eqb (suc w) 0 (λ e. omega (arith, e)) ∙ sym (ap (λ (b : Bool). b && true) (ne-eqb 0 (suc w) (λ e. omega (arith, e))))
+or-none (suc v) w =
+    ne-eqb (bitOr (suc v) w) 0 (λ e. omega (arith, e, or-add-and (suc v) w, and-le-r (suc v) w))
+    ∙ sym (ap (λ (b : Bool). b && (eqb 0 w && true)) (ne-eqb (suc v) 0 (λ e. omega (arith, e))))
 
-module _ (words : List ℕ) (any i : ℕ) (b : Bare words any i) where
-  pub bare-more : Bare words (bitOr any (getD words i 0)) (i + 1)
-  bare-more e k h =
+words-zero : (words : List ℕ) → every (eqb 0) words ≡ true → (i : ℕ) → getD words i 0 ≡ 0
+words-zero [] e i = refl
+words-zero (w ∷ words) e zero = sym (eqb-true 0 w (both (eqb 0 w) (every (eqb 0) words) e .0))
+words-zero (w ∷ words) e (suc i) = words-zero words (both (eqb 0 w) (every (eqb 0) words) e .1) i
+
+module _ (words : List ℕ) where
+  pub empty-start : eqb 0 0 ≡ empty (take 0 words)
+  unfolding empty
+  empty-start = refl
+
+  pub empty-more : (any i : ℕ) → i < length words → eqb any 0 ≡ empty (take i words) → eqb (bitOr any (getD words i 0)) 0 ≡ empty (take (i + 1) words)
+  unfolding empty
+  empty-more any i h e =
       let w = getD words i 0 in
-      let sum = or-add-and any w in
-      cases (truth (eqb k i))
-      (λ t. rw (eqb-true k i t) (omega (arith, e, sum, and-le-l any w)))
-      (λ t. let n : k ≢ i = eqb-false k i t in b (omega (arith, e, sum, and-le-r any w)) k (omega (arith, h, n)))
+      or-none any w
+      ∙ ap (λ (b : Bool). b && (eqb 0 w && true)) e
+      ∙ sym (ap (λ (k : ℕ). every (eqb 0) (take k words)) (add-one i) ∙ ap (every (eqb 0)) (take-suc words i 0 h) ∙ every-append (eqb 0) (take i words) (w ∷ []))
 
-  pub bare-done : length words ≤ i → any ≡ 0 → (x : ℕ) → has words x ≡ false
-  bare-done h e = has-none words (λ k. cases (truth (ltb k i)) (λ t. b e k (ltb-true k i t)) (λ t. List·getD-eq-default words 0 (omega (arith, h, ltb-false k i t))))
+  pub empty-done : (any i : ℕ) → length words ≤ i → eqb any 0 ≡ empty (take i words) → eqb any 0 ≡ empty words
+  empty-done any i h e = e ∙ ap empty (take-all i words h)
+
+  pub empty-none : empty words ≡ true → (x : ℕ) → has words x ≡ false
+  unfolding empty
+  empty-none e = has-none words (words-zero words e)

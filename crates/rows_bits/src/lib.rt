@@ -1,10 +1,10 @@
 // Sets of rows, as bits: 32 words of 32 rows.
 ghost use mathlib.Core.Path.{_≡_};
-ghost use mathlib.Core.Bool.{true, false, _||_};
+ghost use mathlib.Core.Bool.{_||_};
 ghost use Prim.Native.Nat.{ℕ, _<_};
 ghost use lib.Dec.{eqb};
 ghost use lib.ListN.{length};
-ghost use Rattle.rows_bits.specs.Rowsets.{has as hasRow};
+ghost use Rattle.rows_bits.specs.Rowsets.{has as hasRow, empty};
 
 // Whether a row is in a set of rows.
 pub fn has(words: &[u32], row: u32) -> bool
@@ -36,7 +36,7 @@ pub fn join(words: &mut [u32], others: &[u32])
 
 // Whether a set has no row.
 pub fn is_empty(words: &[u32]) -> bool
-    ensures { λ r. ⌜ (r ≡ true → ((x : ℕ) → hasRow (now (words .entry)) x ≡ false)) ⌝ }
+    ensures { λ r. ⌜ r ≡ empty (now (words .entry)) ⌝ }
 {
     let mut any = 0u32;
     for i in 0..words.len() {

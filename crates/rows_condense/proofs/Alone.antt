@@ -18,15 +18,15 @@ use Rattle.rows_crowds.proofs.Left.{left-in, left-of}
 use Rattle.rows_condense.specs.Alone.{passes, isNew, Lower, Stored, Told}
 use Rattle.rows_condense.proofs.Words.{passes-first}
 
-module _ {d n : ℕ} {codes alone : List ℕ} {s : ℕ} (low : Lower d n codes alone s) (passed : List ℕ) (told : (x : ℕ) → has passed x ≡ passes 8 alone s x) where
+module _ {d n : ℕ} {ws alone : List ℕ} {s : ℕ} (low : Lower d n ws alone s) (passed : List ℕ) (told : (x : ℕ) → has passed x ≡ passes 8 alone s x) where
   abbrev xs : List (List ℕ)
-  xs = cut d n codes
+  xs = cut d n ws
 
   -- the rows that come out alone
   abbrev new : List ℕ
   new = keep (isNew alone s) (leftOut 2 xs n s)
 
-  pub lower-passing : length passed ≡ 32 → Passing 2 d n codes passed s
+  pub lower-passing : length passed ≡ 32 → Passing 2 d n ws passed s
   lower-passing room = record {
     room = room;
     sound = λ x h e. ap not (told x) ∙ low .sound x h e;
@@ -49,7 +49,7 @@ module _ {d n : ℕ} {codes alone : List ℕ} {s : ℕ} (low : Lower d n codes a
       (λ m. rw (some-of (eqb x) {l = new} (keep-of (isNew alone s) m (ap not p)) (eq-eqb x x refl), t))
       (λ q. absurd (false≢true (sym p ∙ low .whole x h (q .0) (q .1))))))
 
-  pub lower-told : (words alone₂ : List ℕ) → ((x : ℕ) → has words x ≡ some (eqb x) new || has passed x) → Stored words alone alone₂ s → Told d n codes alone alone₂ s
+  pub lower-told : (words alone₂ : List ℕ) → ((x : ℕ) → has words x ≡ some (eqb x) new || has passed x) → Stored words alone alone₂ s → Told d n ws alone alone₂ s
   lower-told words alone₂ f g = record {
     here = λ x h. ap (λ (w : List ℕ). has w x) (g .here) ∙ f x ∙ ap (λ (b : Bool). some (eqb x) new || b) (told x) ∙ either-way x h;
     others = g .others;

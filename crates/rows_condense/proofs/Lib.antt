@@ -1,8 +1,6 @@
 -- Laws of lists in flat arrays, of the rows that are passed over, and of the cells that rows share.
-pub mod Lists
 pub mod Words
 pub mod Alone
-pub mod Noted
 pub mod Growing
 pub mod Partly
 pub mod Lone

@@ -18,53 +18,51 @@ use Rattle.lattice.proofs.Turns.{from-full, from-on, from-off, from-done}
 use Rattle.cube.specs.Codes.{plain}
 use Rattle.cube.specs.Condensed.{proper, shared, common, Base}
 use Rattle.cube.proofs.Normals.{common-length}
-use Rattle.rows.specs.Rows.{cut}
+use Rattle.rows.specs.Rows.{width, cut}
 use Rattle.rows.proofs.Rows.{cut-length}
 use Rattle.rows_bits.specs.Rowsets.{has}
 use Rattle.rows_order.specs.Index.{key}
 use Rattle.rows_slots.specs.Slots.{crowds, packed}
 use Rattle.rows_crowds.specs.Crowds.{leftOut, ends}
 use Rattle.rows_crowds.proofs.Left.{ends-shared}
-use Rattle.rows_condense.specs.Lists.{listsOf, Short, Fit, noted, ourLists}
+use Rattle.rows_lists.specs.Lists.{listsOf, Short, Empty, Fit, noted, ourLists}
 use Rattle.rows_condense.specs.Alone.{AloneOn, isNew, Lower, Told}
 use Rattle.rows_condense.proofs.Partly.{partly, partly-none, partly-all, partly-fit}
 use Rattle.rows_condense.proofs.Lone.{lone-lower, partly-noted}
 
-pub record Listing (d n : ℕ) (codes alone store lens : List ℕ) (cells k : ℕ) : Type 0 where
+pub record Listing (d n : ℕ) (ws alone ls : List ℕ) (cells k : ℕ) : Type 0 where
   pub below : k ≤ 256
-  pub size : length lens ≡ n
-  pub short : Short n lens
+  pub short : Short n ls
   pub done : List ℕ
   pub left : done ++ setsFrom (full d) k ≡ proper (plain d)
-  pub known : (t : ℕ) → t ∈ done → AloneOn d n codes alone t
-  pub lists : listsOf n store lens ≡ partly d (cut d n codes) done
-  pub count : cells ≡ length (flatMap (shared (plain d) (cut d n codes)) done)
+  pub known : (t : ℕ) → t ∈ done → AloneOn d n ws alone t
+  pub lists : listsOf n ls ≡ partly d (cut d n ws) done
+  pub count : cells ≡ length (flatMap (shared (plain d) (cut d n ws)) done)
 
 -- base rows: within the limits, no two with the same codes
-pub record Given (d n : ℕ) (codes : List ℕ) : Type 0 where
+pub record Given (d n : ℕ) (ws : List ℕ) : Type 0 where
   pub dims : d ≤ 8
   pub few : n ≤ 1024
-  pub size : n * d ≡ length codes
-  pub base : Base (plain d) (cut d n codes)
+  pub size : n * width d ≡ length ws
+  pub base : Base (plain d) (cut d n ws)
 
-module _ {d n : ℕ} {codes : List ℕ} (given : Given d n codes) where
+module _ {d n : ℕ} {ws : List ℕ} (given : Given d n ws) where
   abbrev xs : List (List ℕ)
-  xs = cut d n codes
+  xs = cut d n ws
 
-  pub listing-start : (alone store lens : List ℕ) → length lens ≡ n → ((i : ℕ) → i < n → getD lens i 0 ≡ 0) → Listing d n codes alone store lens 0 0
+  pub listing-start : (alone ls : List ℕ) → Empty n ls → Listing d n ws alone ls 0 0
   unfolding proper flatMap
-  listing-start alone store lens e f = record {
+  listing-start alone ls f = record {
     below = omega arith;
-    size = e;
     short = λ i h. omega (arith, f i h);
     done = [];
     left = from-full d (given .dims);
     known = λ t m. absurd (List·Memᴰ·not-nil m);
-    lists = partly-none d xs store lens (cut-length d n codes) f;
+    lists = partly-none d xs ls (cut-length d n ws) f;
     count = refl;
   }
 
-  module _ {alone store lens : List ℕ} {cells k : ℕ} (m : Listing d n codes alone store lens cells k) where
+  module _ {alone ls : List ℕ} {cells k : ℕ} (m : Listing d n ws alone ls cells k) where
     -- no more cells than all rows share, of which there are not many
     pub listing-few : cells ≤ 262144
     unfolding common
@@ -76,7 +74,7 @@ module _ {d n : ℕ} {codes : List ℕ} (given : Given d n codes) where
         let few : length (sets d) * length xs ≤ 256 * 1024 = mul-le-mul (le-trans (sets-length d) (pow-mono (given .dims))) rows in
         omega (arith, m .count, all, common-length (plain d) xs)
 
-    pub listing-done : 256 ≤ k → (listsOf n store lens ≡ ourLists d xs) × (cells ≡ length (common (plain d) xs))
+    pub listing-done : 256 ≤ k → (listsOf n ls ≡ ourLists d xs) × (cells ≡ length (common (plain d) xs))
     unfolding common
     listing-done h =
         let all : m .done ≡ proper (plain d) = sym (append-nil (m .done)) ∙ ap (λ (l : List ℕ). m .done ++ l) (sym (from-done (full d) k h)) ∙ m .left in
@@ -84,10 +82,9 @@ module _ {d n : ℕ} {codes : List ℕ} (given : Given d n codes) where
 
     module _ {s : ℕ} (h : k < 256) (e : s ≡ getD (sets 8) k 0) where
       -- a set that is not below the full one has no turn
-      pub listing-skip : full d ≤ s → Listing d n codes alone store lens cells (k + 1)
+      pub listing-skip : full d ≤ s → Listing d n ws alone ls cells (k + 1)
       listing-skip f = record {
         below = omega arith;
-        size = m .size;
         short = m .short;
         done = m .done;
         left = ap (λ (l : List ℕ). m .done ++ l) (sym (from-off (full d) k h (rw e at f))) ∙ m .left;
@@ -107,36 +104,35 @@ module _ {d n : ℕ} {codes : List ℕ} (given : Given d n codes) where
         abbrev new : List ℕ
         new = keep (isNew alone s) (leftOut 2 xs n s)
 
-        lists-next : noted s new (listsOf n store lens) ≡ partly d xs (m .done ++ s ∷ [])
+        lists-next : noted s new (listsOf n ls) ≡ partly d xs (m .done ++ s ∷ [])
         lists-next =
             ap (noted s new) (m .lists)
-            ∙ partly-noted d n codes (given .dims) (given .few) (given .size) (given .base) (m .done) (setsFrom (full d) (k + 1)) s turn f alone (m .known)
+            ∙ partly-noted d n ws (given .dims) (given .few) (given .size) (given .base) (m .done) (setsFrom (full d) (k + 1)) s turn f alone (m .known)
 
-        pub listing-lower : Lower d n codes alone s
-        listing-lower = lone-lower d n codes (given .dims) (given .few) (given .size) (given .base) (m .done) (setsFrom (full d) (k + 1)) s turn f alone (m .known)
+        pub listing-lower : Lower d n ws alone s
+        listing-lower = lone-lower d n ws (given .dims) (given .few) (given .size) (given .base) (m .done) (setsFrom (full d) (k + 1)) s turn f alone (m .known)
 
         count-next : cells + length (shared (plain d) xs s) ≡ length (flatMap (shared (plain d) xs) (m .done ++ s ∷ []))
         unfolding flatMap
         count-next = rw (flat-append (shared (plain d) xs) (m .done) (s ∷ []), append-nil, m .count) (sym (length-append (flatMap (shared (plain d) xs) (m .done)) (shared (plain d) xs s)))
 
-        pub listing-fit : Fit (noted s new (listsOf n store lens))
+        pub listing-fit : Fit (noted s new (listsOf n ls))
         listing-fit = subst Fit (sym lists-next) (partly-fit d xs (given .dims) (m .done ++ s ∷ []) (setsFrom (full d) (k + 1)) joined)
 
-        known-next : {alone₂ : List ℕ} → Told d n codes alone alone₂ s → (t : ℕ) → t ∈ m .done ++ s ∷ [] → AloneOn d n codes alone₂ t
+        known-next : {alone₂ : List ℕ} → Told d n ws alone alone₂ s → (t : ℕ) → t ∈ m .done ++ s ∷ [] → AloneOn d n ws alone₂ t
         known-next g t i = cases (truth (eqb t s))
             (λ q. rw (eqb-true t s q) (g .here))
             (λ q x l. ap (λ (w : List ℕ). has w x) (g .others t (eqb-false t s q))
             ∙ m .known t (cases (List·Memᴰ·append-cases (m .done) i) (λ j. j) (λ j. absurd (eqb-false t s q (List·Memᴰ·eq-of-singleton j)))) x l)
 
-        pub listing-more : {alone₂ sets' lens' : List ℕ} {r : ℕ} → Told d n codes alone alone₂ s → (listsOf n sets' lens' ≡ noted s new (listsOf n store lens)) × Short n lens' → length lens' ≡ n
-            → r ≡ ends (packed (crowds 2 (key s xs) n)) → Listing d n codes alone₂ sets' lens' (cells + r) (k + 1)
-        listing-more o g l c = record {
+        pub listing-more : {alone₂ ls' : List ℕ} {r : ℕ} → Told d n ws alone alone₂ s → (listsOf n ls' ≡ noted s new (listsOf n ls)) × Short n ls'
+            → r ≡ ends (packed (crowds 2 (key s xs) n)) → Listing d n ws alone₂ ls' (cells + r) (k + 1)
+        listing-more o g c = record {
           below = omega arith;
-          size = l;
           short = g .1;
           done = m .done ++ s ∷ [];
           left = joined;
           known = known-next o;
           lists = g .0 ∙ lists-next;
-          count = ap (λ (t : ℕ). cells + t) (c ∙ ends-shared d n s codes (given .size) (given .few) (given .base)) ∙ count-next;
+          count = ap (λ (t : ℕ). cells + t) (c ∙ ends-shared d n s ws (given .size) (given .few) (given .base)) ∙ count-next;
         }

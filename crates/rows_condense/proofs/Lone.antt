@@ -25,7 +25,7 @@ use Rattle.cube.specs.Condensed.{proper, single, Base}
 use Rattle.cube.proofs.Codes.{plain-laws}
 use Rattle.cube.proofs.Singles.{single-up}
 use Rattle.cube.proofs.Smallest.{smallest-held}
-use Rattle.rows.specs.Rows.{cut, rowAt}
+use Rattle.rows.specs.Rows.{width, cut, rowAt}
 use Rattle.rows.proofs.Rows.{cut-length}
 use Rattle.rows_bits.specs.Rowsets.{has}
 use Rattle.rows_order.specs.Index.{key}
@@ -35,10 +35,10 @@ use Rattle.rows_crowds.proofs.Shorter.{shorter-less, shorter-holds, shorter-alo
 use Rattle.rows_crowds.proofs.First.{first-shares}
 use Rattle.rows_crowds.proofs.Turns.{all-rising, all-of}
 use Rattle.rows_crowds.proofs.Left.{left-in, left-of, left-distinct, shares-single}
-use Rattle.rows_condense.specs.Lists.{noted}
+use Rattle.rows_lists.specs.Lists.{noted}
 use Rattle.rows_condense.specs.Alone.{wordsOf, AloneOn, passes, isNew, Lower}
 use Rattle.rows_condense.proofs.Words.{passes-in, passes-of}
-use Rattle.rows_condense.proofs.Noted.{noted-length, noted-out, noted-in}
+use Rattle.rows_lists.proofs.Noted.{noted-length, noted-out, noted-in}
 use Rattle.rows_condense.proofs.Growing.{listedTo, listed-among, listed-more}
 use Rattle.rows_condense.proofs.Partly.{partly, below}
 
@@ -48,11 +48,11 @@ done-other [] rest s t r m q = List·Memᴰ·not-nil m
 done-other (u ∷ done) rest s t r (List·Memᴰ·head p) q = by-lattice .irrefl s (subst (λ (z : ℕ). before z s ≡ true) (sym p ∙ q) (r .0 s (Memᴰ·append-right done (List·Memᴰ·head refl))))
 done-other (u ∷ done) rest s t r (List·Memᴰ·tail m) q = done-other done rest s t (r .1) m q
 
-module _ (d n : ℕ) (codes : List ℕ) (dims : d ≤ 8) (few : n ≤ 1024) (size : n * d ≡ length codes) (b : Base (plain d) (cut d n codes))
+module _ (d n : ℕ) (ws : List ℕ) (dims : d ≤ 8) (few : n ≤ 1024) (size : n * width d ≡ length ws) (b : Base (plain d) (cut d n ws))
     (done rest : List ℕ) (s : ℕ) (e : done ++ s ∷ rest ≡ proper (plain d)) (f : s < full d)
-    (alone : List ℕ) (known : (t : ℕ) → t ∈ done → AloneOn d n codes alone t) where
+    (alone : List ℕ) (known : (t : ℕ) → t ∈ done → AloneOn d n ws alone t) where
   abbrev xs : List (List ℕ)
-  xs = cut d n codes
+  xs = cut d n ws
 
   abbrev lone : List ℕ
   lone = keep (isNew alone s) (leftOut 2 xs n s)
@@ -105,7 +105,7 @@ module _ (d n : ℕ) (codes : List ℕ) (dims : d ≤ 8) (few : n ≤ 1024) (siz
     partly-long = rw (length-map, cut-length) h
 
     sharing : {t : ℕ} → t ≤ s → shares 2 (key t xs) n i ≡ not (single (plain d) xs t x)
-    sharing {t} k = shares-single d n t codes size few b i h (node k)
+    sharing {t} k = shares-single d n t ws size few b i h (node k)
 
     -- the words of a smaller set have the row where it is single
     told : {t : ℕ} → t ≤ s → t ∈ done → has (wordsOf alone t) i ≡ single (plain d) xs t x
@@ -148,7 +148,7 @@ module _ (d n : ℕ) (codes : List ℕ) (dims : d ≤ 8) (few : n ≤ 1024) (siz
         let e : s - 2 ^ k ≡ 0 = shorter-alone s (omega (arith, w, pow-pos k)) small one (s - 2 ^ k) below (less-held 32 k s (omega (arith, r .1)) (r .2) 8) in
         let m = subst (λ (t : ℕ). t ∈ done) e (less-done k (r .1) (r .2)) in
         let g = subst (λ (t : ℕ). has (wordsOf alone t) i ≡ true) e (r .3) in
-        false≢true (sym (known 0 m i h ∙ ap not (first-shares d n codes (b .valid) 2 (omega arith) more i h)) ∙ g)))
+        false≢true (sym (known 0 m i h ∙ ap not (first-shares d n ws (b .valid) 2 (omega arith) more i h)) ∙ g)))
 
     next : listedTo (plain d) xs (done ++ s ∷ []) x ≡ acc ++ only (single (plain d) xs s x && opened) s []
     next = listed-more (plain d) (plain-laws d) xs done x s
@@ -180,7 +180,7 @@ module _ (d n : ℕ) (codes : List ℕ) (dims : d ≤ 8) (few : n ≤ 1024) (siz
         (λ q. absurd (false≢true (sym p ∙ passed-on (q .0) (q .1))))))
         (λ t. kept (λ y m g. false≢true (sym (subst (λ (z : ℕ). shares 2 (key s xs) n z ≡ false) g (left-in 2 xs n s y (keep-in (isNew alone s) (leftOut 2 xs n s) m .0) .1)) ∙ sharing (omega arith) ∙ ap not t)) (rw t))
 
-  pub lone-lower : Lower d n codes alone s
+  pub lone-lower : Lower d n ws alone s
   lone-lower = record { sound = kept-on; whole = passed-on; next = λ one more i h. first-on i h one more }
 
   pub partly-noted : noted s lone (partly d xs done) ≡ partly d xs (done ++ s ∷ [])

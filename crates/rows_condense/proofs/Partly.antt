@@ -3,7 +3,7 @@ use mathlib.Core.Path.{_≡_, refl, sym, subst, _∙_}
 use mathlib.Core.List.{List, [], _++_, map, Memᴰ·append-left, Memᴰ·of-map}
 use Prim.Native.Nat.{ℕ, _^_, _≤_, _<_}
 use native.Mathlib.Omega.{arith}
-use lib.ListN.{length, getD, length-map, List·getD-map}
+use lib.ListN.{length, length-map, List·getD-map}
 use lib.Seq.{ext-getD}
 use Rattle.lists.specs.Lists.{_∈_}
 use Rattle.lattice.proofs.Sets.{sets-in}
@@ -12,8 +12,8 @@ use Rattle.cube.specs.Condensed.{proper, listed}
 use Rattle.cube.proofs.Codes.{plain-laws}
 use Rattle.cube.proofs.Nodes.{proper-in}
 use Rattle.cube.proofs.Promises.{at-most-70}
-use Rattle.rows_condense.specs.Lists.{listsOf, Fit, ourLists}
-use Rattle.rows_condense.proofs.Lists.{lists-length, lists-at}
+use Rattle.rows_lists.specs.Lists.{listsOf, Empty, Fit, ourLists}
+use Rattle.rows_lists.proofs.Lists.{lists-length, lists-at}
 use Rattle.rows_condense.proofs.Growing.{listedTo, listed-among, listed-few}
 
 -- our lists of rows with codes xs, of the sets l alone
@@ -22,12 +22,12 @@ partly d xs l = map (listedTo (plain d) xs l) xs
 
 module _ (d : ℕ) (xs : List (List ℕ)) where
   -- no list has a set yet
-  pub partly-none : {n : ℕ} (sets lens : List ℕ) → length xs ≡ n → ((i : ℕ) → i < n → getD lens i 0 ≡ 0) → listsOf n sets lens ≡ partly d xs []
+  pub partly-none : {n : ℕ} (ls : List ℕ) → length xs ≡ n → Empty n ls → listsOf n ls ≡ partly d xs []
   unfolding partly listedTo
-  partly-none {n} sets lens e f = ext-getD [] (listsOf n sets lens) (map (listedTo (plain d) xs []) xs)
-      (lists-length n sets lens ∙ sym (length-map xs (listedTo (plain d) xs []) ∙ e))
+  partly-none {n} ls e f = ext-getD [] (listsOf n ls) (map (listedTo (plain d) xs []) xs)
+      (lists-length n ls ∙ sym (length-map xs (listedTo (plain d) xs []) ∙ e))
       (λ i l. let h : i < n = rw lists-length at l in
-      lists-at n i sets lens h ∙ rw (f i h) (sym (List·getD-map (listedTo (plain d) xs []) xs i [])))
+      lists-at n i ls h ∙ rw (f i h) (sym (List·getD-map (listedTo (plain d) xs []) xs i [])))
 
   pub partly-all : partly d xs (proper (plain d)) ≡ ourLists d xs
   unfolding partly listedTo ourLists listed

@@ -20,7 +20,7 @@ use Rattle.rows_bits.specs.Rowsets.{has}
 use Rattle.rows_bits.proofs.Bits.{has-none}
 use Rattle.rows_slots.proofs.Whole.{zero-at}
 use Rattle.rows_condense.specs.Alone.{wordsOf, passes, Stored}
-use Rattle.rows_condense.proofs.Lists.{some-next, some-done}
+use Rattle.rows_lists.proofs.Lists.{some-next, some-done}
 
 -- ---- words are put into those of set s, before place i
 

@@ -24,7 +24,7 @@ abbrev pub wordsOf : List ℕ → ℕ → List ℕ
 wordsOf alone s = take 32 (drop (s * 32) alone)
 
 abbrev pub AloneOn : ℕ → ℕ → List ℕ → List ℕ → ℕ → Type 0
-AloneOn d n codes alone s = (x : ℕ) → x < n → has (wordsOf alone s) x ≡ not (shares 2 (key s (cut d n codes)) n x)
+AloneOn d n ws alone s = (x : ℕ) → x < n → has (wordsOf alone s) x ≡ not (shares 2 (key s (cut d n ws)) n x)
 
 unfoldable pub passes : ℕ → List ℕ → ℕ → ℕ → Bool
 passes zero alone s x = false
@@ -33,15 +33,15 @@ passes (suc k) alone s x = passes k alone s x || holds 32 s (2 ^ k) && has (word
 abbrev pub isNew : List ℕ → ℕ → ℕ → Bool
 isNew alone s x = not (passes 8 alone s x)
 
-pub record Lower (d n : ℕ) (codes alone : List ℕ) (s : ℕ) : Type 0 where
-  pub sound : (x : ℕ) → x < n → shares 2 (key s (cut d n codes)) n x ≡ true → isNew alone s x ≡ true
-  pub whole : (x : ℕ) → x < n → 1 ≤ s → shares 2 (key (shorter s) (cut d n codes)) n x ≡ false → passes 8 alone s x ≡ true
+pub record Lower (d n : ℕ) (ws alone : List ℕ) (s : ℕ) : Type 0 where
+  pub sound : (x : ℕ) → x < n → shares 2 (key s (cut d n ws)) n x ≡ true → isNew alone s x ≡ true
+  pub whole : (x : ℕ) → x < n → 1 ≤ s → shares 2 (key (shorter s) (cut d n ws)) n x ≡ false → passes 8 alone s x ≡ true
   pub next : size s ≡ 1 → n ≢ 1 → (x : ℕ) → x < n → isNew alone s x ≡ true
 
 pub record Stored (words alone alone₂ : List ℕ) (s : ℕ) : Type 0 where
   pub here : wordsOf alone₂ s ≡ words
   pub others : (t : ℕ) → t ≢ s → wordsOf alone₂ t ≡ wordsOf alone t
 
-pub record Told (d n : ℕ) (codes alone alone₂ : List ℕ) (s : ℕ) : Type 0 where
-  pub here : AloneOn d n codes alone₂ s
+pub record Told (d n : ℕ) (ws alone alone₂ : List ℕ) (s : ℕ) : Type 0 where
+  pub here : AloneOn d n ws alone₂ s
   pub others : (t : ℕ) → t ≢ s → wordsOf alone₂ t ≡ wordsOf alone t

@@ -1,55 +1,21 @@
 // Base rows condensed: the groups that they form under each set, and our list of each row.
 ghost use mathlib.Core.Path.{_≡_};
 ghost use mathlib.Core.Bool.{_||_};
-ghost use mathlib.Core.List.{[], _∷_, _++_};
 ghost use Prim.Native.Nat.{ℕ, _*_, _^_, _≤_, _<_};
 ghost use lib.Dec.{eqb};
-ghost use lib.ListN.{length, getD, set as put};
+ghost use lib.ListN.{length};
 ghost use Rattle.lists.specs.Lists.{some, keep};
 ghost use Rattle.lattice.specs.Sets.{full};
 ghost use Rattle.cube.specs.Codes.{plain};
 ghost use Rattle.cube.specs.Condensed.{normals, Base};
-ghost use Rattle.rows.specs.Rows.{cut};
+ghost use Rattle.rows.specs.Rows.{width, cut};
 ghost use Rattle.rows_bits.specs.Rowsets.{has as hasRow};
 ghost use Rattle.rows_deals.specs.Deals.{Names};
 ghost use Rattle.rows_order.specs.Index.{key, Valid};
 ghost use Rattle.rows_slots.specs.Slots.{crowds, packed};
 ghost use Rattle.rows_crowds.specs.Crowds.{Columns, shorter, leftOut, Holds, AllHold, Filled, ends};
-ghost use Rattle.rows_condense.specs.Lists.{listsOf, Short, Fit, noted, ourLists};
+ghost use Rattle.rows_lists.specs.Lists.{listsOf, Short, Fit, noted, ourLists};
 ghost use Rattle.rows_condense.specs.Alone.{wordsOf, passes, isNew, Lower, Stored, Told};
-
-// The list of a row.
-pub fn list_of<'a>(sets: &'a [u8], lens: &[u32], rows: usize, row: usize) -> &'a [u8]
-    requires { ⌜ (rows * 70 ≤ length (now sets)) × (length (now lens) ≡ rows) × (row < rows) × Short rows (now lens) ⌝ }
-    ensures { λ r. ⌜ now r ≡ getD (listsOf rows (now (sets .entry)) (now (lens .entry))) row [] ⌝ }
-{
-    let from = row * 70;
-    let to = from + lens[row] as usize;
-    &sets[from..to]
-}
-
-// Puts a set behind the list of a row.
-fn note_at(sets: &mut [u8], lens: &mut [u32], rows: usize, row: usize, set: u8)
-    requires { ⌜ (rows * 70 ≤ length (now sets)) × (length (now lens) ≡ rows) × (row < rows) × Short rows (now lens) × (getD (now lens) row 0 < 70) ⌝ }
-    ensures { λ _. ⌜ listsOf rows (now (sets .exit)) (now (lens .exit)) ≡ put (listsOf rows (now (sets .entry)) (now (lens .entry))) row (getD (listsOf rows (now (sets .entry)) (now (lens .entry))) row [] ++ set ∷ []) ⌝ }
-    ensures { λ _. ⌜ Short rows (now (lens .exit)) ⌝ }
-{
-    let len = lens[row] as usize;
-    sets[row * 70 + len] = set;
-    lens[row] = lens[row] + 1;
-}
-
-// Puts a set behind the lists of the rows in `lone`.
-fn note_lone(lone: &[u32], set: u8, sets: &mut [u8], lens: &mut [u32], rows: usize)
-    requires { ⌜ (rows * 70 ≤ length (now sets)) × (length (now lens) ≡ rows) × Short rows (now lens) × Names (now lone) rows ⌝ }
-    requires { ⌜ Fit (noted set (now lone) (listsOf rows (now sets) (now lens))) ⌝ }
-    ensures { λ _. ⌜ listsOf rows (now (sets .exit)) (now (lens .exit)) ≡ noted set (now (lone .entry)) (listsOf rows (now (sets .entry)) (now (lens .entry))) ⌝ }
-    ensures { λ _. ⌜ Short rows (now (lens .exit)) ⌝ }
-{
-    for i in 0..lone.len() {
-        note_at(sets, lens, rows, lone[i] as usize, set);
-    }
-}
 
 // The words of a set.
 fn words_of<'a>(alone: &'a [u32], set: usize) -> &'a [u32]
@@ -97,10 +63,10 @@ fn put_words(words: &[u32], set: usize, alone: &mut [u32])
     }
 }
 
-// One set more: its slot is filled, and it is put behind the lists of the rows that come out alone there and on no smaller set. Returns how many cells of it rows share.
+// One set more: its slot is filled, and it is put behind the lists of the rows that come out alone there and on no smaller set. Returns how many cells of it rows share. Thirteen parameters: the rows, their lists, and work arrays that are lent once a call.
 fn list_set(
-    codes: &[u32],
-    rows: usize,
+    rows: &[u32],
+    n: usize,
     dims: usize,
     columns: &[u32],
     set: u32,
@@ -111,22 +77,21 @@ fn list_set(
     order: &mut [u32],
     marks: &mut [u32],
     lone: &mut [u32],
-    sets: &mut [u8],
-    lens: &mut [u32],
+    lists: &mut [u8],
 ) -> usize
-    requires { ⌜ (rows ≤ 1024) × Valid dims (cut dims rows (now codes)) × (dims ≤ 8) × Columns dims rows (now codes) (now columns) × (set < 2 ^ dims) × (1 ≤ set → Holds 2 dims rows (now codes) (now store) (now sizes) (shorter set)) ⌝ }
+    requires { ⌜ (n ≤ 1024) × Valid dims (cut dims n (now rows)) × (dims ≤ 8) × Columns dims n (now rows) (now columns) × (set < 2 ^ dims) × (1 ≤ set → Holds 2 dims n (now rows) (now store) (now sizes) (shorter set)) ⌝ }
     requires { ⌜ (262144 ≤ length (now store)) × (256 ≤ length (now sizes)) × (length (now order) ≡ 1024) × (length (now marks) ≡ 1024) × (length (now lone) ≡ 1024) ⌝ }
-    requires { ⌜ (8192 ≤ length (now alone)) × (length (now passed) ≡ 32) × Lower dims rows (now codes) (now alone) set ⌝ }
-    requires { ⌜ (rows * 70 ≤ length (now sets)) × (length (now lens) ≡ rows) × Short rows (now lens) × Fit (noted set (keep (isNew (now alone) set) (leftOut 2 (cut dims rows (now codes)) rows set)) (listsOf rows (now sets) (now lens))) ⌝ }
-    ensures { λ r. ⌜ Filled 2 dims rows (now (codes .entry)) (now (store .entry)) (now (sizes .entry)) (now (store .exit)) (now (sizes .exit)) set ⌝ }
-    ensures { λ r. ⌜ Told dims rows (now (codes .entry)) (now (alone .entry)) (now (alone .exit)) set ⌝ }
-    ensures { λ r. ⌜ (listsOf rows (now (sets .exit)) (now (lens .exit)) ≡ noted set (keep (isNew (now (alone .entry)) set) (leftOut 2 (cut dims rows (now (codes .entry))) rows set)) (listsOf rows (now (sets .entry)) (now (lens .entry)))) × Short rows (now (lens .exit)) ⌝ }
-    ensures { λ r. ⌜ r ≡ ends (packed (crowds 2 (key set (cut dims rows (now (codes .entry)))) rows)) ⌝ }
+    requires { ⌜ (8192 ≤ length (now alone)) × (length (now passed) ≡ 32) × Lower dims n (now rows) (now alone) set ⌝ }
+    requires { ⌜ (n * 71 ≤ length (now lists)) × Short n (now lists) × Fit (noted set (keep (isNew (now alone) set) (leftOut 2 (cut dims n (now rows)) n set)) (listsOf n (now lists))) ⌝ }
+    ensures { λ r. ⌜ Filled 2 dims n (now (rows .entry)) (now (store .entry)) (now (sizes .entry)) (now (store .exit)) (now (sizes .exit)) set ⌝ }
+    ensures { λ r. ⌜ Told dims n (now (rows .entry)) (now (alone .entry)) (now (alone .exit)) set ⌝ }
+    ensures { λ r. ⌜ (listsOf n (now (lists .exit)) ≡ noted set (keep (isNew (now (alone .entry)) set) (leftOut 2 (cut dims n (now (rows .entry))) n set)) (listsOf n (now (lists .entry)))) × Short n (now (lists .exit)) ⌝ }
+    ensures { λ r. ⌜ r ≡ ends (packed (crowds 2 (key set (cut dims n (now (rows .entry)))) n)) ⌝ }
 {
     pass_rows(alone, set, passed);
-    let n = rows_crowds::fill_set(
-        codes,
+    let left = rows_crowds::fill_set(
         rows,
+        n,
         dims,
         columns,
         2,
@@ -138,8 +103,8 @@ fn list_set(
         marks,
         lone,
     );
-    let new = &lone[..n];
-    note_lone(new, set as u8, sets, lens, rows);
+    let new = &lone[..left];
+    rows_lists::note_lone(new, set as u8, lists, n);
     add_rows(new, passed);
     put_words(passed, set as usize, alone);
     let slot = rows_crowds::slot_of(store, sizes, set as usize);
@@ -148,19 +113,18 @@ fn list_set(
 
 // Condenses base rows: the groups that they form under all sets but the full one, into slots, and our list of each row. Returns how many normal entries there are.
 pub fn condense_rows(
-    codes: &[u32],
-    rows: usize,
+    rows: &[u32],
+    n: usize,
     dims: usize,
     store: &mut [u16],
     sizes: &mut [usize],
-    sets: &mut [u8],
-    lens: &mut [u32],
+    lists: &mut [u8],
 ) -> usize
-    requires { ⌜ (rows ≤ 1024) × (dims ≤ 8) × (rows * dims ≡ length (now codes)) × Base (plain dims) (cut dims rows (now codes)) ⌝ }
-    requires { ⌜ (262144 ≤ length (now store)) × (256 ≤ length (now sizes)) × (rows * 70 ≤ length (now sets)) × (length (now lens) ≡ rows) ⌝ }
-    ensures { λ r. ⌜ AllHold 2 dims rows (now (codes .entry)) (now (store .exit)) (now (sizes .exit)) (full dims) ⌝ }
-    ensures { λ r. ⌜ (listsOf rows (now (sets .exit)) (now (lens .exit)) ≡ ourLists dims (cut dims rows (now (codes .entry)))) × Short rows (now (lens .exit)) ⌝ }
-    ensures { λ r. ⌜ r ≡ length (normals (plain dims) (cut dims rows (now (codes .entry)))) ⌝ }
+    requires { ⌜ (n ≤ 1024) × (dims ≤ 8) × (n * width dims ≡ length (now rows)) × Base (plain dims) (cut dims n (now rows)) ⌝ }
+    requires { ⌜ (262144 ≤ length (now store)) × (256 ≤ length (now sizes)) × (n * 71 ≤ length (now lists)) ⌝ }
+    ensures { λ r. ⌜ AllHold 2 dims n (now (rows .entry)) (now (store .exit)) (now (sizes .exit)) (full dims) ⌝ }
+    ensures { λ r. ⌜ (listsOf n (now (lists .exit)) ≡ ourLists dims (cut dims n (now (rows .entry)))) × Short n (now (lists .exit)) ⌝ }
+    ensures { λ r. ⌜ r ≡ length (normals (plain dims) (cut dims n (now (rows .entry)))) ⌝ }
 {
     let mut columns = [0u32; 16384];
     let mut alone = [0u32; 8192];
@@ -168,8 +132,8 @@ pub fn condense_rows(
     let mut order = [0u32; 1024];
     let mut marks = [0u32; 1024];
     let mut lone = [0u32; 1024];
-    rows_deals::clear(lens);
-    rows_crowds::read_columns(codes, rows, dims, &mut columns);
+    rows_lists::clear_lists(lists, n);
+    rows_crowds::read_columns(rows, n, dims, &mut columns);
     let all = lattice::sets_of(dims as u32) - 1;
     let mut cells = 0;
     for k in 0..256 {
@@ -178,8 +142,8 @@ pub fn condense_rows(
             continue;
         }
         cells += list_set(
-            codes,
             rows,
+            n,
             dims,
             &columns,
             set,
@@ -190,9 +154,8 @@ pub fn condense_rows(
             &mut order,
             &mut marks,
             &mut lone,
-            sets,
-            lens,
+            lists,
         );
     }
-    rows_ready::blanks(rows) + cells
+    rows_ready::blanks(n) + cells
 }

@@ -35,22 +35,22 @@ left-next least xs n (suc s) h = refl
 
 -- ---- a set and the column of its last dimension
 
-pub record Turn (least d n : ℕ) (codes columns column rising passed : List ℕ) (s : ℕ) : Type 0 where
+pub record Turn (least d n : ℕ) (ws columns column rising passed : List ℕ) (s : ℕ) : Type 0 where
   pub low : 1 ≤ least
   pub high : least ≤ 2
   pub few : n ≤ 1024
-  pub valid : Valid d (cut d n codes)
+  pub valid : Valid d (cut d n ws)
   pub one : 1 ≤ s
   pub small : s < 256
   pub within : s < 2 ^ d
-  pub told : Columns d n codes columns
+  pub told : Columns d n ws columns
   pub is-column : column ≡ part (place s) n columns
   pub is-rising : rising ≡ part (8 + place s) n columns
-  pub passing : Passing least d n codes passed s
+  pub passing : Passing least d n ws passed s
 
-module _ {least d n : ℕ} {codes columns column rising passed : List ℕ} {s : ℕ} (x : Turn least d n codes columns column rising passed s) where
+module _ {least d n : ℕ} {ws columns column rising passed : List ℕ} {s : ℕ} (x : Turn least d n ws columns column rising passed s) where
   abbrev xs : List (List ℕ)
-  xs = cut d n codes
+  xs = cut d n ws
 
   last : place s < d
   last = shorter-place s (x .one) (x .small) d (x .within)
@@ -60,13 +60,13 @@ module _ {least d n : ℕ} {codes columns column rising passed : List ℕ} {s : 
 
   pub turn-refined : Refined n (key (shorter s) xs) (codeIn column) (key s xs)
   turn-refined = subst (λ (l : List ℕ). Refined n (key (shorter s) xs) (codeIn l) (key s xs)) (sym by-last)
-      (last-refined d n (place s) s (shorter s) codes (x .valid) last (shorter-last s (x .one) (x .small)) (shorter-and s (x .one) (x .small)))
+      (last-refined d n (place s) s (shorter s) ws (x .valid) last (shorter-last s (x .one) (x .small)) (shorter-and s (x .one) (x .small)))
 
   pub turn-small : (i : ℕ) → getD column i 0 < 65536
   turn-small = subst (λ (l : List ℕ). (i : ℕ) → getD l i 0 < 65536) (sym by-last) (column-small d (place s) xs (x .valid))
 
   pub turn-column : length column ≡ n
-  turn-column = ap length by-last ∙ column-length (place s) xs ∙ cut-length d n codes
+  turn-column = ap length by-last ∙ column-length (place s) xs ∙ cut-length d n ws
 
   pub turn-rising : rising ≡ arranged (codeIn column) n
   turn-rising = x .is-rising ∙ x .told .order (place s) last ∙ ap (λ (l : List ℕ). arranged (codeIn l) n) (sym by-last)
@@ -76,7 +76,7 @@ module _ {least d n : ℕ} {codes columns column rising passed : List ℕ} {s : 
   module _ (single : size s ≡ 1) (more : n ≢ 1) where
     -- nothing else tells the rows apart
     alike-first : (i j : ℕ) → i < n → j < n → earlier (codeIn column i) (codeIn column j) ≡ earlier (key s xs i) (key s xs j)
-    alike-first i j h k = sym (turn-refined .equal i j h k (subst (λ (t : ℕ). key t xs i ≡ key t xs j) (sym (shorter-none s (x .one) (x .small) single)) (key-none d n codes (x .valid) i j h k)))
+    alike-first i j h k = sym (turn-refined .equal i j h k (subst (λ (t : ℕ). key t xs i ≡ key t xs j) (sym (shorter-none s (x .one) (x .small) single)) (key-none d n ws (x .valid) i j h k)))
 
     in-order : arranged (codeIn column) n ≡ arranged (key s xs) n
     in-order = arranged-same (codeIn column) (key s xs) n alike-first
@@ -98,7 +98,7 @@ module _ {least d n : ℕ} {codes columns column rising passed : List ℕ} {s : 
     unfolding loneRows loners
     left-one = left-next least xs n s (x .one) ∙ ap (λ (t : ℕ). loneRows least (key t xs) (key s xs) n) (shorter-none s (x .one) (x .small) single)
         ∙ keep-same (parted least (key 0 xs) (key s xs) n) (λ y. not (shares least (key s xs) n y)) (arranged (key s xs) n)
-        (λ y m. ap (λ (b : Bool). b && not (shares least (key s xs) n y)) (first-shares d n codes (x .valid) least (x .high) more y (arranged-in (key s xs) n m)))
+        (λ y m. ap (λ (b : Bool). b && not (shares least (key s xs) n y)) (first-shares d n ws (x .valid) least (x .high) more y (arranged-in (key s xs) n m)))
 
     pub one-left : loneFrom (codeIn column) least true rising ≡ keep (stays passed) (leftOut least xs n s)
     one-left =

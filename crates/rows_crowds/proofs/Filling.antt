@@ -22,7 +22,7 @@ use Rattle.rows_order.specs.Index.{key, arranged}
 use Rattle.rows_order.proofs.Sorted.{stable-in}
 use Rattle.rows_slots.specs.Slots.{crowds, packed, rowIn, endIn, codeIn, slotFrom, loneFrom, out, markIn, markKey, splitOrder, Slot}
 use Rattle.rows_slots.proofs.Split.{slot-same, lone-same, split-kept, split-left}
-use Rattle.rows_slots.proofs.Slotted.{slot-few, slot-in}
+use Rattle.rows_marks.proofs.Slotted.{slot-few, slot-in}
 use Rattle.rows_crowds.specs.Crowds.{part, Passing, shorter, leftOut, Holds, Filled, ends}
 use Rattle.rows_crowds.proofs.Column.{Turn, left-next, turn-refined, turn-small, turn-column, turn-rising}
 use Rattle.rows_crowds.proofs.Parts.{part-here, part-other}
@@ -32,14 +32,14 @@ below-all d h l = omega (arith, l, pow-mono {i = d} {j = 8} h)
 
 -- ---- the groups of the set without its last dimension are split
 
-pub record Next (least d n : ℕ) (codes columns column rising passed store sizes : List ℕ) (s : ℕ) (old : List ℕ) : Type 0 where
-  pub turn : Turn least d n codes columns column rising passed s
-  pub held : Holds least d n codes store sizes (shorter s)
+pub record Next (least d n : ℕ) (ws columns column rising passed store sizes : List ℕ) (s : ℕ) (old : List ℕ) : Type 0 where
+  pub turn : Turn least d n ws columns column rising passed s
+  pub held : Holds least d n ws store sizes (shorter s)
   pub is-old : old ≡ part (shorter s) (getD sizes (shorter s) 0) store
 
-module _ {least d n : ℕ} {codes columns column rising passed store sizes : List ℕ} {s : ℕ} {old : List ℕ} (x : Next least d n codes columns column rising passed store sizes s old) where
+module _ {least d n : ℕ} {ws columns column rising passed store sizes : List ℕ} {s : ℕ} {old : List ℕ} (x : Next least d n ws columns column rising passed store sizes s old) where
   abbrev xs : List (List ℕ)
-  xs = cut d n codes
+  xs = cut d n ws
 
   few : n ≤ 1024
   few = x .turn .few
@@ -88,15 +88,15 @@ module _ {least d n : ℕ} {codes columns column rising passed store sizes : Lis
 
 -- ---- a slot is filled
 
-module _ (least d n : ℕ) (codes store sizes p : List ℕ) (s a k len : ℕ) (few : n ≤ 1024) (low : s < 256) (room : 262144 ≤ length store) (places : 256 ≤ length sizes)
-    (ea : a ≡ s * 1024) (ek : length p ≡ k) (whole : k ≡ 1024) (small : len ≤ n) (g : take len p ≡ packed (crowds least (key s (cut d n codes)) n)) where
+module _ (least d n : ℕ) (ws store sizes p : List ℕ) (s a k len : ℕ) (few : n ≤ 1024) (low : s < 256) (room : 262144 ≤ length store) (places : 256 ≤ length sizes)
+    (ea : a ≡ s * 1024) (ek : length p ≡ k) (whole : k ≡ 1024) (small : len ≤ n) (g : take len p ≡ packed (crowds least (key s (cut d n ws)) n)) where
   abbrev over : List ℕ
   over = take a store ++ (p ++ drop k (drop a store))
 
   fits : a + k ≤ length store
   fits = omega (arith, ea, whole, low, room)
 
-  pub filled : Filled least d n codes store sizes over (set sizes s len) s
+  pub filled : Filled least d n ws store sizes over (set sizes s len) s
   filled = record {
     here = record {
       few = rw (getD-set-same sizes s len 0 (omega (arith, low, places))) small;
@@ -132,5 +132,5 @@ none-passed x = ap not (has-none none zeros x)
         (λ t. getD-replicate 32 i 0 0 (ltb-true i 32 t))
         (λ t. List·getD-eq-default none 0 {n = i} (omega (arith, none-long, ltb-false i 32 t)))
 
-pub passing-none : (least d n : ℕ) (codes : List ℕ) (s : ℕ) → Passing least d n codes none s
-passing-none least d n codes s = record { room = none-long; sound = λ x h t. none-passed x; first = λ e x. none-passed x; next = λ e f x h. none-passed x }
+pub passing-none : (least d n : ℕ) (ws : List ℕ) (s : ℕ) → Passing least d n ws none s
+passing-none least d n ws s = record { room = none-long; sound = λ x h t. none-passed x; first = λ e x. none-passed x; next = λ e f x h. none-passed x }

@@ -20,15 +20,15 @@ use Rattle.rows_slots.specs.Slots.{peer, shares, allRows}
 use Rattle.rows_slots.proofs.Last.{key-none}
 use Rattle.rows_slots.proofs.Stable.{arranged-kept, stable-same}
 
-module _ (d n : ℕ) (codes : List ℕ) (v : Valid d (cut d n codes)) where
+module _ (d n : ℕ) (ws : List ℕ) (v : Valid d (cut d n ws)) where
   abbrev xs : List (List ℕ)
-  xs = cut d n codes
+  xs = cut d n ws
 
   pub first-shares : (least : ℕ) → least ≤ 2 → n ≢ 1 → (x : ℕ) → x < n → shares least (key 0 xs) n x ≡ true
   unfolding shares
   first-shares least high more x h =
       let all = keep-all (peer (key 0 xs) x) (arranged (key 0 xs) n)
-      (λ y m. subst (λ (c : List ℕ). same (key 0 xs x) c ≡ true) (key-none d n codes v x y h (arranged-in (key 0 xs) n m)) (same-refl (key 0 xs x))) in
+      (λ y m. subst (λ (c : List ℕ). same (key 0 xs x) c ≡ true) (key-none d n ws v x y h (arranged-in (key 0 xs) n m)) (same-refl (key 0 xs x))) in
       ap (λ (l : List ℕ). leb least (length l)) all ∙ ap (leb least) (arranged-length (key 0 xs) n) ∙ le-leb least n (omega (arith, high, more, h))
 
 -- ---- two keys of the same order

@@ -2,7 +2,7 @@
 use mathlib.Core.Path.{_≡_, refl, sym, ap, subst, _∙_}
 use mathlib.Core.Logic.{_≢_, _⊎_, inl, inr}
 use mathlib.Core.Bool.{Bool, true, false, not}
-use mathlib.Core.List.{List, [], _∷_, _++_, List·Memᴰ·head, List·Memᴰ·tail, List·Memᴰ·not-nil, List·Memᴰ·append-cases, Memᴰ·append-left, Memᴰ·append-right}
+use mathlib.Core.List.{List, [], _∷_, _++_, List·Memᴰ·head, List·Memᴰ·tail, Memᴰ·append-left, Memᴰ·append-right}
 use Prim.Native.Nat.{ℕ, zero, suc, _+_, _*_, _≤_, _<_}
 use native.Mathlib.Omega.{arith}
 use lib.Dec.{leb}
@@ -14,12 +14,12 @@ use Rattle.lists.proofs.Members.{keep-in, keep-of, at-in}
 use Rattle.lists.proofs.Pairwise.{pairwise-keep}
 use Rattle.lists.proofs.Order.{same-eq}
 use Rattle.lattice.specs.Sets.{sets}
-use Rattle.cube.specs.Codes.{plain, cell}
+use Rattle.cube.specs.Codes.{plain}
 use Rattle.cube.specs.Cube.{within}
 use Rattle.cube.specs.Condensed.{single, shared, Base}
 use Rattle.cube.proofs.Codes.{plain-laws}
 use Rattle.cube.proofs.Normals.{shared-single}
-use Rattle.rows.specs.Rows.{cut, rowAt}
+use Rattle.rows.specs.Rows.{width, cut, rowAt}
 use Rattle.rows.proofs.Rows.{cut-length}
 use Rattle.rows_order.specs.Index.{key, arranged, Indexed}
 use Rattle.rows_runs.specs.Runs.{Run, members, runs}
@@ -28,6 +28,7 @@ use Rattle.rows_runs.proofs.Runs.{cellOf, runs-whole}
 use Rattle.rows_runs.proofs.Indexed.{indexed-length, indexed-shared}
 use Rattle.rows_slots.specs.Slots.{flat, large, crowds, shares, parted, loners, loneRows, pack, packed}
 use Rattle.rows_slots.proofs.Groups.{flat-runs, shares-large}
+use Rattle.rows_slots.proofs.Rising.{flat-in}
 use Rattle.rows_slots.proofs.Entries.{crowds-below}
 use Rattle.rows_crowds.specs.Crowds.{shorter, leftOut, ends}
 
@@ -80,21 +81,14 @@ ends-packed (r ∷ rs) h =
       ends-packed rs (λ y i. h y (Memᴰ·append-right (members r) i)),
     )
 
--- a row of runs is one of a run
-flat-run : {x : ℕ} (rs : List Run) → x ∈ flat rs → (r : Run) × (r ∈ rs) × (x ∈ members r)
-flat-run [] m = absurd (List·Memᴰ·not-nil m)
-flat-run (r ∷ rs) m = cases (List·Memᴰ·append-cases (members r) m)
-    (λ i. (r, List·Memᴰ·head refl, i))
-    (λ i. let q = flat-run rs i in (q .0, List·Memᴰ·tail (q .1), q .2))
-
-module _ (d n s : ℕ) (codes : List ℕ) (size : n * d ≡ length codes) (few : n ≤ 1024) (b : Base (plain d) (cut d n codes)) where
+module _ (d n s : ℕ) (ws : List ℕ) (size : n * width d ≡ length ws) (few : n ≤ 1024) (b : Base (plain d) (cut d n ws)) where
   abbrev rows : List (List ℕ)
-  rows = cut d n codes
+  rows = cut d n ws
 
   abbrev keys : ℕ → List ℕ
-  keys = key s (cut d n codes)
+  keys = key s (cut d n ws)
 
-  index : Indexed n d s codes (arranged keys n)
+  index : Indexed n d s ws (arranged keys n)
   index = record { size = size; places = arranged-length keys n; order = refl }
 
   -- as many as there are shared cells
@@ -111,7 +105,7 @@ module _ (d n s : ℕ) (codes : List ℕ) (size : n * d ≡ length codes) (few :
   shares-single x h node =
       let l = arranged keys n in
       let m : x ∈ flat (runs keys l) = subst (λ (z : List ℕ). x ∈ z) (sym (flat-runs keys l)) (arranged-of keys n h) in
-      let r = flat-run (runs keys l) m in
+      let r = flat-in (runs keys l) m in
       let i = subst (λ (z : List ℕ). x ∈ z) (runs-whole keys l (arranged-ordered keys n) (r .1)) (r .2) in
       let e : cellOf keys (r .0) ≡ keys x = same-eq (cellOf keys (r .0)) (keys x) (keep-in (alike keys (cellOf keys (r .0))) l i .1) in
       shares-large keys n 2 (r .0) (r .1) x (r .2)

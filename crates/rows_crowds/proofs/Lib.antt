@@ -7,4 +7,3 @@ pub mod First
 pub mod Column
 pub mod Filling
 pub mod Turns
-pub mod Completing

@@ -1,7 +1,7 @@
 -- A loop over the 256 sets in lattice order, of which those below m have a turn: the slots of the sets that had one are filled.
 use mathlib.Core.Path.{_≡_, refl, sym, ap, subst, _∙_}
 use mathlib.Core.Bool.{true}
-use mathlib.Core.List.{List, [], _∷_, _++_, append-nil, List·Memᴰ·head, List·Memᴰ·tail, List·Memᴰ·append-cases, List·Memᴰ·not-nil}
+use mathlib.Core.List.{List, [], _∷_, _++_, append-nil, List·Memᴰ·append-cases, List·Memᴰ·not-nil, List·Memᴰ·eq-of-singleton}
 use Prim.Native.Nat.{ℕ, _+_, _≤_, _<_}
 use native.Mathlib.Omega.{arith}
 use lib.Dec.{eqb, ltb}
@@ -19,10 +19,6 @@ use Rattle.lattice.proofs.Turns.{from-on, from-off, from-done}
 use Rattle.rows_crowds.specs.Crowds.{shorter, Holds, AllHold, Filled}
 use Rattle.rows_crowds.proofs.Shorter.{shorter-before, rising-front, shorter-less}
 
-only-one : {s t : ℕ} → t ∈ s ∷ [] → t ≡ s
-only-one (List·Memᴰ·head q) = q
-only-one (List·Memᴰ·tail j) = absurd (List·Memᴰ·not-nil j)
-
 pub all-rising : (m : ℕ) → Rising before (setsFrom m 0)
 unfolding setsFrom
 all-rising m = pairwise-keep (λ s t. before s t ≡ true) (λ s. ltb s m) (sets 8) (sets-rising 8)
@@ -39,24 +35,24 @@ shorter-done m done rest s h one l e =
     (subst (λ (z : List ℕ). shorter s ∈ z) (sym e) (all-of m h (omega (arith, shorter-less s one small, l))))
     (shorter-before s one small)
 
-pub record Filling (least d n : ℕ) (codes store sizes : List ℕ) (m k : ℕ) : Type 0 where
+pub record Filling (least d n : ℕ) (ws store sizes : List ℕ) (m k : ℕ) : Type 0 where
   pub below : k ≤ 256
   pub done : List ℕ
   pub left : done ++ setsFrom m k ≡ setsFrom m 0
-  pub held : (t : ℕ) → t ∈ done → Holds least d n codes store sizes t
+  pub held : (t : ℕ) → t ∈ done → Holds least d n ws store sizes t
 
-module _ {least d n : ℕ} {codes : List ℕ} {m : ℕ} (few : m ≤ 256) where
-  pub filling-start : (store sizes : List ℕ) → Filling least d n codes store sizes m 0
+module _ {least d n : ℕ} {ws : List ℕ} {m : ℕ} (few : m ≤ 256) where
+  pub filling-start : (store sizes : List ℕ) → Filling least d n ws store sizes m 0
   filling-start store sizes = record { below = omega arith; done = []; left = refl; held = λ t i. absurd (List·Memᴰ·not-nil i) }
 
-  module _ {store sizes : List ℕ} {k : ℕ} (f : Filling least d n codes store sizes m k) where
-    pub filling-done : 256 ≤ k → AllHold least d n codes store sizes m
+  module _ {store sizes : List ℕ} {k : ℕ} (f : Filling least d n ws store sizes m k) where
+    pub filling-done : 256 ≤ k → AllHold least d n ws store sizes m
     filling-done h =
         let e : f .done ≡ setsFrom m 0 = sym (append-nil (f .done)) ∙ ap (λ (l : List ℕ). f .done ++ l) (sym (from-done m k h)) ∙ f .left in
         record { all = λ s l. f .held s (subst (λ (z : List ℕ). s ∈ z) (sym e) (all-of m few l)) }
 
     module _ {s : ℕ} (h : k < 256) (e : s ≡ getD (sets 8) k 0) where
-      pub filling-skip : m ≤ s → Filling least d n codes store sizes m (k + 1)
+      pub filling-skip : m ≤ s → Filling least d n ws store sizes m (k + 1)
       filling-skip l = record {
         below = omega arith;
         done = f .done;
@@ -68,15 +64,15 @@ module _ {least d n : ℕ} {codes : List ℕ} {m : ℕ} (few : m ≤ 256) where
         next : f .done ++ s ∷ setsFrom m (k + 1) ≡ setsFrom m 0
         next = rw e (ap (λ (z : List ℕ). f .done ++ z) (sym (from-on m k h (rw e at l))) ∙ f .left)
 
-        pub filling-shorter : 1 ≤ s → Holds least d n codes store sizes (shorter s)
+        pub filling-shorter : 1 ≤ s → Holds least d n ws store sizes (shorter s)
         filling-shorter one = f .held (shorter s) (shorter-done m (f .done) (setsFrom m (k + 1)) s few one l next)
 
-        pub filling-more : {store₂ sizes₂ : List ℕ} → Filled least d n codes store sizes store₂ sizes₂ s → Filling least d n codes store₂ sizes₂ m (k + 1)
+        pub filling-more : {store₂ sizes₂ : List ℕ} → Filled least d n ws store sizes store₂ sizes₂ s → Filling least d n ws store₂ sizes₂ m (k + 1)
         filling-more g = record {
           below = omega arith;
           done = f .done ++ s ∷ [];
           left = append-snoc (f .done) s (setsFrom m (k + 1)) ∙ next;
           held = λ t i. cases (truth (eqb t s))
               (λ q. rw (eqb-true t s q) (g .here))
-              (λ q. g .others least t (eqb-false t s q) (cases (List·Memᴰ·append-cases (f .done) i) (λ j. f .held t j) (λ j. absurd (eqb-false t s q (only-one j)))));
+              (λ q. g .others least t (eqb-false t s q) (cases (List·Memᴰ·append-cases (f .done) i) (λ j. f .held t j) (λ j. absurd (eqb-false t s q (List·Memᴰ·eq-of-singleton j)))));
         }

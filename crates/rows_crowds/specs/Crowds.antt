@@ -26,14 +26,14 @@ use Rattle.rows_slots.specs.Slots.{crowds, shares, loners, loneRows, packed, en
 abbrev pub part : ℕ → ℕ → List ℕ → List ℕ
 part i n l = take n (drop (i * 1024) l)
 
-pub record Columns (d n : ℕ) (codes columns : List ℕ) : Type 0 where
+pub record Columns (d n : ℕ) (ws columns : List ℕ) : Type 0 where
   pub room : 16384 ≤ length columns
-  pub column : (i : ℕ) → i < d → part i n columns ≡ columnOf i (cut d n codes)
-  pub order : (i : ℕ) → i < d → part (8 + i) n columns ≡ arranged (codeIn (columnOf i (cut d n codes))) n
+  pub column : (i : ℕ) → i < d → part i n columns ≡ columnOf i (cut d n ws)
+  pub order : (i : ℕ) → i < d → part (8 + i) n columns ≡ arranged (codeIn (columnOf i (cut d n ws))) n
 
-pub record Passing (least d n : ℕ) (codes passed : List ℕ) (s : ℕ) : Type 0 where
+pub record Passing (least d n : ℕ) (ws passed : List ℕ) (s : ℕ) : Type 0 where
   pub room : length passed ≡ 32
-  pub sound : (x : ℕ) → x < n → shares least (key s (cut d n codes)) n x ≡ true → stays passed x ≡ true
+  pub sound : (x : ℕ) → x < n → shares least (key s (cut d n ws)) n x ≡ true → stays passed x ≡ true
   pub first : s ≡ 0 → (x : ℕ) → stays passed x ≡ true
   pub next : size s ≡ 1 → n ≢ 1 → (x : ℕ) → x < n → stays passed x ≡ true
 
@@ -51,13 +51,13 @@ abbrev pub ends : List ℕ → ℕ
 ends [] = 0
 ends (e ∷ l) = endIn e + ends l
 
-pub record Holds (least d n : ℕ) (codes slots sizes : List ℕ) (s : ℕ) : Type 0 where
+pub record Holds (least d n : ℕ) (ws slots sizes : List ℕ) (s : ℕ) : Type 0 where
   pub few : getD sizes s 0 ≤ n
-  pub slot : part s (getD sizes s 0) slots ≡ packed (crowds least (key s (cut d n codes)) n)
+  pub slot : part s (getD sizes s 0) slots ≡ packed (crowds least (key s (cut d n ws)) n)
 
-pub record AllHold (least d n : ℕ) (codes slots sizes : List ℕ) (m : ℕ) : Type 0 where
-  pub all : (s : ℕ) → s < m → Holds least d n codes slots sizes s
+pub record AllHold (least d n : ℕ) (ws slots sizes : List ℕ) (m : ℕ) : Type 0 where
+  pub all : (s : ℕ) → s < m → Holds least d n ws slots sizes s
 
-pub record Filled (least d n : ℕ) (codes slots sizes slots₂ sizes₂ : List ℕ) (s : ℕ) : Type 0 where
-  pub here : Holds least d n codes slots₂ sizes₂ s
-  pub others : (k t : ℕ) → t ≢ s → Holds k d n codes slots sizes t → Holds k d n codes slots₂ sizes₂ t
+pub record Filled (least d n : ℕ) (ws slots sizes slots₂ sizes₂ : List ℕ) (s : ℕ) : Type 0 where
+  pub here : Holds least d n ws slots₂ sizes₂ s
+  pub others : (k t : ℕ) → t ≢ s → Holds k d n ws slots sizes t → Holds k d n ws slots₂ sizes₂ t

@@ -1,19 +1,18 @@
 -- One row of the pass, in flat lists: the row that is stored behind those done is the next one of the merge.
-use mathlib.Core.Path.{_≡_, refl, sym, ap, ap₂, subst, _∙_}
+use mathlib.Core.Path.{_≡_, refl, sym, ap, subst, _∙_}
 use mathlib.Core.List.{List, [], _∷_, _++_}
 use Prim.Native.Nat.{ℕ, suc, _+_, _*_, _≤_, _<_}
-use native.Mathlib.Nat.{suc-mul, mul-le-mul}
+use native.Mathlib.Nat.{suc-mul}
 use native.Mathlib.Omega.{arith}
-use lib.IntN.{ℤ, pos}
 use lib.ListN.{length, getD, drop, length-drop, drop-of-length-le}
 use Rattle.lists.proofs.Members.{at-in}
 use Rattle.cube.specs.declared.Total.{Total}
 use Rattle.cube.specs.Measure.{Row, plus, sums, codesOf}
-use Rattle.cube.specs.Bounds.{most, Bounded, Summable}
+use Rattle.cube.specs.Bounds.{most, Bounded}
 use Rattle.cube.specs.Codes.{cell}
-use Rattle.rows.specs.Rows.{cut, rowAt, rowsOf}
-use Rattle.rows.proofs.Rows.{rows-codes}
-use Rattle.rows.proofs.Flat.{blank, rows-length, rows-at}
+use Rattle.rows.specs.Rows.{width, cut, rowAt, rowsOf, rowTotal}
+use Rattle.rows.proofs.Rows.{rows-codes, rows-small}
+use Rattle.rows.proofs.Flat.{blank, rows-length}
 use Rattle.rows_ready.proofs.Ready.{ready-row}
 use Rattle.archive_entries.proofs.Limits.{count-le}
 use Rattle.rows_merge.specs.declared.Turn.{Turn}
@@ -25,69 +24,55 @@ use Rattle.rows_merge.proofs.Merging.{merging-start, merging-done, merg
 use Rattle.rows_merge.proofs.Turns.{left-first, left-second, left-both, merging-first, merging-second, merging-both}
 
 -- a store of 1,024 rows has room for row k
-pub store-room : (d k : ℕ) → d ≤ 8 → k < 1024 → k * d + d ≤ 8192
-store-room d k h l = let m = mul-le-mul l h in rw (← suc-mul k d) (omega (arith, m))
+pub store-room : (d k : ℕ) → d ≤ 8 → k < 1024 → k * width d + width d ≤ 11264
+store-room d k h l = rw (← suc-mul k (width d)) (rows-small d (suc k) h l)
 
--- a row of rows that can be totalled
-bounded-at : (rows : List (Row Total)) (i : ℕ) {r : Row Total} → Summable rows → i < length rows → getD rows i blank ≡ r → Bounded (r .total)
-bounded-at rows i s h e = subst (λ (r : Row Total). Bounded (r .total)) e (s .each (getD rows i blank) (at-in blank rows i h))
-
-module _ {d : ℕ} {codes : List ℕ} {amounts : List ℤ} {counts codes′ : List ℕ} {amounts′ : List ℤ} {counts′ : List ℕ} (p : Pair d codes amounts counts codes′ amounts′ counts′) where
+module _ {d n : ℕ} {ws : List ℕ} {m : ℕ} {ws′ : List ℕ} (p : Pair d n ws m ws′) where
   abbrev first : List (Row Total)
-  first = rowsOf d (length counts) codes amounts counts
+  first = rowsOf d n ws
 
   abbrev second : List (Row Total)
-  second = rowsOf d (length counts′) codes′ amounts′ counts′
-
-  abbrev firsts : ℕ
-  firsts = length counts
-
-  abbrev seconds : ℕ
-  seconds = length counts′
+  second = rowsOf d m ws′
 
   -- the total of row i of the first list, and of row j of the second
   abbrev mine : ℕ → Total
-  mine i = record { sum = getD amounts i (pos 0); count = getD counts i 0 }
+  mine = rowTotal d n ws
 
   abbrev other : ℕ → Total
-  other j = record { sum = getD amounts′ j (pos 0); count = getD counts′ j 0 }
+  other = rowTotal d m ws′
 
   -- two rows can be added
-  pub pair-adds : (i j : ℕ) → i < firsts → j < seconds → Bounded (mine i) × Bounded (other j) × (mine i .count + other j .count ≤ most)
+  pub pair-adds : (i j : ℕ) → i < n → j < m → Bounded (mine i) × Bounded (other j) × (mine i .count + other j .count ≤ most)
+  unfolding rowTotal
   pair-adds i j h k =
-      let e = rows-at d firsts i codes amounts counts h in
-      let f = rows-at d seconds j codes′ amounts′ counts′ k in
-      let n : i < length first = omega (arith, h, rows-length d firsts codes amounts counts) in
-      let m : j < length second = omega (arith, k, rows-length d seconds codes′ amounts′ counts′) in (
-        bounded-at first i (p .one .summable) n e,
-        bounded-at second j (p .other .summable) m f,
-        omega (arith, ap (λ (r : Row Total). r .total .count) e, ap (λ (r : Row Total). r .total .count) f, p .few, count-le first (at-in blank first i n), count-le second (at-in blank second j m)),
-      )
+      let x = at-in blank first i (omega (arith, h, rows-length d n ws)) in
+      let y = at-in blank second j (omega (arith, k, rows-length d m ws′)) in
+      (p .one .summable .each (getD first i blank) x, p .other .summable .each (getD second j blank) y, omega (arith, p .few, count-le first x, count-le second y))
 
   module _ (i j : ℕ) where
     -- whose turn it is, by the codes of both lists
     abbrev here : Turn
-    here = turn (drop i (cut d firsts codes)) (drop j (cut d seconds codes′))
+    here = turn (drop i (cut d n ws)) (drop j (cut d m ws′))
 
     by-rows : {t : Turn} → here ≡ t → turn (drop i (codesOf first)) (drop j (codesOf second)) ≡ t
-    by-rows e = rw (rows-codes d firsts codes amounts counts, rows-codes d seconds codes′ amounts′ counts′) e
+    by-rows e = rw (rows-codes d n ws, rows-codes d m ws′) e
 
-    pub turn-first : here ≡ First → i < firsts
-    turn-first e = omega (arith, left-first sums blank first second i j (by-rows e), rows-length d firsts codes amounts counts)
+    pub turn-first : here ≡ First → i < n
+    turn-first e = omega (arith, left-first sums blank first second i j (by-rows e), rows-length d n ws)
 
-    pub turn-second : here ≡ Second → i ≤ firsts → i + j < firsts + seconds → j < seconds
+    pub turn-second : here ≡ Second → i ≤ n → i + j < n + m → j < m
     turn-second e h k =
-        let n = rows-length d firsts codes amounts counts in
-        let m = rows-length d seconds codes′ amounts′ counts′ in
-        omega (arith, m, left-second sums blank first second i j (by-rows e) (omega (arith, n, h)) (omega (arith, n, m, k)))
+        let x = rows-length d n ws in
+        let y = rows-length d m ws′ in
+        omega (arith, y, left-second sums blank first second i j (by-rows e) (omega (arith, x, h)) (omega (arith, x, y, k)))
 
-    pub turn-both : here ≡ Both → (i < firsts) × (j < seconds)
+    pub turn-both : here ≡ Both → (i < n) × (j < m)
     turn-both e =
         let l = left-both sums blank first second i j (by-rows e) in
-        (omega (arith, l .0, rows-length d firsts codes amounts counts), omega (arith, l .1, rows-length d seconds codes′ amounts′ counts′))
+        (omega (arith, l .0, rows-length d n ws), omega (arith, l .1, rows-length d m ws′))
 
-    module _ {done done′ : List (Row Total)} {x : List ℕ} {t : Total} (g : Passed d codes amounts counts codes′ amounts′ counts′ i j done) (s : done′ ≡ done ++ record { codes = cell 255 x; total = t } ∷ []) where
-      pub passed-first : here ≡ First → x ≡ rowAt (cut d firsts codes) i → t ≡ mine i → Passed d codes amounts counts codes′ amounts′ counts′ (i + 1) j done′
+    module _ {done done′ : List (Row Total)} {x : List ℕ} {t : Total} (g : Passed d n ws m ws′ i j done) (s : done′ ≡ done ++ record { codes = cell 255 x; total = t } ∷ []) where
+      pub passed-first : here ≡ First → x ≡ rowAt (cut d n ws) i → t ≡ mine i → Passed d n ws m ws′ (i + 1) j done′
       passed-first e q f =
           let h = turn-first e in
           record {
@@ -97,20 +82,21 @@ module _ {d : ℕ} {codes : List ℕ} {amounts : List ℤ} {counts codes′ : Li
                 (merging-first sums blank first second i j done (g .merging) (by-rows e));
           }
 
-      pub passed-second : here ≡ Second → j < seconds → x ≡ rowAt (cut d seconds codes′) j → t ≡ other j → Passed d codes amounts counts codes′ amounts′ counts′ i (j + 1) done′
+      pub passed-second : here ≡ Second → j < m → x ≡ rowAt (cut d m ws′) j → t ≡ other j → Passed d n ws m ws′ i (j + 1) done′
       passed-second e h q f = record {
         of-one = g .of-one;
         of-other = omega (arith, h);
         merging = subst (λ (l : List (Row Total)). Merging sums first second l (drop i first) (drop (j + 1) second)) (sym (s ∙ ap (λ (r : Row Total). done ++ r ∷ []) (ready-row (p .other) j h q f)))
-            (merging-second sums blank first second i j done (g .merging) (by-rows e) (omega (arith, h, rows-length d seconds codes′ amounts′ counts′)));
+            (merging-second sums blank first second i j done (g .merging) (by-rows e) (omega (arith, h, rows-length d m ws′)));
       }
 
-      pub passed-both : here ≡ Both → x ≡ rowAt (cut d firsts codes) i → t ≡ plus (mine i) (other j) → Passed d codes amounts counts codes′ amounts′ counts′ (i + 1) (j + 1) done′
+      pub passed-both : here ≡ Both → x ≡ rowAt (cut d n ws) i → t ≡ plus (mine i) (other j) → Passed d n ws m ws′ (i + 1) (j + 1) done′
+      unfolding rowTotal
       passed-both e q f =
           let h = turn-both e in
           let r : record { codes = cell 255 x; total = t } ≡ asOne sums (getD first i blank) (getD second j blank) =
           ap (λ (u : Total). record { codes = cell 255 x; total = u }) f
-          ∙ ap₂ (asOne sums) (ready-row (p .one) i (h .0) q refl) (sym (rows-at d seconds j codes′ amounts′ counts′ (h .1))) in
+          ∙ ap (λ (u : Row Total). asOne sums u (getD second j blank)) (ready-row (p .one) i (h .0) q refl) in
           record {
             of-one = omega (arith, h .0);
             of-other = omega (arith, h .1);
@@ -120,22 +106,22 @@ module _ {d : ℕ} {codes : List ℕ} {amounts : List ℤ} {counts codes′ : Li
 
   -- ---- the whole pass
 
-  pub passed-start : Passed d codes amounts counts codes′ amounts′ counts′ 0 0 []
+  pub passed-start : Passed d n ws m ws′ 0 0 []
   passed-start = record { of-one = omega arith; of-other = omega arith; merging = merging-start sums first second }
 
-  module _ {i j k : ℕ} {cells : List ℕ} {totals : List ℤ} {tallies : List ℕ} (g : Passed d codes amounts counts codes′ amounts′ counts′ i j (rowsOf d k cells totals tallies)) where
+  module _ {i j k : ℕ} {cells : List ℕ} (g : Passed d n ws m ws′ i j (rowsOf d k cells)) where
     -- a full store with a row left
-    pub passed-over : k ≡ 1024 → i + j < firsts + seconds → Collected 1024 (merged sums first second) d 1025 cells totals tallies
+    pub passed-over : k ≡ 1024 → i + j < n + m → Collected 1024 (merged sums first second) d 1025 cells
     passed-over e h =
-        let l = merging-longer sums first second (rowsOf d k cells totals tallies) (drop i first) (drop j second) (g .merging) in
+        let l = merging-longer sums first second (rowsOf d k cells) (drop i first) (drop j second) (g .merging) in
         record {
           fits = λ f. absurd (omega (arith, f));
-          more = λ f. omega (arith, l .0, l .1, e, h, rows-length d k cells totals tallies, length-drop i first, length-drop j second, rows-length d (firsts) codes amounts counts, rows-length d (seconds) codes′ amounts′ counts′);
+          more = λ f. omega (arith, l .0, l .1, e, h, rows-length d k cells, length-drop i first, length-drop j second, rows-length d n ws, rows-length d m ws′);
         }
 
     -- both lists at their ends
-    pub passed-done : k ≤ 1024 → firsts + seconds ≤ i + j → Collected 1024 (merged sums first second) d k cells totals tallies
+    pub passed-done : k ≤ 1024 → n + m ≤ i + j → Collected 1024 (merged sums first second) d k cells
     passed-done h e =
-        let m : length first ≤ i = omega (arith, e, g .of-one, g .of-other, rows-length d firsts codes amounts counts) in
-        let n : length second ≤ j = omega (arith, e, g .of-one, g .of-other, rows-length d seconds codes′ amounts′ counts′) in
-        record { fits = λ f. merging-done sums first second (rowsOf d k cells totals tallies) (rw (drop-of-length-le first m, drop-of-length-le second n) at (g .merging)); more = λ f. absurd (omega (arith, f, h)) }
+        let x : length first ≤ i = omega (arith, e, g .of-one, g .of-other, rows-length d n ws) in
+        let y : length second ≤ j = omega (arith, e, g .of-one, g .of-other, rows-length d m ws′) in
+        record { fits = λ f. merging-done sums first second (rowsOf d k cells) (rw (drop-of-length-le first x, drop-of-length-le second y) at (g .merging)); more = λ f. absurd (omega (arith, f, h)) }

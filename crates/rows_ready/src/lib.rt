@@ -3,10 +3,10 @@ ghost use mathlib.Core.Path.{_≡_};
 ghost use Rattle.rows_ready.specs.Blank.{blanks};
 
 // How many cells a table of so many base rows has that no row falls in: an empty one has one.
-pub fn blanks(rows: usize) -> usize
-    ensures { λ r. ⌜ r ≡ blanks rows ⌝ }
+pub fn blanks(n: usize) -> usize
+    ensures { λ r. ⌜ r ≡ blanks n ⌝ }
 {
-    if rows == 0 {
+    if n == 0 {
         return 1;
     }
     0

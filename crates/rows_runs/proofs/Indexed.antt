@@ -1,10 +1,9 @@
 -- What an index in order gives to those who read it.
 use mathlib.Core.Path.{_≡_, refl, sym, ap, _∙_}
 use mathlib.Core.Bool.{Bool}
-use mathlib.Core.List.{List, [], _∷_, map, foldl, List·Memᴰ·head, List·Memᴰ·tail}
+use mathlib.Core.List.{List, [], _∷_, map, foldl}
 use Prim.Native.Nat.{ℕ, suc, _≤_, _<_}
 use native.Mathlib.Omega.{arith}
-use lib.IntN.{ℤ}
 use lib.Dec.{leb}
 use lib.ListN.{length, getD, drop, drop-of-length-le, length-map, List·getD-map}
 use Rattle.lists.specs.Lists.{_∈_, keep}
@@ -16,7 +15,7 @@ use Rattle.cube.specs.Cube.{within, total, cuboid}
 use Rattle.cube.specs.Condensed.{shared}
 use Rattle.cube.specs.Bounds.{Summable}
 use Rattle.cube.specs.Table.{Table}
-use Rattle.rows.specs.Rows.{cut, rowsOf}
+use Rattle.rows.specs.Rows.{cut, rowsOf, rowTotal}
 use Rattle.rows.proofs.Rows.{cut-length, rows-codes}
 use Rattle.rows_order.specs.Index.{key, arranged, Indexed}
 use Rattle.rows_runs.specs.Runs.{Run, runs}
@@ -24,90 +23,90 @@ use Rattle.rows_runs.specs.Totals.{amountAt, amountsAt, runTotal, Summed
 use Rattle.rows_order.specs.Few.{Ordered}
 use Rattle.rows_order.proofs.Arranged.{alike, arranged-ordered, arranged-in, arranged-of, arranged-below}
 use Rattle.rows_runs.proofs.Runs.{cellOf, runs-whole}
-use Rattle.rows.proofs.Flat.{blank, rows-length, rows-at}
+use Rattle.rows.proofs.Flat.{blank, rows-length}
 use Rattle.rows_runs.proofs.Counts.{arranged-summable}
 use Rattle.rows_runs.proofs.Groups.{cells-are, run-rows}
 
 -- the total of rows at places, by the rows themselves
-total-picked : (d n : ℕ) (codes : List ℕ) (sums : List ℤ) (counts l : List ℕ) → ((i : ℕ) → i ∈ l → i < n) → (t : Total)
-    → foldl (λ t r. plus t (r .total)) t (map (amountAt sums counts) l) ≡ foldl (λ t r. plus t (r .total)) t (map (λ i. getD (rowsOf d n codes sums counts) i blank) l)
-total-picked d n codes sums counts [] h t = refl
-total-picked d n codes sums counts (i ∷ l) h t =
-    rw (rows-at d n i codes sums counts (h i (List·Memᴰ·head refl)))
-    (total-picked d n codes sums counts l (λ j m. h j (List·Memᴰ·tail m)) (plus t (amountAt sums counts i .total)))
+total-picked : (d n : ℕ) (ws l : List ℕ) (t : Total)
+    → foldl (λ t r. plus t (r .total)) t (map (amountAt (rowTotal d n ws)) l) ≡ foldl (λ t r. plus t (r .total)) t (map (λ i. getD (rowsOf d n ws) i blank) l)
+unfolding rowTotal
+total-picked d n ws [] t = refl
+total-picked d n ws (i ∷ l) t = total-picked d n ws l (plus t (rowTotal d n ws i))
 
 -- two or more rows
 abbrev pub crowded : Run → Bool
 crowded r = leb 2 (suc (length (r .more)))
 
-module _ {rows dims set : ℕ} {codes index : List ℕ} (x : Indexed rows dims set codes index) where
+module _ {n dims set : ℕ} {ws index : List ℕ} (x : Indexed n dims set ws index) where
   abbrev keys : ℕ → List ℕ
-  keys = key set (cut dims rows codes)
+  keys = key set (cut dims n ws)
 
   pub indexed-ordered : Ordered keys index
-  indexed-ordered = rw (x .order) (arranged-ordered keys rows)
+  indexed-ordered = rw (x .order) (arranged-ordered keys n)
 
-  pub indexed-below : (i : ℕ) → i < rows → getD index i 0 < rows
-  indexed-below i h = rw (x .order) (arranged-below keys rows i h)
+  pub indexed-below : (i : ℕ) → i < n → getD index i 0 < n
+  indexed-below i h = rw (x .order) (arranged-below keys n i h)
 
   -- the index names the rows, and each of them
-  pub indexed-in : {i : ℕ} → i ∈ index → i < rows
-  indexed-in m = arranged-in keys rows (rw (x .order) at m)
+  pub indexed-in : {i : ℕ} → i ∈ index → i < n
+  indexed-in m = arranged-in keys n (rw (x .order) at m)
 
-  pub indexed-of : {i : ℕ} → i < rows → i ∈ index
-  indexed-of h = rw (x .order) (arranged-of keys rows h)
+  pub indexed-of : {i : ℕ} → i < n → i ∈ index
+  indexed-of h = rw (x .order) (arranged-of keys n h)
 
   -- no run is left
-  pub runs-done : (i : ℕ) → rows ≤ i → runs keys (drop i index) ≡ []
+  pub runs-done : (i : ℕ) → n ≤ i → runs keys (drop i index) ≡ []
   unfolding runs
   runs-done i h = rw (drop-of-length-le index {i = i} (omega (arith, x .places)))
 
   -- the keys of the runs are the cells of the set
-  pub indexed-cells : map (cellOf keys) (runs keys index) ≡ cuboid (plain dims) (cut dims rows codes) set
+  pub indexed-cells : map (cellOf keys) (runs keys index) ≡ cuboid (plain dims) (cut dims n ws) set
   indexed-cells =
-      ap (λ (l : List ℕ). map (cellOf keys) (runs keys l)) (x .order ∙ ap (arranged keys) (sym (cut-length dims rows codes)))
-      ∙ cells-are dims set (cut dims rows codes)
+      ap (λ (l : List ℕ). map (cellOf keys) (runs keys l)) (x .order ∙ ap (arranged keys) (sym (cut-length dims n ws)))
+      ∙ cells-are dims set (cut dims n ws)
 
   module _ {r : Run} (m : r ∈ runs keys index) where
-    run-below : (i : ℕ) → i ∈ r .first ∷ r .more → i < rows
-    run-below i n = indexed-in (keep-in (alike keys (cellOf keys r)) index (rw (runs-whole keys index indexed-ordered m) at n) .0)
+    run-below : (i : ℕ) → i ∈ r .first ∷ r .more → i < n
+    run-below i k = indexed-in (keep-in (alike keys (cellOf keys r)) index (rw (runs-whole keys index indexed-ordered m) at k) .0)
 
     -- a run has as many rows as fall in its cell
-    pub indexed-length : ((y : List ℕ) → y ∈ cut dims rows codes → Coded dims y) → suc (length (r .more)) ≡ length (within (plain dims) (cut dims rows codes) (cellOf keys r))
+    pub indexed-length : ((y : List ℕ) → y ∈ cut dims n ws → Coded dims y) → suc (length (r .more)) ≡ length (within (plain dims) (cut dims n ws) (cellOf keys r))
     unfolding key
     indexed-length v =
-        let xs = cut dims rows codes in
+        let xs = cut dims n ws in
         sym (length-map (r .first ∷ r .more) (λ i. getD xs i []))
-        ∙ ap length (run-rows (λ y. y) [] xs dims set v keys (λ i h. refl) (rw (x .order ∙ ap (arranged keys) (sym (cut-length dims rows codes))) at m))
+        ∙ ap length (run-rows (λ y. y) [] xs dims set v keys (λ i h. refl) (rw (x .order ∙ ap (arranged keys) (sym (cut-length dims n ws))) at m))
 
   -- the keys of the runs of two or more rows are the shared cells
-  pub indexed-shared : ((y : List ℕ) → y ∈ cut dims rows codes → Coded dims y) → map (cellOf keys) (keep crowded (runs keys index)) ≡ shared (plain dims) (cut dims rows codes) set
+  pub indexed-shared : ((y : List ℕ) → y ∈ cut dims n ws → Coded dims y) → map (cellOf keys) (keep crowded (runs keys index)) ≡ shared (plain dims) (cut dims n ws) set
   unfolding shared
   indexed-shared v =
-      let many : List ℕ → Bool = λ c. leb 2 (length (within (plain dims) (cut dims rows codes) c)) in
+      let many : List ℕ → Bool = λ c. leb 2 (length (within (plain dims) (cut dims n ws) c)) in
       ap (map (cellOf keys)) (keep-same crowded (λ r. many (cellOf keys r)) (runs keys index) (λ r m. ap (leb 2) (indexed-length m v)))
       ∙ sym (keep-map many (cellOf keys) (runs keys index)) ∙ ap (keep many) indexed-cells
 
-  module _ (sums : List ℤ) (counts : List ℕ) where
-    abbrev table : List (Row Total)
-    table = rowsOf dims rows codes sums counts
+  abbrev table : List (Row Total)
+  table = rowsOf dims n ws
 
-    -- any part of the index names rows that can be totalled
-    pub indexed-summed : length sums ≡ rows → length counts ≡ rows → Summable table → (from end : ℕ) → end ≤ rows → Summed sums counts index from end
-    indexed-summed p q s from end h = record {
-      within = omega (arith, h, x .places);
-      even = q ∙ sym p;
-      below = λ j k. rw p (indexed-below j (omega (arith, k, h)));
-      room = rw (x .order) (arranged-summable sums counts dims rows codes s keys from end);
-    }
+  abbrev totals : ℕ → Total
+  totals = rowTotal dims n ws
 
-    key-codes : (i : ℕ) → keys i ≡ cell set (getD table i blank .codes)
-    unfolding key
-    key-codes i = ap (cell set) (ap (λ (l : List (List ℕ)). getD l i []) (sym (rows-codes dims rows codes sums counts)) ∙ List·getD-map (λ q. q .codes) table i blank)
+  -- any part of the index names rows that can be totalled
+  pub indexed-summed : Summable table → (from end : ℕ) → end ≤ n → Summed totals n index from end
+  indexed-summed s from end h = record {
+    within = omega (arith, h, x .places);
+    below = λ j k. indexed-below j (omega (arith, k, h));
+    room = rw (x .order) (arranged-summable dims n ws s keys from end);
+  }
 
-    -- the total of a run is its cell's
-    pub indexed-total : Table dims table → {r : Run} → r ∈ runs keys index → runTotal sums counts (r .first ∷ r .more) ≡ total (plain dims) measure table (cellOf keys r)
-    unfolding runTotal amountsAt total
-    indexed-total t {r} m =
-        total-picked dims rows codes sums counts (r .first ∷ r .more) (run-below m) nothing
-        ∙ ap (totalOf measure) (run-rows (λ q. q .codes) blank table dims set t keys (λ i h. key-codes i) (rw (x .order ∙ ap (arranged keys) (sym (rows-length dims rows codes sums counts))) at m))
+  key-codes : (i : ℕ) → keys i ≡ cell set (getD table i blank .codes)
+  unfolding key
+  key-codes i = ap (cell set) (ap (λ (l : List (List ℕ)). getD l i []) (sym (rows-codes dims n ws)) ∙ List·getD-map (λ q. q .codes) table i blank)
+
+  -- the total of a run is its cell's
+  pub indexed-total : Table dims table → {r : Run} → r ∈ runs keys index → runTotal totals (r .first ∷ r .more) ≡ total (plain dims) measure table (cellOf keys r)
+  unfolding runTotal amountsAt total
+  indexed-total t {r} m =
+      total-picked dims n ws (r .first ∷ r .more) nothing
+      ∙ ap (totalOf measure) (run-rows (λ q. q .codes) blank table dims set t keys (λ i h. key-codes i) (rw (x .order ∙ ap (arranged keys) (sym (rows-length dims n ws))) at m))

@@ -17,15 +17,15 @@ use Rattle.rows_order.specs.Index.{key, Indexed}
 use Rattle.rows_runs.specs.Runs.{runs, again}
 use Rattle.rows_runs.proofs.Refined.{Refined, order-refined, groups-refined}
 
-module _ {rows dims s t : ℕ} {codes short long : List ℕ} (x : Indexed rows dims s codes short) (y : Indexed rows dims t codes long) (g : Longer dims s t) where
+module _ {rows dims s t : ℕ} {ws short long : List ℕ} (x : Indexed rows dims s ws short) (y : Indexed rows dims t ws long) (g : Longer dims s t) where
   abbrev keys : ℕ → ℕ → List ℕ
-  keys u = key u (cut dims rows codes)
+  keys u = key u (cut dims rows ws)
 
   keys-refined : Refined rows (keys s) (keys (added t s)) (keys t)
   unfolding key
   keys-refined =
-      let row : ℕ → List ℕ = rowAt (cut dims rows codes) in
-      let size : (j : ℕ) → j < rows → length (row j) ≡ dims = λ j h. row-length dims rows j codes h (x .size) in
+      let row : ℕ → List ℕ = rowAt (cut dims rows ws) in
+      let size : (j : ℕ) → j < rows → length (row j) ≡ dims = λ j h. row-length dims rows j ws h (x .size) in
       record {
         parted = λ j k h l e.
             sym (compared-before t (row j) (row k))

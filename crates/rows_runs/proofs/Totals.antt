@@ -4,7 +4,6 @@ use mathlib.Core.List.{List, [], _∷_, foldl, List·Memᴰ·head, List·Memᴰ�
 use Prim.Native.Nat.{ℕ, _+_, _≤_, _<_}
 use native.Mathlib.Numerals.{add-one}
 use native.Mathlib.Omega.{arith}
-use lib.IntN.{ℤ}
 use lib.ListN.{length, getD, take, length-take, drop-of-length-le}
 use lib.Seq.{slice, slice-cons}
 use Rattle.lists.specs.Lists.{_∈_}
@@ -46,16 +45,16 @@ total-from t (r ∷ rows) = total-from (plus t (r .total)) rows
 
 -- ---- the rows that a part of an index names
 
-module _ (sums : List ℤ) (counts index : List ℕ) (k end : ℕ) where
-  pub total-start : totalFrom nothing (amountsAt sums counts (slice k end index)) ≡ runTotal sums counts (slice k end index)
+module _ (totals : ℕ → Total) (index : List ℕ) (k end : ℕ) where
+  pub total-start : totalFrom nothing (amountsAt totals (slice k end index)) ≡ runTotal totals (slice k end index)
   unfolding runTotal
-  total-start = total-from nothing (amountsAt sums counts (slice k end index))
+  total-start = total-from nothing (amountsAt totals (slice k end index))
 
   pub amounts-next : k < end → end ≤ length index
-      → amountsAt sums counts (slice k end index) ≡ amountAt sums counts (getD index k 0) ∷ amountsAt sums counts (slice (k + 1) end index)
+      → amountsAt totals (slice k end index) ≡ amountAt totals (getD index k 0) ∷ amountsAt totals (slice (k + 1) end index)
   unfolding amountsAt
   amounts-next h g = rw (add-one, slice-cons k end index 0 h g)
 
-  pub amounts-none : end ≤ k → amountsAt sums counts (slice k end index) ≡ []
+  pub amounts-none : end ≤ k → amountsAt totals (slice k end index) ≡ []
   unfolding amountsAt
   amounts-none h = rw (drop-of-length-le (take end index) {i = k} (simp length-take (omega arith)))

@@ -56,9 +56,9 @@ last-cell (suc d) s t (a ∷ x) (b ∷ y) l f h e =
     let n = shown (t % 2) b in
     rw digit (ap (λ (r : Bool). ltb m n || (eqb m n && r)) ih ∙ sym (decided-cons m n (cell (t / 2) x) (cell (t / 2) y) (earlier (getD x d 0 ∷ []) (getD y d 0 ∷ []))))
 
-module _ (dims n : ℕ) (codes : List ℕ) (v : Valid dims (cut dims n codes)) where
+module _ (dims n : ℕ) (ws : List ℕ) (v : Valid dims (cut dims n ws)) where
   abbrev rows : List (List ℕ)
-  rows = cut dims n codes
+  rows = cut dims n ws
 
   size : (i : ℕ) → i < n → length (rowAt rows i) ≡ dims
   size i k = coded-length dims (rowAt rows i) (v (rowAt rows i) (at-in [] rows i (rw cut-length k)))
@@ -68,12 +68,12 @@ module _ (dims n : ℕ) (codes : List ℕ) (v : Valid dims (cut dims n codes)) w
   unfolding key
   key-none i j p q = cell-none (rowAt rows i) (rowAt rows j) (size i p ∙ sym (size j q))
 
-module _ (dims n d s t : ℕ) (codes : List ℕ) (v : Valid dims (cut dims n codes)) (h : d < dims) (l : t < 2 ^ d) (f : s ≡ t + 2 ^ d) where
+module _ (dims n d s t : ℕ) (ws : List ℕ) (v : Valid dims (cut dims n ws)) (h : d < dims) (l : t < 2 ^ d) (f : s ≡ t + 2 ^ d) where
   abbrev xs : List (List ℕ)
-  xs = cut dims n codes
+  xs = cut dims n ws
 
   long : (i : ℕ) → i < n → length (rowAt xs i) ≡ dims
-  long = size dims n codes v
+  long = size dims n ws v
 
   by-last : (i j : ℕ) → i < n → j < n → earlier (key s xs i) (key s xs j) ≡ decided (key t xs i) (key t xs j) (earlier (codeIn (columnOf d xs) i) (codeIn (columnOf d xs) j))
   unfolding key

@@ -10,8 +10,6 @@ pub mod Marking
 pub mod Pruned
 pub mod Walked
 pub mod Split
-pub mod Slotted
-pub mod Standing
 pub mod Last
 pub mod Summing
 pub mod Totalled

@@ -16,16 +16,17 @@ use Rattle.rows_order.proofs.Arranged.{alike, arranged-ordered}
 use Rattle.rows_runs.proofs.Runs.{cellOf, runs-rising, runs-whole}
 use Rattle.rows_slots.specs.Slots.{flat, large, crowds}
 
+-- a row of runs is one of a run
+pub flat-in : (rs : List Run) {y : ℕ} → y ∈ flat rs → (r : Run) × (r ∈ rs) × (y ∈ members r)
+flat-in [] m = absurd (List·Memᴰ·not-nil m)
+flat-in (r ∷ rs) m = cases (List·Memᴰ·append-cases (members r) m)
+    (λ i. (r, List·Memᴰ·head refl, i))
+    (λ i. let q = flat-in rs i in (q .0, List·Memᴰ·tail (q .1), q .2))
+
 module _ (key : ℕ → List ℕ) where
   abbrev pub Split : List Run → Type 0
   Split [] = Unit {0}
   Split (r ∷ rs) = ((x : ℕ) → x ∈ members r → key x ≡ key (r .first)) × ((y : ℕ) → y ∈ flat rs → earlier (key (r .first)) (key y) ≡ true) × Split rs
-
-  flat-in : (rs : List Run) {y : ℕ} → y ∈ flat rs → (r : Run) × (r ∈ rs) × (y ∈ members r)
-  flat-in [] m = absurd (List·Memᴰ·not-nil m)
-  flat-in (r ∷ rs) m = cases (List·Memᴰ·append-cases (members r) m)
-      (λ i. (r, List·Memᴰ·head refl, i))
-      (λ i. let q = flat-in rs i in (q .0, List·Memᴰ·tail (q .1), q .2))
 
   split-of : (rs : List Run) → ((r : Run) → r ∈ rs → (x : ℕ) → x ∈ members r → key x ≡ key (r .first)) → Pairwise (λ r s. earlier (cellOf key r) (cellOf key s) ≡ true) rs → Split rs
   split-of [] h p = tt

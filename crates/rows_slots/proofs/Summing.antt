@@ -4,7 +4,6 @@ use mathlib.Core.List.{List, [], _∷_, _++_, map, foldl, List·Memᴰ·head, Li
 use Prim.Native.Nat.{ℕ, zero, suc, _+_, _≤_, _<_}
 use native.Mathlib.Numerals.{add-one}
 use native.Mathlib.Omega.{arith}
-use lib.IntN.{ℤ}
 use lib.ListN.{length, getD, drop, length-map, drop-of-length-le}
 use lib.Seq.{drop-cons}
 use Rattle.lists.specs.Lists.{_∈_}
@@ -22,12 +21,12 @@ use Rattle.rows_slots.specs.Slots.{flat, pack, packed, rowIn, endIn}
 use Rattle.rows_slots.specs.Summed.{closed, plusRow, summed}
 use Rattle.rows_slots.proofs.Rising.{Split}
 
-module _ (sums : List ℤ) (counts : List ℕ) (keys : ℕ → List ℕ) (slot : List ℕ) where
+module _ (totals : ℕ → Total) (keys : ℕ → List ℕ) (slot : List ℕ) where
   -- the rows of the entries from place i on
   abbrev pub rowsFrom : ℕ → List (Row Total)
-  rowsFrom i = amountsAt sums counts (map rowIn (drop i slot))
+  rowsFrom i = amountsAt totals (map rowIn (drop i slot))
 
-  pub adding-none : Summable (amountsAt sums counts (map rowIn slot)) → Room nothing (rowsFrom 0)
+  pub adding-none : Summable (amountsAt totals (map rowIn slot)) → Room nothing (rowsFrom 0)
   adding-none s = room-nothing s
 
   module _ (total : Total) (i : ℕ) (h : i < length slot) where
@@ -36,33 +35,33 @@ module _ (sums : List ℤ) (counts : List ℕ) (keys : ℕ → List ℕ) (slot :
 
     -- the group that entry i is the last of, or goes on with
     abbrev group : Row Total
-    group = record { codes = keys (rowIn e); total = plusRow sums counts total (rowIn e) }
+    group = record { codes = keys (rowIn e); total = plusRow totals total (rowIn e) }
 
     next : drop i slot ≡ e ∷ drop (i + 1) slot
     next = drop-cons slot i 0 h ∙ ap (λ (k : ℕ). e ∷ drop k slot) (sym (add-one i))
 
-    step : summed sums counts keys total (drop i slot) ≡ closed (endIn e) group (summed sums counts keys nothing (drop (i + 1) slot)) (summed sums counts keys (group .total) (drop (i + 1) slot))
-    step = ap (summed sums counts keys total) next
+    step : summed totals keys total (drop i slot) ≡ closed (endIn e) group (summed totals keys nothing (drop (i + 1) slot)) (summed totals keys (group .total) (drop (i + 1) slot))
+    step = ap (summed totals keys total) next
 
     -- the group goes on
-    pub summed-on : endIn e ≡ 0 → summed sums counts keys total (drop i slot) ≡ summed sums counts keys (group .total) (drop (i + 1) slot)
-    summed-on z = step ∙ ap (λ (k : ℕ). closed k group (summed sums counts keys nothing (drop (i + 1) slot)) (summed sums counts keys (group .total) (drop (i + 1) slot))) z
+    pub summed-on : endIn e ≡ 0 → summed totals keys total (drop i slot) ≡ summed totals keys (group .total) (drop (i + 1) slot)
+    summed-on z = step ∙ ap (λ (k : ℕ). closed k group (summed totals keys nothing (drop (i + 1) slot)) (summed totals keys (group .total) (drop (i + 1) slot))) z
 
     -- the group ends
-    pub summed-end : (endIn e ≡ 0 → ⊥) → summed sums counts keys total (drop i slot) ≡ group ∷ summed sums counts keys nothing (drop (i + 1) slot)
+    pub summed-end : (endIn e ≡ 0 → ⊥) → summed totals keys total (drop i slot) ≡ group ∷ summed totals keys nothing (drop (i + 1) slot)
     summed-end n = step ∙ ends (endIn e) n
       where
-        ends : (k : ℕ) → (k ≡ 0 → ⊥) → closed k group (summed sums counts keys nothing (drop (i + 1) slot)) (summed sums counts keys (group .total) (drop (i + 1) slot)) ≡ group ∷ summed sums counts keys nothing (drop (i + 1) slot)
+        ends : (k : ℕ) → (k ≡ 0 → ⊥) → closed k group (summed totals keys nothing (drop (i + 1) slot)) (summed totals keys (group .total) (drop (i + 1) slot)) ≡ group ∷ summed totals keys nothing (drop (i + 1) slot)
         ends zero n = absurd (n refl)
         ends (suc k) n = refl
 
     module _ (room : Room total (rowsFrom i)) where
-      room-here : Room total (amountAt sums counts (rowIn e) ∷ rowsFrom (i + 1))
+      room-here : Room total (amountAt totals (rowIn e) ∷ rowsFrom (i + 1))
       unfolding amountsAt
-      room-here = subst (λ (l : List ℕ). Room total (map (amountAt sums counts) (map rowIn l))) next room
+      room-here = subst (λ (l : List ℕ). Room total (map (amountAt totals) (map rowIn l))) next room
 
       -- the next row can be added
-      pub adding-bounds : Bounded total × Bounded (amountAt sums counts (rowIn e) .total) × (total .count + amountAt sums counts (rowIn e) .total .count ≤ most)
+      pub adding-bounds : Bounded total × Bounded (amountAt totals (rowIn e) .total) × (total .count + amountAt totals (rowIn e) .total .count ≤ most)
       adding-bounds = room-one room-here
 
       -- and so can those behind it, in its group or in the next
@@ -72,18 +71,18 @@ module _ (sums : List ℤ) (counts : List ℕ) (keys : ℕ → List ℕ) (slot :
       pub adding-end : Room nothing (rowsFrom (i + 1))
       adding-end = record { own = bounded-nothing; each = room-plus room-here .each; few = omega (arith, room-plus room-here .few) }
 
-  pub summed-none : (total : Total) (i : ℕ) → length slot ≤ i → summed sums counts keys total (drop i slot) ≡ []
-  summed-none total i h = ap (summed sums counts keys total) (drop-of-length-le slot {i = i} h)
+  pub summed-none : (total : Total) (i : ℕ) → length slot ≤ i → summed totals keys total (drop i slot) ≡ []
+  summed-none total i h = ap (summed totals keys total) (drop-of-length-le slot {i = i} h)
 
 -- ---- the groups of a slot are its runs
 
-module _ (sums : List ℤ) (counts : List ℕ) (keys : ℕ → List ℕ) where
+module _ (totals : ℕ → Total) (keys : ℕ → List ℕ) where
   -- the running total over rows
   abbrev over : Total → List ℕ → Total
-  over t l = foldl (λ t r. plus t (r .total)) t (amountsAt sums counts l)
+  over t l = foldl (λ t r. plus t (r .total)) t (amountsAt totals l)
 
   summed-pack : (t : Total) (x : ℕ) (m more : List ℕ) (c : List ℕ) → ((y : ℕ) → y ∈ x ∷ m → (y < 1024) × (keys y ≡ c))
-      → summed sums counts keys t (pack x m ++ more) ≡ record { codes = c; total = over t (x ∷ m) } ∷ summed sums counts keys nothing more
+      → summed totals keys t (pack x m ++ more) ≡ record { codes = c; total = over t (x ∷ m) } ∷ summed totals keys nothing more
   unfolding amountsAt
   summed-pack t x [] more c h =
       let k = h x (List·Memᴰ·head refl) in
@@ -94,15 +93,15 @@ module _ (sums : List ℤ) (counts : List ℕ) (keys : ℕ → List ℕ) where
       let k = h x (List·Memᴰ·head refl) in
       let r : rowIn x ≡ x = omega (arith, k .0) in
       let e : endIn x ≡ 0 = omega (arith, k .0) in
-      rw (e, r) (summed-pack (plusRow sums counts t x) y m more c (λ z i. h z (List·Memᴰ·tail i)))
+      rw (e, r) (summed-pack (plusRow totals t x) y m more c (λ z i. h z (List·Memᴰ·tail i)))
 
   pub summed-runs : (rs : List Run) → Split keys rs → ((y : ℕ) → y ∈ flat rs → y < 1024)
-      → summed sums counts keys nothing (packed rs) ≡ map (λ r. record { codes = cellOf keys r; total = runTotal sums counts (members r) }) rs
+      → summed totals keys nothing (packed rs) ≡ map (λ r. record { codes = cellOf keys r; total = runTotal totals (members r) }) rs
   unfolding runTotal
   summed-runs [] s b = refl
   summed-runs (r ∷ rs) s b =
       summed-pack nothing (r .first) (r .more) (packed rs) (cellOf keys r) (λ y i. (b y (Memᴰ·append-left (flat rs) i), s .0 y i))
-      ∙ ap (λ (l : List (Row Total)). record { codes = cellOf keys r; total = runTotal sums counts (members r) } ∷ l) (summed-runs rs (s .2) (λ y i. b y (Memᴰ·append-right (members r) i)))
+      ∙ ap (λ (l : List (Row Total)). record { codes = cellOf keys r; total = runTotal totals (members r) } ∷ l) (summed-runs rs (s .2) (λ y i. b y (Memᴰ·append-right (members r) i)))
 
 -- the row of an entry is one of the rows
 pub entry-named : (slot : List ℕ) (n i : ℕ) → Names (map rowIn slot) n → i < length slot → rowIn (getD slot i 0) < n

@@ -32,12 +32,12 @@ neither-same a b h k = same-earlier a b ∙ rw (h, k) refl
 pub zero-at : (l : List ℕ) (x : ℕ) → Zeros l → getD l x 0 ≡ 0
 zero-at l x z = cases (truth (ltb x (length l))) (λ t. z x (ltb-true x (length l) t)) (λ t. List·getD-eq-default l 0 (ltb-false x (length l) t))
 
-module _ (dims n : ℕ) (codes column : List ℕ) (v : Valid dims (cut dims n codes)) (least : ℕ) (low : 1 ≤ least) (high : least ≤ 2) (zc : Zeros column) where
+module _ (dims n : ℕ) (ws column : List ℕ) (v : Valid dims (cut dims n ws)) (least : ℕ) (low : 1 ≤ least) (high : least ≤ 2) (zc : Zeros column) where
   abbrev xs : List (List ℕ)
-  xs = cut dims n codes
+  xs = cut dims n ws
 
   cell-none : (x y : ℕ) → x < n → y < n → earlier (key 0 xs x) (key 0 xs y) ≡ false
-  cell-none x y h k = not-self (key 0 xs x) (key 0 xs y) (key-none dims n codes v x y h k)
+  cell-none x y h k = not-self (key 0 xs x) (key 0 xs y) (key-none dims n ws v x y h k)
 
   code-none : (x y : ℕ) → earlier (codeIn column x) (codeIn column y) ≡ false
   code-none x y = not-self (codeIn column x) (codeIn column y) (rw (zero-at column x zc, zero-at column y zc) refl)

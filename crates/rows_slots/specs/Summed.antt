@@ -4,10 +4,8 @@
 --   summed t l           the cells of the groups of a slot l, each with its total; t is the total of the rows before them in the first group
 use mathlib.Core.List.{List, [], _∷_}
 use Prim.Native.Nat.{ℕ, zero, suc}
-use lib.IntN.{ℤ}
 use Rattle.cube.specs.declared.Total.{Total}
 use Rattle.cube.specs.Measure.{Row, nothing, plus}
-use Rattle.rows_runs.specs.Totals.{amountAt}
 use Rattle.rows_slots.specs.Slots.{rowIn, endIn}
 
 -- a group's row in front of the groups behind it where the group ends, and otherwise the groups from here
@@ -15,9 +13,9 @@ abbrev pub closed : ℕ → Row Total → List (Row Total) → List (Row Total) 
 closed zero r behind here = here
 closed (suc k) r behind here = r ∷ behind
 
-module _ (sums : List ℤ) (counts : List ℕ) where
+module _ (totals : ℕ → Total) where
   abbrev pub plusRow : Total → ℕ → Total
-  plusRow t i = plus t (amountAt sums counts i .total)
+  plusRow t i = plus t (totals i)
 
   module _ (key : ℕ → List ℕ) where
     abbrev pub summed : Total → List ℕ → List (Row Total)

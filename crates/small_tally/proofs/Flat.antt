@@ -1,21 +1,24 @@
--- The codes of table t as the generator writes them: digit by digit, and row by row for each bit that is set.
+-- The rows of table t as the generator writes them: digit by digit, and row by row for each bit that is set.
 use mathlib.Core.Path.{_≡_, refl, sym, _∙_, ap, ap₂, subst}
 use mathlib.Core.Bool.{Bool}
-use mathlib.Core.List.{List, [], _∷_, _++_, flatMap}
+use mathlib.Core.List.{List, [], _∷_, _++_, flatMap, append-assoc}
 use Prim.Native.Nat.{ℕ, zero, suc, _+_, _-_, _/_, _%_, _^_, _≤_, _<_}
 use native.Mathlib.Numerals.{add-one}
 use native.Mathlib.Omega.{arith}
 use lib.Dec.{eqb}
-use lib.ListN.{length}
+use lib.ListN.{length, take, set, length-append}
+use lib.Seq.{take-at}
 use borrow.Author.Tests.{eq-eqb, ne-eqb}
 use borrow.Rule.Slice.PartMut.{midOf, putMid}
 use Rattle.lists.specs.Lists.{only, keep}
 use Rattle.fields.specs.Written.{Wrote}
+use Rattle.fields.specs.WrittenLaws.{wrote-one}
 use Rattle.archive_cells.specs.Writing.{Writing}
 use Rattle.archive_cells.specs.WritingLaws.{writing-none, writing-more, writing-room, writing-done}
+use Rattle.rows.specs.Rows.{width}
 use Rattle.small_model.specs.Small.{from, upTo, bitOf, binary}
 use Rattle.small_model.proofs.Binary.{binary-length}
-use Rattle.small_tally.specs.Flat.{flatCodes}
+use Rattle.small_tally.specs.Flat.{flatRow, flatRows}
 
 -- ---- digits
 
@@ -25,6 +28,26 @@ binary-none {d} j e = ap (λ (k : ℕ). binary k j) e
 pub binary-last : (d j : ℕ) → (d ≡ 0 → ⊥) → binary d j ≡ binary (d - 1) (j / 2) ++ (j % 2 ∷ [])
 binary-last zero j h = absurd (h refl)
 binary-last (suc d) j h = let e : suc d - 1 ≡ d = omega arith in rw e
+
+-- ---- a row
+
+pub row-codes : (d j : ℕ) (rest : List ℕ) → take d (flatRow d j ++ rest) ≡ binary d j
+unfolding flatRow
+row-codes d j rest = ap (take d) (append-assoc (binary d j) (0 ∷ 0 ∷ 0 ∷ []) rest) ∙ take-at (binary d j) (0 ∷ 0 ∷ 0 ∷ rest) d (binary-length d j)
+
+pub row-length : (d j : ℕ) → length (flatRow d j) ≡ width d
+unfolding flatRow
+row-length d j = omega (arith, length-append (binary d j) (0 ∷ 0 ∷ 0 ∷ []), binary-length d j)
+
+-- three zeros behind the digits
+pub row-wrote : (d j : ℕ) {l m : List ℕ} {at : ℕ} → at + 3 ≤ length l → Wrote (binary d j) l m at → Wrote (flatRow d j) l (set (set (set m at 0) (at + 1) 0) (at + 2) 0) (at + 3)
+unfolding flatRow
+row-wrote d j {at = at} h w =
+    let two : at + 1 + 1 ≡ at + 2 = omega arith in
+    let three : at + 2 + 1 ≡ at + 3 = omega arith in
+    let first = wrote-one 0 (omega (arith, h)) w in
+    let second = rw two at (wrote-one 0 (omega (arith, h)) first) in
+    simp append-assoc at (rw three at (wrote-one 0 (omega (arith, h)) second))
 
 -- ---- the bits that are set
 
@@ -49,42 +72,42 @@ picks-step t j n h =
     let e : n - j ≡ suc (n - (j + 1)) = omega (arith, h) in
     rw (e, add-one)
 
--- ---- the codes still to be written, with the bits from j on
+-- ---- the rows still to be written, with the bits from j on
 
 module _ (d t n : ℕ) where
   -- those of the bits of r, the first of which is bit j
-  abbrev pub codesFrom : ℕ → ℕ → List ℕ
-  codesFrom r j = flatMap (binary d) (picks r j (n - j))
+  abbrev pub rowsFrom : ℕ → ℕ → List ℕ
+  rowsFrom r j = flatMap (flatRow d) (picks r j (n - j))
 
-  pub codes-none : (l : List ℕ) → n ≡ 2 ^ d → Writing (flatCodes d t) (codesFrom t 0) l l 0
-  unfolding flatCodes
-  codes-none l e =
+  pub rows-none : (l : List ℕ) → n ≡ 2 ^ d → Writing (flatRows d t) (rowsFrom t 0) l l 0
+  unfolding flatRows
+  rows-none l e =
       let z : n - 0 ≡ 2 ^ d = omega (arith, e) in
-      subst (λ (left : List ℕ). Writing (flatCodes d t) left l l 0) (ap (flatMap (binary d)) (picks-all t (2 ^ d)) ∙ rw z) (writing-none (flatCodes d t) l)
+      subst (λ (left : List ℕ). Writing (flatRows d t) left l l 0) (ap (flatMap (flatRow d)) (picks-all t (2 ^ d)) ∙ rw z) (writing-none (flatRows d t) l)
 
-  codes-odd : (r j : ℕ) → j < n → r % 2 ≡ 1 → codesFrom r j ≡ binary d j ++ codesFrom (r / 2) (j + 1)
+  rows-odd : (r j : ℕ) → j < n → r % 2 ≡ 1 → rowsFrom r j ≡ flatRow d j ++ rowsFrom (r / 2) (j + 1)
   unfolding flatMap
-  codes-odd r j h e = rw (picks-step r j n h, eq-eqb (r % 2) 1 e)
+  rows-odd r j h e = rw (picks-step r j n h, eq-eqb (r % 2) 1 e)
 
-  codes-even : (r j : ℕ) → j < n → (r % 2 ≡ 1 → ⊥) → codesFrom r j ≡ codesFrom (r / 2) (j + 1)
-  codes-even r j h e = rw (picks-step r j n h, ne-eqb (r % 2) 1 e)
+  rows-even : (r j : ℕ) → j < n → (r % 2 ≡ 1 → ⊥) → rowsFrom r j ≡ rowsFrom (r / 2) (j + 1)
+  rows-even r j h e = rw (picks-step r j n h, ne-eqb (r % 2) 1 e)
 
-  module _ (r j : ℕ) {l m : List ℕ} {at : ℕ} (w : Writing (flatCodes d t) (codesFrom r j) l m at) where
-    pub codes-skip : j < n → (r % 2 ≡ 1 → ⊥) → Writing (flatCodes d t) (codesFrom (r / 2) (j + 1)) l m at
-    codes-skip h e = subst (λ (left : List ℕ). Writing (flatCodes d t) left l m at) (codes-even r j h e) w
+  module _ (r j : ℕ) {l m : List ℕ} {at : ℕ} (w : Writing (flatRows d t) (rowsFrom r j) l m at) where
+    pub rows-skip : j < n → (r % 2 ≡ 1 → ⊥) → Writing (flatRows d t) (rowsFrom (r / 2) (j + 1)) l m at
+    rows-skip h e = subst (λ (left : List ℕ). Writing (flatRows d t) left l m at) (rows-even r j h e) w
 
-    abbrev on : j < n → r % 2 ≡ 1 → Writing (flatCodes d t) (binary d j ++ codesFrom (r / 2) (j + 1)) l m at
-    on h e = subst (λ (left : List ℕ). Writing (flatCodes d t) left l m at) (codes-odd r j h e) w
+    abbrev on : j < n → r % 2 ≡ 1 → Writing (flatRows d t) (flatRow d j ++ rowsFrom (r / 2) (j + 1)) l m at
+    on h e = subst (λ (left : List ℕ). Writing (flatRows d t) left l m at) (rows-odd r j h e) w
 
-    pub codes-room : j < n → r % 2 ≡ 1 → length (flatCodes d t) ≤ length l → at + d ≤ length m
-    codes-room h e k = omega (arith, writing-room (binary d j) (codesFrom (r / 2) (j + 1)) (on h e) k, binary-length d j)
+    pub rows-room : j < n → r % 2 ≡ 1 → length (flatRows d t) ≤ length l → at + width d ≤ length m
+    rows-room h e k = omega (arith, writing-room (flatRow d j) (rowsFrom (r / 2) (j + 1)) (on h e) k, row-length d j)
 
-    pub codes-more : {s : List ℕ} {k : ℕ} → j < n → r % 2 ≡ 1 → Wrote (binary d j) (midOf at (length m - at) m) s k
-        → Writing (flatCodes d t) (codesFrom (r / 2) (j + 1)) l (putMid at (length m - at) m s) (at + k)
-    codes-more h e v = writing-more (binary d j) (codesFrom (r / 2) (j + 1)) (on h e) v
+    pub rows-more : {s : List ℕ} {k : ℕ} → j < n → r % 2 ≡ 1 → Wrote (flatRow d j) (midOf at (length m - at) m) s k
+        → Writing (flatRows d t) (rowsFrom (r / 2) (j + 1)) l (putMid at (length m - at) m s) (at + k)
+    rows-more h e v = writing-more (flatRow d j) (rowsFrom (r / 2) (j + 1)) (on h e) v
 
-    pub codes-done : n ≤ j → Wrote (flatCodes d t) l m at
+    pub rows-done : n ≤ j → Wrote (flatRows d t) l m at
     unfolding flatMap
-    codes-done h =
+    rows-done h =
         let z : n - j ≡ 0 = omega (arith, h) in
-        writing-done (subst (λ (k : ℕ). Writing (flatCodes d t) (flatMap (binary d) (picks r j k)) l m at) z w)
+        writing-done (subst (λ (k : ℕ). Writing (flatRows d t) (flatMap (flatRow d) (picks r j k)) l m at) z w)

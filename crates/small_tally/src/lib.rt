@@ -7,10 +7,10 @@ ghost use Rattle.lists.specs.Lists.{Distinct};
 ghost use Rattle.fields.specs.Written.{Wrote};
 ghost use Rattle.cube.specs.Codes.{plain};
 ghost use Rattle.cube.specs.Condensed.{normals};
-ghost use Rattle.rows.specs.Rows.{cut};
+ghost use Rattle.rows.specs.Rows.{width, cut};
 ghost use Rattle.small_model.specs.Small.{upTo, binary, table};
 ghost use Rattle.small_model.specs.Tally.{entries, tally, mostEntries};
-ghost use Rattle.small_tally.specs.Flat.{flatCodes, Coding, Zeros};
+ghost use Rattle.small_tally.specs.Flat.{flatRow, flatRows, Coding, Zeros};
 ghost use Rattle.small_tally.specs.Lines.{gap, pairText, textFrom, line, report};
 
 // Writes a number in binary, the highest digit first.
@@ -26,10 +26,22 @@ fn put_binary(out: &mut [u32], dims: usize, j: u32) -> usize
     at + 1
 }
 
-// Writes the codes of table t: those of row j for each bit j that is set.
+// Writes a row: a number in binary, and three zeros where its total would stand, which no tally needs.
+fn put_row(out: &mut [u32], dims: usize, j: u32) -> usize
+    requires { ⌜ width dims ≤ length (now out) ⌝ }
+    ensures { λ r. ⌜ Wrote (flatRow dims j) (now (out .entry)) (now (out .exit)) r ⌝ }
+{
+    let at = put_binary(out, dims, j);
+    out[at] = 0;
+    out[at + 1] = 0;
+    out[at + 2] = 0;
+    at + 3
+}
+
+// Writes the rows of table t: row j for each bit j that is set.
 fn put_table(out: &mut [u32], dims: usize, t: u32) -> usize
-    requires { ⌜ (dims ≤ 8) × (length (flatCodes dims t) ≤ length (now out)) ⌝ }
-    ensures { λ r. ⌜ Wrote (flatCodes dims t) (now (out .entry)) (now (out .exit)) r ⌝ }
+    requires { ⌜ (dims ≤ 8) × (length (flatRows dims t) ≤ length (now out)) ⌝ }
+    ensures { λ r. ⌜ Wrote (flatRows dims t) (now (out .entry)) (now (out .exit)) r ⌝ }
 {
     let mut at = 0;
     let mut rest = t;
@@ -39,45 +51,36 @@ fn put_table(out: &mut [u32], dims: usize, t: u32) -> usize
         if odd != 1 {
             continue;
         }
-        at += put_binary(&mut out[at..], dims, j);
+        at += put_row(&mut out[at..], dims, j);
     }
     at
 }
 
 // How many entries base rows have.
-fn rows_entries(codes: &[u32], rows: usize, dims: usize) -> usize
-    requires { ⌜ (dims ≤ 8) × (rows ≤ 8) × (rows * dims ≡ length (now codes)) × Distinct (cut dims rows (now codes)) × Coding dims (cut dims rows (now codes)) ⌝ }
-    ensures { λ r. ⌜ r ≡ rows + length (normals (plain dims) (cut dims rows (now (codes .entry)))) ⌝ }
+fn rows_entries(rows: &[u32], n: usize, dims: usize) -> usize
+    requires { ⌜ (dims ≤ 8) × (n ≤ 8) × (n * width dims ≡ length (now rows)) × Distinct (cut dims n (now rows)) × Coding dims (cut dims n (now rows)) ⌝ }
+    ensures { λ r. ⌜ r ≡ n + length (normals (plain dims) (cut dims n (now (rows .entry)))) ⌝ }
 {
     let mut store = [0u16; 262144];
     let mut used = [0usize; 256];
-    let mut sets = [0u8; 560];
-    let mut lens = [0u32; 8];
-    let normals = rows_condense::condense_rows(
-        codes,
-        rows,
-        dims,
-        &mut store,
-        &mut used,
-        &mut sets,
-        &mut lens[..rows],
-    );
-    rows + normals
+    let mut lists = [0u8; 568];
+    let normals = rows_condense::condense_rows(rows, n, dims, &mut store, &mut used, &mut lists);
+    n + normals
 }
 
 // How many entries the archive of table t has.
 fn entries_of(dims: usize, t: u32) -> usize
-    requires { ⌜ (1 ≤ dims) × (dims ≤ 3) ⌝ }
+    requires { ⌜ dims ≤ 3 ⌝ }
     ensures { λ r. ⌜ r ≡ entries dims (table dims t) ⌝ }
 {
-    let mut codes = [0u32; 24];
-    let size = put_table(&mut codes, dims, t);
-    rows_entries(&codes[..size], size / dims, dims)
+    let mut rows = [0u32; 48];
+    let size = put_table(&mut rows, dims, t);
+    rows_entries(&rows[..size], size / (dims + 3), dims)
 }
 
 // Tallies how many of all tables have each number of entries.
 fn tally_tables(dims: usize, tallies: &mut [u32])
-    requires { ⌜ (1 ≤ dims) × (dims ≤ 3) × (length (now tallies) ≡ suc (mostEntries dims)) × Zeros (now tallies) ⌝ }
+    requires { ⌜ (dims ≤ 3) × (length (now tallies) ≡ suc (mostEntries dims)) × Zeros (now tallies) ⌝ }
     ensures { λ _. ⌜ now (tallies .exit) ≡ map (tally dims) (upTo (suc (mostEntries dims))) ⌝ }
 {
     let rows = lattice::sets_of(dims as u32);
@@ -123,7 +126,7 @@ fn put_tallies(out: &mut [u8], tallies: &[u32]) -> usize
 
 // Tallies the tables of D, and writes the line for D.
 fn put_tallied(out: &mut [u8], dims: usize, tallies: &mut [u32]) -> usize
-    requires { ⌜ (1 ≤ dims) × (dims ≤ 3) × (length (now tallies) ≡ suc (mostEntries dims)) × Zeros (now tallies) ⌝ }
+    requires { ⌜ (dims ≤ 3) × (length (now tallies) ≡ suc (mostEntries dims)) × Zeros (now tallies) ⌝ }
     requires { ⌜ length (line dims) ≤ length (now out) ⌝ }
     ensures { λ r. ⌜ Wrote (line dims) (now (out .entry)) (now (out .exit)) r ⌝ }
 {
@@ -135,7 +138,7 @@ fn put_tallied(out: &mut [u8], dims: usize, tallies: &mut [u32]) -> usize
 
 // Writes the line for D. No table has as many as 73 entries.
 fn put_line(out: &mut [u8], dims: usize) -> usize
-    requires { ⌜ (1 ≤ dims) × (dims ≤ 3) × (length (line dims) ≤ length (now out)) ⌝ }
+    requires { ⌜ (dims ≤ 3) × (length (line dims) ≤ length (now out)) ⌝ }
     ensures { λ r. ⌜ Wrote (line dims) (now (out .entry)) (now (out .exit)) r ⌝ }
 {
     let mut tallies = [0u32; 73];

@@ -2,7 +2,5 @@
 pub mod Accepted
 pub mod Examples
 pub mod Lengths
-pub mod Storing
-pub mod Rows
 pub mod Reordering
 pub mod Rearranging

@@ -9,11 +9,10 @@
 --   baseRows t          the base rows of the table t
 --   TableRead           the code's answer: the enum of src/lib.rt
 --   tableAnswer p       the answer's number and values for what was read: the stop's number, or D and the number of base rows
---   Stored p ..         the arrays have the base rows of the table that was read
+--   Stored p ws         the words ws have the base rows of the table that was read
 use mathlib.Core.Path.{_≡_}
 use mathlib.Core.List.{List, [], _∷_}
 use Prim.Native.Nat.{ℕ, zero, suc, _+_, _*_, _≤_}
-use lib.IntN.{ℤ}
 use lib.ListN.{length}
 use Rattle.fields.specs.Words.{wordsAt}
 use Rattle.fields.specs.Twos.{readingAt}
@@ -63,6 +62,6 @@ abbrev pub tableAnswer : Parsed Records → TableRead
 tableAnswer (stop n) = Answer.Stop n
 tableAnswer (got t rest) = Answer.Rows (length (t .sizes)) (length (baseRows t))
 
-abbrev pub Stored : Parsed Records → List ℕ → List ℤ → List ℕ → Type 0
-Stored (stop n) codes amounts counts = Unit {0}
-Stored (got t rest) codes amounts counts = rowsOf (length (t .sizes)) (length (baseRows t)) codes amounts counts ≡ baseRows t
+abbrev pub Stored : Parsed Records → List ℕ → Type 0
+Stored (stop n) ws = Unit {0}
+Stored (got t rest) ws = rowsOf (length (t .sizes)) (length (baseRows t)) ws ≡ baseRows t

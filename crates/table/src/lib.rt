@@ -1,16 +1,11 @@
-// A table read from its bytes: its stops, and its base rows.
+// A table read from its bytes: its stops.
 use fields_walk::Walk;
-ghost use mathlib.Core.Path.{_≡_};
 ghost use Prim.Native.Nat.{_+_, _*_, _≤_};
 ghost use lib.ListN.{length, drop};
 ghost use Rattle.fields.specs.Words.{wordsAt};
 ghost use Rattle.fields_walk.specs.Parsed.{many};
 ghost use Rattle.fields_walk.specs.Walked.{Walked};
-ghost use Rattle.cube.specs.Measure.{sums as measure};
-ghost use Rattle.cube.specs.Bounds.{Summable};
-ghost use Rattle.cube.specs.Table.{Table, folded};
-ghost use Rattle.rows.specs.Rows.{rowsOf};
-ghost use Rattle.table.specs.Reading.{row, body, readTable, rowsAt, Rowed, tableAnswer, Stored};
+ghost use Rattle.table.specs.Reading.{row, body, readTable};
 
 // What reading a table answers: a stop's number, or D and the number of base rows.
 pub enum TableRead {
@@ -70,7 +65,7 @@ fn check_sized(s: &[u8], sizes: &mut [u32], at: usize) -> Walk
 }
 
 // The stops of a table.
-fn check_table(s: &[u8]) -> Walk
+pub fn check_table(s: &[u8]) -> Walk
     ensures { λ r. ⌜ Walked (now (s .entry)) (readTable (now (s .entry))) r ⌝ }
 {
     match fields_walk::check_header(s, b"FACT") {
@@ -79,125 +74,6 @@ fn check_table(s: &[u8]) -> Walk
             let dims = fields::word_at(s, 4) as usize;
             let mut sizes = [0u32; 8];
             check_sized(s, &mut sizes[..dims], at)
-        }
-    }
-}
-
-// The rows from a place on into the arrays that are lent.
-fn store_rows(
-    s: &[u8],
-    dims: usize,
-    count: usize,
-    start: usize,
-    codes: &mut [u32],
-    sums: &mut [i64],
-    counts: &mut [u32],
-)
-    requires { ⌜ start + count * (4 * dims + 4) ≤ length (now s) ⌝ }
-    requires { ⌜ (count * dims ≤ length (now codes)) × (count ≤ length (now sums)) × (count ≤ length (now counts)) ⌝ }
-    ensures { λ _. ⌜ rowsOf dims count (now (codes .exit)) (now (sums .exit)) (now (counts .exit)) ≡ rowsAt (now (s .entry)) dims count start ⌝ }
-{
-    let mut at = start;
-    let mut i = 0;
-    while i < count {
-        let reading = fields::reading_at(s, at + 4 * dims);
-        rows::store_row(s, at, dims, reading, 1, i, codes, sums, counts);
-        at += 4 * dims + 4;
-        i += 1;
-    }
-}
-
-// The base rows of the rows from a place on, which are first stored in buffers of their own, into the arrays that are lent. Returns how many there are.
-fn fold_rows(
-    s: &[u8],
-    dims: usize,
-    count: usize,
-    start: usize,
-    own: &mut [u32],
-    amounts: &mut [i64],
-    tallies: &mut [u32],
-    index: &mut [u32],
-    codes: &mut [u32],
-    sums: &mut [i64],
-    counts: &mut [u32],
-) -> usize
-    requires { ⌜ (count * dims ≡ length (now own)) × (length (now amounts) ≡ count) × (length (now tallies) ≡ count) × (length (now index) ≡ count) × (count ≤ 1024) × (dims ≤ 8) ⌝ }
-    requires { ⌜ (start + count * (4 * dims + 4) ≤ length (now s)) × (8192 ≤ length (now codes)) × (1024 ≤ length (now sums)) × (1024 ≤ length (now counts)) ⌝ }
-    requires { ⌜ Table dims (rowsAt (now s) dims count start) × Summable (rowsAt (now s) dims count start) ⌝ }
-    ensures { λ r. ⌜ rowsOf dims r (now (codes .exit)) (now (sums .exit)) (now (counts .exit)) ≡ folded measure dims (rowsAt (now (s .entry)) dims count start) ⌝ }
-    ensures { λ r. ⌜ r ≤ count ⌝ }
-{
-    store_rows(s, dims, count, start, own, amounts, tallies);
-    let full = lattice::sets_of(dims as u32) - 1;
-    rows_runs::group_rows(
-        own,
-        amounts,
-        tallies,
-        count,
-        dims,
-        full,
-        index,
-        codes,
-        sums,
-        counts,
-    )
-}
-
-// The base rows of n rows of d codes behind the header. Returns how many there are.
-fn fold_table(
-    s: &[u8],
-    d: usize,
-    n: usize,
-    codes: &mut [u32],
-    sums: &mut [i64],
-    counts: &mut [u32],
-) -> usize
-    requires { ⌜ Rowed (now s) d n × (8192 ≤ length (now codes)) × (1024 ≤ length (now sums)) × (1024 ≤ length (now counts)) ⌝ }
-    ensures { λ r. ⌜ rowsOf d r (now (codes .exit)) (now (sums .exit)) (now (counts .exit)) ≡ folded measure d (rowsAt (now (s .entry)) d n (12 + 4 * d)) ⌝ }
-    ensures { λ r. ⌜ r ≤ n ⌝ }
-{
-    let mut own = [0u32; 8192];
-    let mut amounts = [0i64; 1024];
-    let mut tallies = [0u32; 1024];
-    let mut index = [0u32; 1024];
-    let size = n * d;
-    let start = 12 + 4 * d;
-    fold_rows(
-        s,
-        d,
-        n,
-        start,
-        &mut own[..size],
-        &mut amounts[..n],
-        &mut tallies[..n],
-        &mut index[..n],
-        codes,
-        sums,
-        counts,
-    )
-}
-
-// Reads a table: its stops, and its base rows into the arrays that are lent.
-pub fn read_table(
-    s: &[u8],
-    codes: &mut [u32; 8192],
-    sums: &mut [i64; 1024],
-    counts: &mut [u32; 1024],
-) -> TableRead
-    ensures { λ r. ⌜ r ≡ tableAnswer (readTable (now (s .entry))) ⌝ }
-    ensures { λ r. ⌜ Stored (readTable (now (s .entry))) (now (codes .exit)) (now (sums .exit)) (now (counts .exit)) ⌝ }
-{
-    match check_table(s) {
-        Walk::Stop(n) => TableRead::Stop(n),
-        Walk::At(place) => {
-            let dims = fields::word_at(s, 4);
-            let d = dims as usize;
-            let n = fields::word_at(s, 8 + 4 * d) as usize;
-            let rows = fold_table(s, d, n, codes, sums, counts);
-            TableRead::Rows {
-                dims,
-                rows: rows as u32,
-            }
         }
     }
 }

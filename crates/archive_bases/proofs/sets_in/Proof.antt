@@ -13,14 +13,14 @@ use Rattle.archive_bases.proofs.sets_in.Statement.{statement}
 use Rattle.archive_bases.proofs.sets_in.Tie as tie
 
 abbrev Inv-loop : tie.InvT-loop
-Inv-loop codes sums counts rows dims sets lens all₀ i₀ all i =
-    (i ≤ rows) × (all ≤ 70 * i) × (all + setsIn (drop i (ourBases dims (rowsOf dims rows codes sums counts))) ≡ setsIn (ourBases dims (rowsOf dims rows codes sums counts)))
+Inv-loop rows n dims lists all₀ i₀ all i =
+    (i ≤ n) × (all ≤ 70 * i) × (all + setsIn (drop i (ourBases dims (rowsOf dims n rows))) ≡ setsIn (ourBases dims (rowsOf dims n rows)))
 
 abbrev μ-loop : tie.MeasureT-loop
-μ-loop codes sums counts rows dims sets lens all₀ i₀ all i = rows - i
+μ-loop rows n dims lists all₀ i₀ all i = n - i
 
 -- no list is long
-short : (c : tie.After-shared-slice-known Inv-loop μ-loop) → getD (now (c .before .before .before .args .lens)) (c .before .before .loop .i) 0 ≤ 70
+short : (c : tie.After-shared-slice-known Inv-loop μ-loop) → getD (now (c .before .before .before .args .lists)) (c .before .before .loop .i * 71) 0 ≤ 70
 short c = c .before .before .before .pre .short (c .before .before .loop .i) (c .before .loop-test .taken)
 
 loop-holds : tie.Need-loop-holds Inv-loop μ-loop

@@ -1,5 +1,4 @@
 -- `archive_cells::match_cell` meets its contract: three parts, each compared at the place behind the one before.
-use mathlib.Core.Path.{_≡_}
 use Rattle.fields_walk.specs.declared.Walk.the-variants.{Stop}
 use Rattle.archive_entries.specs.Layout.{cellBytes}
 use mir.Facts.{toZ-ofZ}

@@ -1,5 +1,4 @@
 -- `archive_cells::match_entry` meets its contract: the cell, the length of the list, then its sets.
-use mathlib.Core.Path.{_≡_}
 use mir.Facts.{toZ-ofZ}
 use Rattle.fields_walk.specs.declared.Walk.the-variants.{Stop}
 use Rattle.archive_entries.specs.Layout.{baseBytes}

@@ -1,9 +1,6 @@
 -- `archive_judge::is_required` meets its contract: buffers of its own are lent.
-use mathlib.Core.Path.{sym}
-use Prim.Native.Nat.{_≤_}
 use native.Mathlib.Omega.{arith}
 use denote.Ref.{now}
-use lib.Seq.{length-take-le}
 use Rattle.rows_ready.specs.Ready.{Ready}
 use Rattle.fields_walk.proofs.Limits.{bytes-of}
 use Rattle.archive_judge.proofs.Judged.{read-ready}
@@ -11,22 +8,16 @@ use borrow.Author.Needs.{needs}
 use Rattle.archive_judge.proofs.is_required.Statement.{statement}
 use Rattle.archive_judge.proofs.is_required.Tie as tie
 
-ready : (c : tie.After-shared-slice-known) → (let a = c .before .args in Ready (a .dims) (a .rows) (now (a .codes)) (now (a .sums)) (now (a .counts)))
+ready : (c : tie.After-shared-slice-known) → (let a = c .before .args in Ready (a .dims) (a .n) (now (a .rows)))
 ready c = read-ready (bytes-of (now (c .before .args .s)) (λ i. omega (arith, c .shared-slice-known .given i))) (c .before .pre .0)
 
-array-borrow-prefix-lens : tie.Need-array-borrow-prefix-lens
-array-borrow-prefix-lens c = ready (c .before .before .before .before .before) .few
-
-slice-aggregate-judge-2 : tie.Need-slice-aggregate-judge-2
-slice-aggregate-judge-2 c = sym (length-take-le (c .before .before .before .before .before .before .before .args .rows) _ (ready (c .before .before .before .before .before .before) .few))
-
 judge-requires : tie.Need-judge-requires
-judge-requires c κs = let p = c .before .before .before .before .before .before .before .before .before .pre in (p .0, omega (arith, ready (c .before .before .before .before .before .before .before .before) .few), sym (slice-aggregate-judge-2 (c .before .before)), p .1, p .2)
+judge-requires c κs = let p = c .before .before .before .before .before .before .before .pre in (p .0, omega (arith, ready (c .before .before .before .before .before .before) .few), p .1, p .2)
 
 returns : tie.Need-returns
-returns c = c .before .before .before .before .before .before .judge .ensures
+returns c = c .before .before .before .before .before .judge .ensures
 
 pub is-required-spec : {M : Type 1} → statement M
 is-required-spec =
     tie.close
-    (tie.spec (λ c. search needs) array-borrow-prefix-lens slice-aggregate-judge-2 judge-requires (λ c. search needs) (λ c. search needs) returns)
+    (tie.spec (λ c. search needs) judge-requires (λ c. search needs) (λ c. search needs) returns)

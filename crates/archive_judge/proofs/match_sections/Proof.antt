@@ -21,43 +21,43 @@ use Rattle.archive_judge.proofs.match_sections.Tie as tie
 
 -- the parts as a whole
 whole : (c : tie.Start) → (let a = c .args in
-    let rows = rowsOf (a .dims) (a .rows) (now (a .codes)) (now (a .sums)) (now (a .counts)) in
-    (wordBytes (a .rows) ++ flatMap baseBytes (ourBases (a .dims) rows)) ++ (wordBytes (a .cells) ++ normalBytes (a .dims) rows) ≡ sections (a .dims) rows)
-whole c = let a = c .args in four-parts (a .dims) (a .rows) (now (a .codes)) (now (a .sums)) (now (a .counts)) (c .pre .1)
+    let n = rowsOf (a .dims) (a .n) (now (a .rows)) in
+    (wordBytes (a .n) ++ flatMap baseBytes (ourBases (a .dims) n)) ++ (wordBytes (a .cells) ++ normalBytes (a .dims) n) ≡ sections (a .dims) n)
+whole c = let a = c .args in four-parts (a .dims) (a .n) (now (a .rows)) (c .pre .1)
 
 returns : tie.Need-returns
 returns c =
-    let a = c .before .before .before .before .before .before .before .before .before .before .before .args in
-    let rows = rowsOf (a .dims) (a .rows) (now (a .codes)) (now (a .sums)) (now (a .counts)) in
-    matched-as (whole (c .before .before .before .before .before .before .before .before .before .before .before)) (matched-stop (wordBytes (a .cells) ++ normalBytes (a .dims) rows) (matched-stop (flatMap baseBytes (ourBases (a .dims) rows)) (matched-told (c .before .n .given .1) (c .before .before .before .match-word .ensures))))
+    let a = c .before .before .before .before .before .before .before .before .before .args in
+    let n = rowsOf (a .dims) (a .n) (now (a .rows)) in
+    matched-as (whole (c .before .before .before .before .before .before .before .before .before)) (matched-stop (wordBytes (a .cells) ++ normalBytes (a .dims) n) (matched-stop (flatMap baseBytes (ourBases (a .dims) n)) (matched-told (c .before .stop .given .1) (c .before .before .before .match-word .ensures))))
 
 match-bases-requires : tie.Need-match-bases-requires
-match-bases-requires c κs = (c .before .before .before .before .before .before .before .before .before .before .before .pre .0 .0, matched-told (c .before .at .given .1) (c .before .before .before .match-word .ensures) .meets .2)
+match-bases-requires c κs = (c .before .before .before .before .before .before .before .before .before .pre .0 .0, matched-told (c .before .at .given .1) (c .before .before .before .match-word .ensures) .meets .2)
 
 returns-2 : tie.Need-returns-2
-returns-2 c = matched-as (whole (c .before .before .before .before .before .before .before .before .before .before .before .before .before .before .before)) (matched-stop _ (matched-then _ (Stop _) (matched-told (c .before .before .before .before .before .at .given .1) (c .before .before .before .before .before .before .before .match-word .ensures)) (matched-told (c .before .n2 .given .1) (c .before .before .before .match-bases .ensures))))
+returns-2 c = matched-as (whole (c .before .before .before .before .before .before .before .before .before .before .before .before .before)) (matched-stop _ (matched-then _ (Stop _) (matched-told (c .before .before .before .before .before .at .given .1) (c .before .before .before .before .before .before .before .match-word .ensures)) (matched-told (c .before .stop2 .given .1) (c .before .before .before .match-bases .ensures))))
 
 cast-match-word-2 : tie.Need-cast-match-word-2
 cast-match-word-2 c =
-    let a = c .before .before .before .before .before .before .before .before .before .before .before .before .before .before .before .args in
-    let p = c .before .before .before .before .before .before .before .before .before .before .before .before .before .before .before .pre .0 .0 .ready in
-    let rows = rowsOf (a .dims) (a .rows) (now (a .codes)) (now (a .sums)) (now (a .counts)) in
-    let few = normals-few (a .dims) rows (p .dims) (omega (arith, rows-length (a .dims) (a .rows) (now (a .codes)) (now (a .sums)) (now (a .counts)), p .few)) in
-    omega (arith, rw (rows-codes (a .dims) (a .rows) (now (a .codes)) (now (a .sums)) (now (a .counts))) at few, c .before .before .before .before .before .before .before .before .before .before .before .before .before .before .before .pre .1)
+    let a = c .before .before .before .before .before .before .before .before .before .before .before .before .before .args in
+    let p = c .before .before .before .before .before .before .before .before .before .before .before .before .before .pre .0 .0 .ready in
+    let n = rowsOf (a .dims) (a .n) (now (a .rows)) in
+    let few = normals-few (a .dims) n (p .dims) (omega (arith, rows-length (a .dims) (a .n) (now (a .rows)), p .few)) in
+    omega (arith, rw (rows-codes (a .dims) (a .n) (now (a .rows))) at few, c .before .before .before .before .before .before .before .before .before .before .before .before .before .pre .1)
 
 match-word-requires-2 : tie.Need-match-word-requires-2
 match-word-requires-2 c κs = matched-told (c .before .end .given .1) (c .before .before .before .match-bases .ensures) .meets .2
 
 returns-3 : tie.Need-returns-3
-returns-3 c = matched-as (whole (c .before .before .before .before .before .before .before .before .before .before .before .before .before .before .before .before .before .before .before))
+returns-3 c = matched-as (whole (c .before .before .before .before .before .before .before .before .before .before .before .before .before .before .before .before .before))
     (matched-then _ (Stop _) (matched-then _ (At _) (matched-told (c .before .before .before .before .before .before .before .before .before .at .given .1) (c .before .before .before .before .before .before .before .before .before .before .before .match-word .ensures)) (matched-told (c .before .before .before .before .before .end .given .1) (c .before .before .before .before .before .before .before .match-bases .ensures)))
-    (matched-stop _ (matched-told (c .before .n3 .given .1) (c .before .before .before .match-word2 .ensures))))
+    (matched-stop _ (matched-told (c .before .stop3 .given .1) (c .before .before .before .match-word2 .ensures))))
 
 match-normals-requires : tie.Need-match-normals-requires
-match-normals-requires c κs = (c .before .before .before .before .before .before .before .before .before .before .before .before .before .before .before .before .before .before .before .pre .0 .1, matched-told (c .before .next .given .1) (c .before .before .before .match-word2 .ensures) .meets .2)
+match-normals-requires c κs = (c .before .before .before .before .before .before .before .before .before .before .before .before .before .before .before .before .before .pre .0 .1, matched-told (c .before .next .given .1) (c .before .before .before .match-word2 .ensures) .meets .2)
 
 returns-4 : tie.Need-returns-4
-returns-4 c = matched-as (whole (c .before .before .before .before .before .before .before .before .before .before .before .before .before .before .before .before .before .before .before .before))
+returns-4 c = matched-as (whole (c .before .before .before .before .before .before .before .before .before .before .before .before .before .before .before .before .before .before))
     (matched-then _ (c .match-normals .result) (matched-then _ (At _) (matched-told (c .before .before .before .before .before .before .before .before .before .before .at .given .1) (c .before .before .before .before .before .before .before .before .before .before .before .before .match-word .ensures)) (matched-told (c .before .before .before .before .before .before .end .given .1) (c .before .before .before .before .before .before .before .before .match-bases .ensures)))
     (matched-then _ (c .match-normals .result) (matched-told (c .before .before .next .given .1) (c .before .before .before .before .match-word2 .ensures)) (c .match-normals .ensures)))
 

@@ -1,23 +1,21 @@
 -- `archive_normals::match_blank` meets its contract: there are rows, and nothing is compared, or one cell is.
-use mathlib.Core.Path.{_≡_, sym}
+use mathlib.Core.Path.{sym}
 use mathlib.Core.List.{[]}
-use native.Mathlib.Omega.{arith}
 use denote.Ref.{now}
-use lib.Seq.{length-take-le}
 use Rattle.archive_cells.specs.MatchedLaws.{matching-none, matching-done, matched-as}
-use Rattle.archive_normals.proofs.Sections.{blank-none, blank-one}
+use Rattle.archive_normals.proofs.Sections.{alls-front, blank-none, blank-one}
 use borrow.Author.Needs.{needs}
 use Rattle.archive_normals.proofs.match_blank.Statement.{statement}
 use Rattle.archive_normals.proofs.match_blank.Tie as tie
 
 returns : tie.Need-returns
-returns c = let a = c .before .before .args in matched-as (sym (blank-none (a .dims) (a .rows) (c .if1 .taken))) (matching-done (matching-none [] (now (a .s)) (a .at) (c .before .before .pre .1)))
+returns c = let a = c .before .before .args in matched-as (sym (blank-none (a .dims) (a .n) (c .if1 .taken))) (matching-done (matching-none [] (now (a .s)) (a .at) (c .before .before .pre .1)))
 
 slice-aggregate-match-cell : tie.Need-slice-aggregate-match-cell
-slice-aggregate-match-cell c = sym (length-take-le (c .before .before .before .args .dims) _ (omega (arith, c .before .before .before .pre .0)))
+slice-aggregate-match-cell c = sym (alls-front (c .before .before .before .args .dims) (c .before .before .before .pre .0))
 
 returns-2 : tie.Need-returns-2
-returns-2 c = let a = c .before .before .before .before .args in matched-as (blank-one (a .dims) (a .rows) (c .before .before .before .before .pre .0) (c .before .before .if1 .left)) (c .match-cell .ensures)
+returns-2 c = let a = c .before .before .before .before .args in matched-as (blank-one (a .dims) (a .n) (c .before .before .before .before .pre .0) (c .before .before .if1 .left)) (c .match-cell .ensures)
 
 pub match-blank-spec : {M : Type 1} → statement M
 match-blank-spec =

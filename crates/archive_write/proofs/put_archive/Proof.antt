@@ -18,21 +18,21 @@ use Rattle.archive_write.proofs.put_archive.Statement.{statement}
 use Rattle.archive_write.proofs.put_archive.Tie as tie
 
 -- there is room for the sections behind the header, and for those behind the base entries
-room : (c : tie.After-put-header) → (let a = c .before .before .before .before .before .before .before .before .before .before .args in let d = length (now (a .sizes)) in let rows = rowsOf d (a .rows) (now (a .codes)) (now (a .sums)) (now (a .counts)) in
-    c .put-header .result + 4 + length (flatMap baseBytes (ourBases d rows)) + 4 + length (normalBytes d rows) + 4 ≤ length (now (a .out)))
+room : (c : tie.After-put-header) → (let a = c .before .before .before .before .before .before .before .before .args in let d = length (now (a .sizes)) in let n = rowsOf d (a .n) (now (a .rows)) in
+    c .put-header .result + 4 + length (flatMap baseBytes (ourBases d n)) + 4 + length (normalBytes d n) + 4 ≤ length (now (a .out)))
 room c =
-    let a = c .before .before .before .before .before .before .before .before .before .before .args in
-    let p = c .before .before .before .before .before .before .before .before .before .before .pre in
+    let a = c .before .before .before .before .before .before .before .before .args in
+    let p = c .before .before .before .before .before .before .before .before .pre in
     omega (arith, c .put-header .ensures .count, length-header CUBE (now (a .sizes)), archive-sum (now (a .sizes)) (p .0 .0) (p .0 .2), p .1)
 
-behind : (c : tie.After-put-bases) → (let a = c .before .before .before .before .before .before .before .before .before .before .before .before .before .before .before .before .before .before .args in let d = length (now (a .sizes)) in let rows = rowsOf d (a .rows) (now (a .codes)) (now (a .sums)) (now (a .counts)) in
-    c .before .before .before .before .before .before .before .before .put-header .result + 4 + c .put-bases .result + 4 + length (normalBytes d rows) + 4 ≤ length (now (a .out)))
+behind : (c : tie.After-put-bases) → (let a = c .before .before .before .before .before .before .before .before .before .before .before .before .before .before .before .before .args in let d = length (now (a .sizes)) in let n = rowsOf d (a .n) (now (a .rows)) in
+    c .before .before .before .before .before .before .before .before .put-header .result + 4 + c .put-bases .result + 4 + length (normalBytes d n) + 4 ≤ length (now (a .out)))
 behind c = omega (arith, room (c .before .before .before .before .before .before .before .before), c .put-bases .ensures .count)
 
 put-header-requires : tie.Need-put-header-requires
 put-header-requires c κs =
-    let a = c .before .before .before .before .before .before .before .before .before .args in
-    let p = c .before .before .before .before .before .before .before .before .before .pre in
+    let a = c .before .before .before .before .before .before .before .args in
+    let p = c .before .before .before .before .before .before .before .pre in
     (p .0 .0 .ready .dims, omega (arith, archive-sum (now (a .sizes)) (p .0 .0) (p .0 .2), p .1))
 
 sub-put-word : tie.Need-sub-put-word
@@ -54,7 +54,7 @@ part-put-bases-start : tie.Need-part-put-bases-start
 part-put-bases-start c = omega (arith, room (c .before .before .before .before .before .before))
 
 put-bases-requires : tie.Need-put-bases-requires
-put-bases-requires c κs = (c .before .before .before .before .before .before .before .before .before .before .before .before .before .before .before .before .before .pre .0 .0, simp (length-take, length-drop) (omega (arith, room (c .before .before .before .before .before .before .before))))
+put-bases-requires c κs = (c .before .before .before .before .before .before .before .before .before .before .before .before .before .before .before .pre .0 .0, simp (length-take, length-drop) (omega (arith, room (c .before .before .before .before .before .before .before))))
 
 add-at-2 : tie.Need-add-at-2
 add-at-2 c = omega (arith, behind (c .before .before))
@@ -66,7 +66,7 @@ part-put-word-start-2 : tie.Need-part-put-word-start-2
 part-put-word-start-2 c = omega (arith, behind (c .before .before))
 
 cast-put-word-2 : tie.Need-cast-put-word-2
-cast-put-word-2 c = let p = c .before .before .before .before .before .before .before .before .before .before .before .before .before .before .before .before .before .before .before .before .before .pre .0 in omega (arith, cells-few (now (c .before .before .before .before .before .before .before .before .before .before .before .before .before .before .before .before .before .before .before .before .before .args .sizes)) (p .0) (p .2))
+cast-put-word-2 c = let p = c .before .before .before .before .before .before .before .before .before .before .before .before .before .before .before .before .before .before .before .pre .0 in omega (arith, cells-few (now (c .before .before .before .before .before .before .before .before .before .before .before .before .before .before .before .before .before .before .before .args .sizes)) (p .0) (p .2))
 
 put-word-requires-2 : tie.Need-put-word-requires-2
 put-word-requires-2 c κs = simp (length-take, length-drop) (omega (arith, behind (c .before .before .before)))
@@ -81,20 +81,20 @@ part-put-normals-start : tie.Need-part-put-normals-start
 part-put-normals-start c = omega (arith, behind (c .before .before .before .before .before .before))
 
 put-normals-requires : tie.Need-put-normals-requires
-put-normals-requires c κs = (c .before .before .before .before .before .before .before .before .before .before .before .before .before .before .before .before .before .before .before .before .before .before .before .before .before .pre .0 .1, simp (length-take, length-drop) (omega (arith, behind (c .before .before .before .before .before .before .before))))
+put-normals-requires c κs = (c .before .before .before .before .before .before .before .before .before .before .before .before .before .before .before .before .before .before .before .before .before .before .before .pre .0 .1, simp (length-take, length-drop) (omega (arith, behind (c .before .before .before .before .before .before .before))))
 
 add-at-4 : tie.Need-add-at-4
-add-at-4 c = omega (arith, behind (c .before .before .before .before .before .before .before .before .before .before), c .before .before .put-normals .ensures .count, c .before .before .before .before .before .before .before .before .before .before .before .before .before .before .before .before .before .before .before .before .before .before .before .before .before .before .before .before .good)
+add-at-4 c = omega (arith, behind (c .before .before .before .before .before .before .before .before .before .before), c .before .before .put-normals .ensures .count, c .before .before .before .before .before .before .before .before .before .before .before .before .before .before .before .before .before .before .before .before .before .before .before .before .before .before .good)
 
 put-check-requires : tie.Need-put-check-requires
 put-check-requires c κs = omega (arith, behind (c .before .before .before .before .before .before .before .before .before .before .before), c .before .before .before .put-normals .ensures .count)
 
 returns : tie.Need-returns
 returns c =
-    let p = c .before .before .before .before .before .before .before .before .before .before .before .before .before .before .before .before .before .before .before .before .before .before .before .before .before .before .before .before .before .before .before .before .pre .0 in
+    let p = c .before .before .before .before .before .before .before .before .before .before .before .before .before .before .before .before .before .before .before .before .before .before .before .before .before .before .before .before .before .before .pre .0 in
     let w = wrote-then (wrote-then (wrote-then (wrote-then (c .before .before .before .before .before .before .before .before .before .before .before .before .before .before .before .before .before .before .before .before .before .before .put-header .ensures) (c .before .before .before .before .before .before .before .before .before .before .before .before .before .before .before .before .before .before .put-word .ensures)) (c .before .before .before .before .before .before .before .before .before .before .before .before .before .before .put-bases .ensures)) (c .before .before .before .before .before .before .before .before .before .before .put-word2 .ensures)) (c .before .before .before .before .before .before .put-normals .ensures) in
     let r = c .before .before .put-check .ensures in
-    wrote-as (archive-parts (now (c .before .before .before .before .before .before .before .before .before .before .before .before .before .before .before .before .before .before .before .before .before .before .before .before .before .before .before .before .before .before .before .before .args .sizes)) (p .0) (p .2)) (wrote-check w (r .0) (omega (arith, behind (c .before .before .before .before .before .before .before .before .before .before .before .before .before .before), c .before .before .before .before .before .before .put-normals .ensures .count)) (r .1))
+    wrote-as (archive-parts (now (c .before .before .before .before .before .before .before .before .before .before .before .before .before .before .before .before .before .before .before .before .before .before .before .before .before .before .before .before .before .before .args .sizes)) (p .0) (p .2)) (wrote-check w (r .0) (omega (arith, behind (c .before .before .before .before .before .before .before .before .before .before .before .before .before .before), c .before .before .before .before .before .before .put-normals .ensures .count)) (r .1))
 
 pub put-archive-spec : {M : Type 1} → statement M
 put-archive-spec =

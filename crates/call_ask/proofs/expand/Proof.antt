@@ -1,7 +1,7 @@
 -- `call_ask::expand` meets its contract: the walk answers for its stops, and what has right fields is judged and expanded.
 use mathlib.Core.Path.{sym, _∙_}
 use denote.Ref.{now}
-use Rattle.archive_judge.proofs.Reading.{stop-required}
+use Rattle.archive_read.proofs.Reading.{stop-required}
 use Rattle.call_answers.proofs.Answers.{stopped}
 use Rattle.call_ask.proofs.Outcomes.{expand-refused}
 use borrow.Author.Needs.{needs}

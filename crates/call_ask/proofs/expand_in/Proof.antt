@@ -10,12 +10,12 @@ use Rattle.call_ask.proofs.expand_in.Tie as tie
 
 expand-read-requires : tie.Need-expand-read-requires
 expand-read-requires c κs =
-    let r = c .before .before .before .before .before .before .before .before .before .before .before .before .read-judged .ensures in
-    let e = sym (r .0) ∙ c .before .before .before .before .before .before .before .before .before .before .dims .given .1 in
-    (record { told = e; room = (search needs, search needs, search needs); stored = r .1 .0 }, grouped-read (now (c .before .before .before .before .before .before .before .before .before .before .before .before .before .before .before .before .before .before .before .before .args .s)) _ _ _ (c .before .before .before .before .before .before .before .before .before .before .before .before .before .before .before .before .before .before .before .before .pre) e (r .1 .1))
+    let r = c .before .before .before .before .before .before .before .before .read-judged .ensures in
+    let e = sym (r .0) ∙ c .before .before .before .before .before .before .dims .given .1 in
+    (record { told = e; room = search needs; stored = r .1 .0 }, grouped-read (now (c .before .before .before .before .before .before .before .before .before .before .before .before .before .before .args .s)) _ (c .before .before .before .before .before .before .before .before .before .before .before .before .before .before .pre) e (r .1 .1))
 
 returns : tie.Need-returns
-returns c = stopped (now (c .before .before .before .before .before .before .before .before .before .before .before .args .out)) (expand-refused (now (c .before .before .before .before .before .before .before .before .before .before .before .args .s)) (sym (c .before .before .before .read-judged .ensures .0) ∙ c .before .n .given .1))
+returns c = stopped (now (c .before .before .before .before .before .before .before .before .before .args .out)) (expand-refused (now (c .before .before .before .before .before .before .before .before .before .args .s)) (sym (c .before .before .before .read-judged .ensures .0) ∙ c .before .n .given .1))
 
 pub expand-in-spec : {M : Type 1} → statement M
 expand-in-spec =

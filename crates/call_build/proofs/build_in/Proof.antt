@@ -8,10 +8,10 @@ use Rattle.call_build.proofs.build_in.Statement.{statement}
 use Rattle.call_build.proofs.build_in.Tie as tie
 
 build-read-requires : tie.Need-build-read-requires
-build-read-requires c κs = let r = c .before .before .before .before .before .before .before .before .before .before .read-table .ensures in (sym (r .0) ∙ c .before .before .before .before .before .before .before .before .dims .given .1, (search needs, search needs, search needs, r .1))
+build-read-requires c κs = let r = c .before .before .before .before .before .before .read-table .ensures in (sym (r .0) ∙ c .before .before .before .before .dims .given .1, (search needs, r .1))
 
 returns : tie.Need-returns
-returns c = let a = c .before .before .before .before .before .before .before .before .before .args in stopped (now (a .out)) (build-refused (now (a .table)) (sym (c .before .before .before .read-table .ensures .0) ∙ c .before .n .given .1))
+returns c = let a = c .before .before .before .before .before .before .before .args in stopped (now (a .out)) (build-refused (now (a .table)) (sym (c .before .before .before .read-table .ensures .0) ∙ c .before .n .given .1))
 
 pub build-in-spec : {M : Type 1} → statement M
 build-in-spec =

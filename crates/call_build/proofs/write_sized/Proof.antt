@@ -19,26 +19,26 @@ use Rattle.call_build.proofs.write_sized.Tie as tie
 abbrev sizes : tie.After-read-words → List ℕ
 sizes c = c .read-words .last .1 .1 .0
 
-long : (c : tie.After-read-words) → length (now (c .before .before .before .before .before .before .before .before .args .sizes)) ≡ length (sizes c)
-long c = sym (ap length (c .read-words .ensures) ∙ length-wordsAt (now (c .before .before .before .before .before .before .before .before .args .s)) (length (now (c .before .before .before .before .before .before .before .before .args .sizes))) _)
+long : (c : tie.After-read-words) → length (now (c .before .before .before .before .before .before .before .args .sizes)) ≡ length (sizes c)
+long c = sym (ap length (c .read-words .ensures) ∙ length-wordsAt (now (c .before .before .before .before .before .before .before .args .s)) (length (now (c .before .before .before .before .before .before .before .args .sizes))) _)
 
 fit-archive-requires : tie.Need-fit-archive-requires
 fit-archive-requires c κs =
-    let a = c .before .before .before .before .before .before .before .before .before .before .before .before .before .args in
-    let p = c .before .before .before .before .before .before .before .before .before .before .before .before .before .pre in
+    let a = c .before .before .before .before .before .before .before .before .before .before .before .before .args in
+    let p = c .before .before .before .before .before .before .before .before .before .before .before .before .pre in
     let r = c .before .before .before .before .before in (
-      subst (λ (d : ℕ). Ready d (a .rows) (now (a .codes)) (now (a .sums)) (now (a .counts))) (long r) (p .0 .1),
-      subst (λ (d : ℕ). Limits (sizes r) (rowsOf d (a .rows) (now (a .codes)) (now (a .sums)) (now (a .counts)))) (long r)
-          (subst (λ (zs : List ℕ). Limits zs (rowsOf (length (now (a .sizes))) (a .rows) (now (a .codes)) (now (a .sums)) (now (a .counts)))) (sym (r .read-words .ensures)) (p .1)),
+      subst (λ (d : ℕ). Ready d (a .n) (now (a .rows))) (long r) (p .0 .1),
+      subst (λ (d : ℕ). Limits (sizes r) (rowsOf d (a .n) (now (a .rows)))) (long r)
+          (subst (λ (zs : List ℕ). Limits zs (rowsOf (length (now (a .sizes))) (a .n) (now (a .rows)))) (sym (r .read-words .ensures)) (p .1)),
       p .0 .2,
     )
 
 -- the archive by the sizes that stand in the bytes and by those in the buffer
-same-archive : (c : tie.After-read-words) → (let a = c .before .before .before .before .before .before .before .before .args in
-    bytes (archiveBytes (wordsAt (now (a .s)) (length (now (a .sizes))) 8) (rowsOf (length (now (a .sizes))) (a .rows) (now (a .codes)) (now (a .sums)) (now (a .counts))))
-    ≡ bytes (archiveBytes (sizes c) (rowsOf (length (sizes c)) (a .rows) (now (a .codes)) (now (a .sums)) (now (a .counts)))))
-same-archive c = let a = c .before .before .before .before .before .before .before .before .args in
-    ap₂ (λ (zs : List ℕ) (d : ℕ). bytes (archiveBytes zs (rowsOf d (a .rows) (now (a .codes)) (now (a .sums)) (now (a .counts))))) (sym (c .read-words .ensures)) (long c)
+same-archive : (c : tie.After-read-words) → (let a = c .before .before .before .before .before .before .before .args in
+    bytes (archiveBytes (wordsAt (now (a .s)) (length (now (a .sizes))) 8) (rowsOf (length (now (a .sizes))) (a .n) (now (a .rows))))
+    ≡ bytes (archiveBytes (sizes c) (rowsOf (length (sizes c)) (a .n) (now (a .rows)))))
+same-archive c = let a = c .before .before .before .before .before .before .before .args in
+    ap₂ (λ (zs : List ℕ) (d : ℕ). bytes (archiveBytes zs (rowsOf d (a .n) (now (a .rows))))) (sym (c .read-words .ensures)) (long c)
 
 returns : tie.Need-returns
 returns c = answered-as (same-archive (c .before .before .before .before .before .before .before .before .before .before)) (c .before .before .before .before .fit-archive .ensures)

@@ -17,22 +17,22 @@ zeros = 0 ∷ 0 ∷ 0 ∷ 0 ∷ 0 ∷ 0 ∷ 0 ∷ 0 ∷ []
 
 returns : tie.Need-returns
 unfolding rowsOf
-returns c = (omega arith, blank-elsewhere (c .before .before .before .args .dims) (c .before .before .before .args .set) (c .if1 .taken))
+returns c = (omega arith, blank-elsewhere (c .before .before .args .dims) (c .before .before .args .set) (c .if1 .taken))
 
 slice-aggregate-put-row : tie.Need-slice-aggregate-put-row
-slice-aggregate-put-row c = sym (length-take-le (c .before .before .before .before .before .before .before .args .dims) _ (c .before .before .before .before .before .before .before .pre .0))
+slice-aggregate-put-row c = sym (length-take-le (c .before .before .before .before .args .dims) _ (c .before .before .before .before .pre .0))
 
 put-row-requires : tie.Need-put-row-requires
 put-row-requires c κs =
-    let p = c .before .before .before .before .before .before .before .pre in
-    (omega (arith, slice-aggregate-put-row c, p .1), omega (arith, p .2), omega (arith, p .3))
+    let p = c .before .before .before .before .pre in
+    omega (arith, slice-aggregate-put-row c, p .1)
 
 returns-2 : tie.Need-returns-2
 returns-2 c =
-    let a = c .before .before .before .before .before .before .before .before .before .before .before .before .before .args in
-    (omega arith, blank-put (a .dims) (a .set) (take (a .dims) zeros) _ _ (now (a .cells)) (now (a .tallies)) _ (now (a .amounts)) _ (slice-aggregate-put-row (c .before .before .before .before .before .before)) (omega (arith, c .before .before .before .before .before .before .before .before .before .before .if1 .left)) refl (c .before .before .before .before .before .put-row .ensures))
+    let a = c .before .before .before .before .before .before .before .args in
+    (omega arith, blank-put (a .dims) (a .set) (take (a .dims) zeros) _ (now (a .cells)) _ (slice-aggregate-put-row (c .before .before .before)) (omega (arith, c .before .before .before .before .before .if1 .left)) refl (c .before .before .put-row .ensures))
 
 pub blank-cells-spec : {M : Type 1} → statement M
 blank-cells-spec =
     tie.close
-    (tie.spec returns (λ c. search needs) slice-aggregate-put-row put-row-requires (λ c. search needs) (λ c. search needs) (λ c. search needs) returns-2)
+    (tie.spec returns (λ c. search needs) slice-aggregate-put-row put-row-requires (λ c. search needs) returns-2)

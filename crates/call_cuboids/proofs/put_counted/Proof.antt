@@ -10,13 +10,13 @@ use Rattle.call_cuboids.proofs.put_counted.Tie as tie
 
 add-result : tie.Need-add-result
 add-result c =
-    let a = c .before .before .before .before .before .before .before .before .before .before .before .args in
-    omega (arith, c .before .before .before .before .before .before .put-word .ensures .count, c .before .before .put-cells .ensures .count, cells-length (a .dims) (a .n) (now (a .cells)) (now (a .amounts)) (now (a .tallies)) (c .before .before .before .before .before .before .before .before .before .before .before .pre .0), c .before .before .before .before .before .before .before .before .before .before .before .pre .4)
+    let a = c .before .before .before .before .before .before .before .before .before .before .args in
+    omega (arith, c .before .before .before .before .before .before .put-word .ensures .count, c .before .before .put-cells .ensures .count, cells-length (a .dims) (a .n) (now (a .cells)) (c .before .before .before .before .before .before .before .before .before .before .pre .0), c .before .before .before .before .before .before .before .before .before .before .pre .2)
 
 returns : tie.Need-returns
 returns c =
-    let a = c .before .before .before .before .before .before .before .before .before .before .before .args in
-    rw (rows-length (a .dims) (a .n) (now (a .cells)) (now (a .amounts)) (now (a .tallies))) (wrote-then (c .before .before .before .before .before .before .put-word .ensures) (c .before .before .put-cells .ensures))
+    let a = c .before .before .before .before .before .before .before .before .before .before .args in
+    rw (rows-length (a .dims) (a .n) (now (a .cells))) (wrote-then (c .before .before .before .before .before .before .put-word .ensures) (c .before .before .put-cells .ensures))
 
 pub put-counted-spec : {M : Type 1} → statement M
 put-counted-spec =

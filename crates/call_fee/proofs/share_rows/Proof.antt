@@ -20,13 +20,13 @@ use Rattle.call_fee.proofs.share_rows.Tie as tie
 
 cell-counts-requires : tie.Need-cell-counts-requires
 cell-counts-requires c κs =
-    let a = c .before .before .before .before .args in
-    let p = c .before .before .before .before .pre in
-    let rows = rowsOf (a .dims) (a .rows) (now (a .codes)) (now (a .sums)) (now (a .counts)) in
-    (p .0, omega (arith, some-rows rows (p .3), rows-length (a .dims) (a .rows) (now (a .codes)) (now (a .sums)) (now (a .counts))), search needs)
+    let a = c .before .before .before .args in
+    let p = c .before .before .before .pre in
+    let rows = rowsOf (a .dims) (a .n) (now (a .rows)) in
+    (p .0, omega (arith, some-rows rows (p .3), rows-length (a .dims) (a .n) (now (a .rows))), search needs)
 
 -- the counts are in the front of the array
-front : (c : tie.After-cell-counts) → c .cell-counts .result ≤ length (c .cell-counts .last .1 .1 .1 .1 .1 .1 .0)
+front : (c : tie.After-cell-counts) → c .cell-counts .result ≤ length (c .cell-counts .last .1 .1 .1 .1 .0)
 front c = search needs
 
 slice-aggregate-fit-fee : tie.Need-slice-aggregate-fit-fee
@@ -34,11 +34,11 @@ slice-aggregate-fit-fee c = sym (length-take-le _ _ (front (c .before .before .b
 
 fit-fee-requires : tie.Need-fit-fee-requires
 fit-fee-requires c κs =
-    let a = c .before .before .before .before .before .before .before .before .args in
-    let p = c .before .before .before .before .before .before .before .before .pre in
+    let a = c .before .before .before .before .before .before .before .args in
+    let p = c .before .before .before .before .before .before .before .pre in
     let e = c .before .before .before .cell-counts .ensures in
-    let rows = rowsOf (a .dims) (a .rows) (now (a .codes)) (now (a .sums)) (now (a .counts)) in
-    let t : sum (take (c .before .before .before .cell-counts .result) (c .before .before .before .cell-counts .last .1 .1 .1 .1 .1 .1 .0)) ≡ _ = ap sum (e .0) ∙ weights-total (a .dims) rows (p .0 .table) (sets-of (a .dims) (p .1)) in (
+    let rows = rowsOf (a .dims) (a .n) (now (a .rows)) in
+    let t : sum (take (c .before .before .before .cell-counts .result) (c .before .before .before .cell-counts .last .1 .1 .1 .1 .0)) ≡ _ = ap sum (e .0) ∙ weights-total (a .dims) rows (p .0 .table) (sets-of (a .dims) (p .1)) in (
       p .2,
       omega (arith, slice-aggregate-fit-fee c, e .1, p .0 .few),
       omega (arith, t, p .3),
@@ -46,7 +46,7 @@ fit-fee-requires c κs =
     )
 
 returns : tie.Need-returns
-returns c = let a = c .before .before .before .before .before .before .before .before .before .before .before .args in answered-as (ap (λ (l : List ℕ). bytes (feeBytes (a .fee) l)) (sym (c .before .before .before .before .before .before .cell-counts .ensures .0))) (c .before .before .fit-fee .ensures)
+returns c = let a = c .before .before .before .before .before .before .before .before .before .before .args in answered-as (ap (λ (l : List ℕ). bytes (feeBytes (a .fee) l)) (sym (c .before .before .before .before .before .before .cell-counts .ensures .0))) (c .before .before .fit-fee .ensures)
 
 pub share-rows-spec : {M : Type 1} → statement M
 share-rows-spec =

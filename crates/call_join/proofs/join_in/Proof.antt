@@ -9,22 +9,22 @@ use Rattle.call_join.proofs.join_in.Tie as tie
 
 join-read-requires : tie.Need-join-read-requires
 join-read-requires c κs =
-    let r = c .before .before .before .before .before .before .before .before .before .before .before .before .before .before .before .before .before .before .before .before .before .before .before .before .before .read-lent .ensures in
-    let q = c .before .before .before .before .before .before .before .before .before .before .before .before .before .before .before .before .before .read-lent2 .ensures in (
-      record { cells = _; accepts = record { told = sym (r .0) ∙ c .before .before .before .before .before .before .before .before .before .before .before .before .before .before .before .before .before .before .before .before .before .before .before .dims .given .1; room = (search needs, search needs, search needs); stored = r .1 } },
-      record { cells = _; accepts = record { told = sym (q .0) ∙ c .before .before .before .before .before .before .before .before .before .before .before .before .before .before .before .dims2 .given .1; room = (search needs, search needs, search needs); stored = q .1 } },
+    let r = c .before .before .before .before .before .before .before .before .before .before .before .before .before .before .before .read-lent .ensures in
+    let q = c .before .before .before .before .before .before .before .before .before .read-lent2 .ensures in (
+      record { cells = _; accepts = record { told = sym (r .0) ∙ c .before .before .before .before .before .before .before .before .before .before .before .before .before .dims .given .1; room = search needs; stored = r .1 } },
+      record { cells = _; accepts = record { told = sym (q .0) ∙ c .before .before .before .before .before .before .before .dims2 .given .1; room = search needs; stored = q .1 } },
       search needs,
     )
 
 returns : tie.Need-returns
 returns c =
-    let a = c .before .before .before .before .before .before .before .before .before .before .before .args in
+    let a = c .before .before .before .before .before .before .before .before .before .args in
     stopped (now (a .out)) (first-refused (now (a .first)) (now (a .second)) (sym (c .before .before .before .read-lent .ensures .0) ∙ c .before .n .given .1))
 
 returns-2 : tie.Need-returns-2
 returns-2 c =
-    let a = c .before .before .before .before .before .before .before .before .before .before .before .before .before .before .before .before .before .before .before .args in
-    stopped (now (a .out)) (second-refused (now (a .first)) (now (a .second)) (sym (c .before .before .before .before .before .before .before .before .before .before .before .read-lent .ensures .0) ∙ c .before .before .before .before .before .before .before .before .before .dims .given .1) (sym (c .before .before .before .read-lent2 .ensures .0) ∙ c .before .n2 .given .1))
+    let a = c .before .before .before .before .before .before .before .before .before .before .before .before .before .before .before .args in
+    stopped (now (a .out)) (second-refused (now (a .first)) (now (a .second)) (sym (c .before .before .before .before .before .before .before .before .before .read-lent .ensures .0) ∙ c .before .before .before .before .before .before .before .dims .given .1) (sym (c .before .before .before .read-lent2 .ensures .0) ∙ c .before .n2 .given .1))
 
 pub join-in-spec : {M : Type 1} → statement M
 join-in-spec =

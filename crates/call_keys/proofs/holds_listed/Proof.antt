@@ -7,7 +7,7 @@ use denote.Ref.{now}
 use lib.ListN.{length, getD, drop}
 use Rattle.lists.specs.Lists.{some}
 use Rattle.lattice.specs.Sets.{holds}
-use Rattle.rows_condense.proofs.Lists.{some-next, some-done}
+use Rattle.rows_lists.proofs.Lists.{some-next, some-done}
 use Rattle.call_keys.proofs.holds_listed.Statement.{statement}
 use Rattle.call_keys.proofs.holds_listed.Tie as tie
 

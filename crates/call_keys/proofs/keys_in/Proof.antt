@@ -9,11 +9,11 @@ use Rattle.call_keys.proofs.keys_in.Tie as tie
 
 keys-read-requires : tie.Need-keys-read-requires
 keys-read-requires c κs =
-    let r = c .before .before .before .before .before .before .before .before .before .before .before .before .read-sharing .ensures in
-    (record { told = sym (r .0) ∙ c .before .before .before .before .before .before .before .before .before .before .dims .given .1; room = (search needs, search needs, search needs); stored = r .1 .0 }, r .1 .1)
+    let r = c .before .before .before .before .before .before .before .before .read-sharing .ensures in
+    (record { told = sym (r .0) ∙ c .before .before .before .before .before .before .dims .given .1; room = search needs; stored = r .1 .0 }, r .1 .1)
 
 returns : tie.Need-returns
-returns c = stopped (now (c .before .before .before .before .before .before .before .before .before .before .args .out)) (keys-refused (now (c .before .before .before .before .before .before .before .before .before .before .args .s)) (sym (c .before .before .before .read-sharing .ensures .0) ∙ c .before .n .given .1))
+returns c = stopped (now (c .before .before .before .before .before .before .before .before .args .out)) (keys-refused (now (c .before .before .before .before .before .before .before .before .args .s)) (sym (c .before .before .before .read-sharing .ensures .0) ∙ c .before .n .given .1))
 
 pub keys-in-spec : {M : Type 1} → statement M
 keys-in-spec =

@@ -1,6 +1,6 @@
 -- `call_keys::list_bare` meets its contract: before the set at place k the smallest sets so far of which no cell is shared stand in front of the list.
 use mathlib.Core.Path.{_≡_, refl, sym, _∙_}
-use Prim.Native.Nat.{ℕ, _-_, _^_, _<_}
+use Prim.Native.Nat.{_-_, _^_, _<_}
 use native.Mathlib.Omega.{arith}
 use borrow.Author.Needs.{needs}
 use borrow.Author.Tests.{not-true, not-false}

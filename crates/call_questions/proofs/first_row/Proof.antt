@@ -11,16 +11,16 @@ use Rattle.call_questions.proofs.first_row.Statement.{statement}
 use Rattle.call_questions.proofs.first_row.Tie as tie
 
 abbrev Inv-loop : tie.InvT-loop
-Inv-loop codes rows dims cell i₀ i = (i ≤ rows) × NoneBefore (rowFalls cell (cut dims rows codes)) i
+Inv-loop rows n dims cell i₀ i = (i ≤ n) × NoneBefore (rowFalls cell (cut dims n rows)) i
 
 abbrev μ-loop : tie.MeasureT-loop
-μ-loop codes rows dims cell i₀ i = rows - i
+μ-loop rows n dims cell i₀ i = n - i
 
 -- whether the row in hand falls in the cell
 told : (c : tie.After-falls-in Inv-loop μ-loop)
     → (let l = c .before .before .before in
     let a = l .before .before .before .args in
-    c .falls-in .result ≡ rowFalls (now (a .cell)) (cut (a .dims) (a .rows) (now (a .codes))) (l .loop .i))
+    c .falls-in .result ≡ rowFalls (now (a .cell)) (cut (a .dims) (a .n) (now (a .rows))) (l .loop .i))
 told c =
     let a = c .before .before .before .before .before .before .args in
     c .falls-in .ensures ∙ ap (falls (now (a .cell))) (c .before .row-of .ensures .0)
@@ -41,7 +41,7 @@ loop-again c =
 returns-2 : tie.Need-returns-2 Inv-loop μ-loop
 returns-2 c =
     let a = c .before .before .before .before .args in
-    first-none (cut-length (a .dims) (a .rows) (now (a .codes))) (c .loop-test .left) (c .before .loop .inv .1)
+    first-none (cut-length (a .dims) (a .n) (now (a .rows))) (c .loop-test .left) (c .before .loop .inv .1)
 
 pub first-row-spec : {M : Type 1} → statement M
 first-row-spec =

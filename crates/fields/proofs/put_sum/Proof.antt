@@ -1,7 +1,7 @@
--- `fields::put_sum` meets its contract. Two words, of the lower and the upper half of the bits.
+-- `fields::put_sum` meets its contract. Two words, the low one first.
 use mathlib.Core.Path.{ap, _∙_}
 use mir.Facts.{toZ-ofZ}
-use Rattle.fields.specs.Twos.{bitsOf}
+use Rattle.fields.specs.Twos.{lowOf, highOf}
 use Rattle.fields.specs.WrittenLaws.{wrote-then}
 use borrow.Author.Needs.{needs}
 use Rattle.fields.proofs.put_sum.Statement.{statement}
@@ -9,10 +9,12 @@ use Rattle.fields.proofs.put_sum.Tie as tie
 
 returns : tie.Need-returns
 returns c =
-    rw (c .before .before .before .before .before .before .before .before .unsigned .ensures ∙ ap (bitsOf 64) (toZ-ofZ (c .before .before .before .before .before .before .before .before .before .before .fits .sum))) at
-    (wrote-then (c .before .before .before .before .before .before .put-word .ensures) (c .before .before .put-word2 .ensures))
+    let p = c .before .before .before .before .before .before .before in
+    let e = toZ-ofZ (p .before .before .before .before .fits .sum) in
+    rw (p .before .low-of .ensures ∙ ap lowOf e, c .before .before .before .high-of .ensures ∙ ap highOf e) at
+    (wrote-then (p .put-word .ensures) (c .before .before .put-word2 .ensures))
 
 pub put-sum-spec : {M : Type 1} → statement M
 put-sum-spec =
     tie.close
-    (tie.spec (λ c κs. search needs) (λ c. search needs) (λ c κs. search needs) (λ c. search needs) (λ c. search needs) (λ c. search needs) (λ c. search needs) (λ c κs. search needs) (λ c. search needs) (λ c. search needs) returns)
+    (tie.spec (λ c κs. search needs) (λ c κs. search needs) (λ c. search needs) (λ c. search needs) (λ c. search needs) (λ c κs. search needs) (λ c κs. search needs) (λ c. search needs) (λ c. search needs) returns)

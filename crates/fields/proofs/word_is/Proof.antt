@@ -1,5 +1,5 @@
 -- `fields::word_is` meets its contract: the bytes make the word or do not.
-use mathlib.Core.Path.{_≡_, sym}
+use mathlib.Core.Path.{sym}
 use denote.Ref.{now}
 use Rattle.fields.proofs.Stands.{starts-word}
 use borrow.Author.Needs.{needs}

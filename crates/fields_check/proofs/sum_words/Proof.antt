@@ -1,6 +1,5 @@
 -- `fields_check::sum_words` meets its contract, word by word.
 use borrow.Author.Needs.{needs}
-use mathlib.Core.Path.{_≡_}
 use Prim.Native.Nat.{_≤_, _-_}
 use lib.ListN.{length}
 use Rattle.fields_check.proofs.Summed.{Summed, summed-none, summed-on, summed-all}

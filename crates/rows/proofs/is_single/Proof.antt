@@ -21,23 +21,23 @@ use Rattle.rows.proofs.is_single.Statement.{statement}
 use Rattle.rows.proofs.is_single.Tie as tie
 
 abbrev Inv-loop : tie.InvT-loop
-Inv-loop codes rows dims row set mine alone i₀ other rest₀ d₀ i rest d =
+Inv-loop rows n dims row set mine alone i₀ other rest₀ d₀ i rest d =
     (i ≡ i₀) × (d ≤ dims) × (agree rest (drop d mine) (drop d other) ≡ agree set mine other)
 
 abbrev μ-loop : tie.MeasureT-loop
-μ-loop codes rows dims row set mine alone i₀ other rest₀ d₀ i rest d = dims - d
+μ-loop rows n dims row set mine alone i₀ other rest₀ d₀ i rest d = dims - d
 
 abbrev Inv-rows : tie.InvT-rows
-Inv-rows codes rows dims row set mine alone₀ i₀ alone i =
-    (alone ≡ true) × (i ≤ rows) × (single (plain dims) (drop i (cut dims rows codes)) set mine ≡ single (plain dims) (cut dims rows codes) set (rowAt (cut dims rows codes) row))
+Inv-rows rows n dims row set mine alone₀ i₀ alone i =
+    (alone ≡ true) × (i ≤ n) × (single (plain dims) (drop i (cut dims n rows)) set mine ≡ single (plain dims) (cut dims n rows) set (rowAt (cut dims n rows) row))
 
 abbrev μ-rows : tie.MeasureT-rows
-μ-rows codes rows dims row set mine alone₀ i₀ alone i = rows - i
+μ-rows rows n dims row set mine alone₀ i₀ alone i = n - i
 
 -- the place in hand is that of a row
 within : (c : tie.In-rows Inv-loop μ-loop Inv-rows μ-rows)
     → (let a = c .before .before .before .before .args in
-    c .before .rows .i < length (cut (a .dims) (a .rows) (now (a .codes))))
+    c .before .rows .i < length (cut (a .dims) (a .n) (now (a .rows))))
 within c = rw cut-length (search needs)
 
 -- the row in hand is another than `row`
@@ -45,19 +45,19 @@ differs : (c : tie.After-row-of2 Inv-loop μ-loop Inv-rows μ-rows) → now (c .
 differs c e =
     let s = c .before .before .before .before .before .before in
     let a = s .args in
-    let xs = cut (a .dims) (a .rows) (now (a .codes)) in
+    let xs = cut (a .dims) (a .n) (now (a .rows)) in
     distinct-at [] xs (c .before .before .before .rows .i) (a .row) (s .pre .2) (within (c .before .before)) (rw cut-length (search needs)) (c .before .if1 .left)
     (sym (c .row-of2 .ensures .0) ∙ sym e ∙ c .before .before .before .before .row-of .ensures .0)
 
 rows-holds : tie.Need-rows-holds Inv-loop μ-loop Inv-rows μ-rows
 rows-holds c =
     let a = c .before .before .args in
-    (refl, search needs, ap (single (plain (a .dims)) (cut (a .dims) (a .rows) (now (a .codes))) (a .set)) (c .row-of .ensures .0))
+    (refl, search needs, ap (single (plain (a .dims)) (cut (a .dims) (a .n) (now (a .rows))) (a .set)) (c .row-of .ensures .0))
 
 rows-again : tie.Need-rows-again Inv-loop μ-loop Inv-rows μ-rows
 rows-again c =
     let a = c .before .before .before .before .before .args in
-    let xs = cut (a .dims) (a .rows) (now (a .codes)) in
+    let xs = cut (a .dims) (a .n) (now (a .rows)) in
     let l = c .before .before .rows in (
       l .inv .0,
       search needs,
@@ -77,7 +77,7 @@ rows-again-2 c =
       p .rows .inv .0,
       search needs,
       rw (l .loop .inv .0)
-          (single-skip (plain (a .dims)) (a .set) mine (cut (a .dims) (a .rows) (now (a .codes))) (p .rows .i) (within (l .before .before .before))
+          (single-skip (plain (a .dims)) (a .set) mine (cut (a .dims) (a .n) (now (a .rows))) (p .rows .i) (within (l .before .before .before))
           (l .before .row-of2 .ensures .0) (sym (l .loop .inv .2) ∙ stop) ∙ p .rows .inv .2),
     )
 
@@ -95,7 +95,7 @@ returns c =
     let a = c .before .before .before .before .args in
     c .before .rows .inv .0
     ∙ sym (sym (c .before .rows .inv .2)
-    ∙ single-done (plain (a .dims)) (a .set) (now (c .before .before .row-of .result)) (cut (a .dims) (a .rows) (now (a .codes))) (c .before .rows .i) (rw cut-length (search needs)))
+    ∙ single-done (plain (a .dims)) (a .set) (now (c .before .before .row-of .result)) (cut (a .dims) (a .n) (now (a .rows))) (c .before .rows .i) (rw cut-length (search needs)))
 
 returns-2 : tie.Need-returns-2 Inv-loop μ-loop Inv-rows μ-rows
 returns-2 c =
@@ -105,7 +105,7 @@ returns-2 c =
     let mine = now (p .before .row-of .result) in
     let done = agree-done (l .loop .rest) mine (now (l .before .row-of2 .result)) (l .loop .d) (search needs) (search needs) in
     sym (sym (p .rows .inv .2)
-    ∙ single-stop (plain (a .dims)) (a .set) mine (cut (a .dims) (a .rows) (now (a .codes))) (p .rows .i) (within (l .before .before .before))
+    ∙ single-stop (plain (a .dims)) (a .set) mine (cut (a .dims) (a .n) (now (a .rows))) (p .rows .i) (within (l .before .before .before))
     (l .before .row-of2 .ensures .0) (sym (l .loop .inv .2) ∙ done) (differs (l .before)))
 
 pub is-single-spec : {M : Type 1} → statement M

@@ -1,36 +1,28 @@
--- `rows::row_of` meets its contract: a row's places are within the flat list.
-use mathlib.Core.Path.{_≡_, sym, ap, _∙_}
-use Prim.Native.Nat.{_+_, _*_, _-_, _≤_}
+-- `rows::row_of` meets its contract: the codes stand first of the row's words.
+use mathlib.Core.Path.{sym, ap, _∙_}
 use native.Mathlib.Omega.{arith}
-use lib.ListN.{length}
+use lib.ListN.{take}
+use lib.Seq.{length-take-le}
+use denote.Ref.{now}
 use borrow.Author.Needs.{needs}
-use Rattle.rows.proofs.Rows.{row-within, row-at, row-length}
+use Rattle.rows.proofs.Flat.{row-words}
 use Rattle.rows.proofs.row_of.Statement.{statement}
 use Rattle.rows.proofs.row_of.Tie as tie
 
-within : (c : tie.Start) → c .args .row * c .args .dims + c .args .dims ≤ c .args .rows * c .args .dims
-within c = row-within (c .args .dims) (c .args .rows) (c .args .row) (c .pre .1)
-
-mul-from : tie.Need-mul-from
-mul-from c = omega (arith, within c)
-
-add-to : tie.Need-add-to
-add-to c = omega (arith, within c)
-
-mul-result : tie.Need-mul-result
-mul-result c = omega (arith, within c)
-
-part-result-end : tie.Need-part-result-end
-part-result-end c = omega (arith, within c)
+slice-aggregate-result : tie.Need-slice-aggregate-result
+slice-aggregate-result c =
+    let a = c .before .before .before .args in
+    let e = c .before .words-of .ensures .1 in
+    sym (length-take-le (a .dims) (c .before .words-of .result .now) (omega (arith, e)))
 
 returns : tie.Need-returns
 returns c =
-    let a = c .before .args in
-    let e : a .row * a .dims + a .dims - a .row * a .dims ≡ a .dims = omega arith in
-    let h = row-at (a .dims) (a .rows) (a .row) (a .codes .now) (c .before .pre .1) in
-    rw e (sym h, ap length (sym h) ∙ row-length (a .dims) (a .rows) (a .row) (a .codes .now) (c .before .pre .1) (c .before .pre .0))
+    let a = c .before .before .before .args in
+    let w = c .before .words-of .ensures in
+    let e = w .1 in (
+      ap (take (a .dims)) (w .0) ∙ row-words (a .dims) (a .n) (a .row) (now (a .rows)) (c .before .before .before .pre .1),
+      length-take-le (a .dims) (c .before .words-of .result .now) (omega (arith, e)),
+    )
 
 pub row-of-spec : {M : Type 1} → statement M
-row-of-spec =
-    tie.close
-    (tie.spec mul-from add-to mul-result (λ c. search needs) (λ c. search needs) part-result-end returns)
+row-of-spec = tie.close (tie.spec (λ c κs. search needs) slice-aggregate-result returns)

@@ -11,10 +11,10 @@ use Rattle.rows_crowds.proofs.fill_first.Statement.{statement}
 use Rattle.rows_crowds.proofs.fill_first.Tie as tie
 
 slice-aggregate-first-slot : tie.Need-slice-aggregate-first-slot
-slice-aggregate-first-slot c = let p = c .before .before .before .before .before .before .before .pre in sym (length-take-le (c .before .before .before .before .before .before .before .args .rows) (now (c .before .before .before .before .before .before .before .args .order)) (omega (arith, p .0 .0, p .1 .2)))
+slice-aggregate-first-slot c = let p = c .before .before .before .before .before .before .before .pre in sym (length-take-le (c .before .before .before .before .before .before .before .args .n) (now (c .before .before .before .before .before .before .before .args .order)) (omega (arith, p .0 .0, p .1 .2)))
 
 slice-aggregate-first-slot-2 : tie.Need-slice-aggregate-first-slot-2
-slice-aggregate-first-slot-2 c = let p = c .before .before .before .before .before .before .before .before .pre in sym (length-take-le (c .before .before .before .before .before .before .before .before .args .rows) (now (c .before .before .before .before .before .before .before .before .args .spare)) (omega (arith, p .0 .0, p .1 .3)))
+slice-aggregate-first-slot-2 c = let p = c .before .before .before .before .before .before .before .before .pre in sym (length-take-le (c .before .before .before .before .before .before .before .before .args .n) (now (c .before .before .before .before .before .before .before .before .args .spare)) (omega (arith, p .0 .0, p .1 .3)))
 
 first-slot-requires : tie.Need-first-slot-requires
 first-slot-requires c κs =
@@ -29,7 +29,7 @@ returns c =
     let p = c .before .before .before .before .before .before .before .before .before .before .before .before .before .before .before .before .before .before .before .pre in
     let r = c .before .before .before .before .before .before .before .before .first-slot in
     let size : length (r .last .1 .1 .1 .1 .1 .1 .0) ≡ 1024 = r .kept .1 .1 .1 .1 .1 .1 .0 ∙ length-take-le 1024 (now (a .store)) (omega (arith, p .1 .0)) in (
-      filled (a .least) (a .dims) (a .rows) (now (a .codes)) (now (a .store)) (now (a .sizes)) (r .last .1 .1 .1 .1 .1 .1 .0) 0 0 1024 (r .result .len) (p .0 .0) (omega arith) (p .1 .0) (p .1 .1) refl size refl (r .ensures .1 .1 .0) (r .ensures .0),
+      filled (a .least) (a .dims) (a .n) (now (a .rows)) (now (a .store)) (now (a .sizes)) (r .last .1 .1 .1 .1 .1 .1 .0) 0 0 1024 (r .result .len) (p .0 .0) (omega arith) (p .1 .0) (p .1 .1) refl size refl (r .ensures .1 .1 .0) (r .ensures .0),
       (r .ensures .1 .0, r .ensures .1 .1 .1),
     )
 

@@ -40,8 +40,8 @@ sub-shorter c = omega (arith, c .sets-of .ensures, shorter-power (c .before .bef
 less : (c : tie.After-sets-of) → c .before .before .before .before .before .before .before .before .before .args .set - c .sets-of .result ≡ shorter (c .before .before .before .before .before .before .before .before .before .args .set)
 less c = ap (λ (z : ℕ). c .before .before .before .before .before .before .before .before .before .args .set - z) (c .sets-of .ensures)
 
-held : (c : tie.After-sets-of) → let a = c .before .before .before .before .before .before .before .before .before .args in Holds (a .least) (a .dims) (a .rows) (now (a .codes)) (now (a .store)) (now (a .sizes)) (a .set - c .sets-of .result)
-held c = let a = c .before .before .before .before .before .before .before .before .before .args in subst (Holds (a .least) (a .dims) (a .rows) (now (a .codes)) (now (a .store)) (now (a .sizes))) (sym (less c)) (c .before .before .before .before .before .before .before .before .before .pre .1 .1 .5)
+held : (c : tie.After-sets-of) → let a = c .before .before .before .before .before .before .before .before .before .args in Holds (a .least) (a .dims) (a .n) (now (a .rows)) (now (a .store)) (now (a .sizes)) (a .set - c .sets-of .result)
+held c = let a = c .before .before .before .before .before .before .before .before .before .args in subst (Holds (a .least) (a .dims) (a .n) (now (a .rows)) (now (a .store)) (now (a .sizes))) (sym (less c)) (c .before .before .before .before .before .before .before .before .before .pre .1 .1 .5)
 
 slot-of-requires : tie.Need-slot-of-requires
 slot-of-requires c κs = let p = c .before .before .before .before .before .before .before .before .before .before .before .pre in (p .1 .0 .0, p .1 .0 .1, omega (arith, low (c .before .before .before)), omega (arith, held (c .before .before) .few, p .0 .0))
@@ -54,7 +54,7 @@ column-of-requires-2 c κs = let p = c .before .before .before .before .before .
 
 -- what is split, and by what
 next : (c : tie.After-column-of2) → let a = c .before .before .before .before .before .before .before .before .before .before .before .before .before .before .args in
-    Next (a .least) (a .dims) (a .rows) (now (a .codes)) (now (a .columns)) (now (c .before .column-of .result)) (now (c .column-of2 .result)) (now (a .passed)) (now (a .store)) (now (a .sizes)) (a .set) (now (c .before .before .slot-of .result))
+    Next (a .least) (a .dims) (a .n) (now (a .rows)) (now (a .columns)) (now (c .before .column-of .result)) (now (c .column-of2 .result)) (now (a .passed)) (now (a .store)) (now (a .sizes)) (a .set) (now (c .before .before .slot-of .result))
 next c =
     let a = c .before .before .before .before .before .before .before .before .before .before .before .before .before .before .args in
     let p = c .before .before .before .before .before .before .before .before .before .before .before .before .before .before .pre in
@@ -77,7 +77,7 @@ next c =
     }
 
 slice-aggregate-split-groups : tie.Need-slice-aggregate-split-groups
-slice-aggregate-split-groups c = let p = c .before .before .before .before .before .before .before .before .before .before .before .before .before .before .before .before .pre in sym (length-take-le (c .before .before .before .before .before .before .before .before .before .before .before .before .before .before .before .before .args .rows) _ (omega (arith, p .0 .0, p .1 .0 .3)))
+slice-aggregate-split-groups c = let p = c .before .before .before .before .before .before .before .before .before .before .before .before .before .before .before .before .pre in sym (length-take-le (c .before .before .before .before .before .before .before .before .before .before .before .before .before .before .before .before .args .n) _ (omega (arith, p .0 .0, p .1 .0 .3)))
 
 split-groups-requires : tie.Need-split-groups-requires
 split-groups-requires c κs =
@@ -106,7 +106,7 @@ slice-reshare-prefix-pack-groups-2 : tie.Need-slice-reshare-prefix-pack-groups-2
 slice-reshare-prefix-pack-groups-2 c = let p = c .before .before .before .before .before .before .before .before .before .before .before .before .before .before .before .before .before .before .before .before .before .before .pre in omega (arith, c .before .before .marks .given .1, p .1 .0 .3, p .0 .0)
 
 slice-aggregate-pack-groups-2 : tie.Need-slice-aggregate-pack-groups-2
-slice-aggregate-pack-groups-2 c = sym (length-take-le (c .before .before .before .before .before .before .before .before .before .before .before .before .before .before .before .before .before .before .before .before .before .before .before .args .rows) _ (slice-reshare-prefix-pack-groups-2 (c .before)))
+slice-aggregate-pack-groups-2 c = sym (length-take-le (c .before .before .before .before .before .before .before .before .before .before .before .before .before .before .before .before .before .before .before .before .before .before .before .args .n) _ (slice-reshare-prefix-pack-groups-2 (c .before)))
 
 mul-pack-groups : tie.Need-mul-pack-groups
 mul-pack-groups c = omega (arith, low (c .before .before .before .before .before .before .before .before .before .before .before .before .before .before .before))
@@ -152,14 +152,14 @@ returns c =
     let x = next (c .before .before .before .before .before .before .before .before .before .before .before .before .before .before .before .before) in
     let few = next-few x in
     let n = slice-aggregate-pack-groups (c .before .before .before .before .before .before .before .before) in
-    let wide : length (s .last .1 .1 .1 .1 .1 .0) ≡ a .rows = s .kept .1 .1 .1 .1 .1 .0 ∙ sym (slice-aggregate-split-groups (c .before .before .before .before .before .before .before .before .before .before .before .before .before .before)) in
-    let rest = drop (a .rows) (now (a .marks)) in
-    let h = marked (stays (now (a .passed))) (now (c .before .before .before .before .before .before .before .before .before .before .before .before .before .before .before .before .before .column-of .result)) (now (c .before .before .before .before .before .before .before .before .before .before .before .before .before .before .before .before .before .before .slot-of .result)) (s .last .1 .1 .1 .1 .1 .0) rest (a .rows) wide (s .ensures .1) in
+    let wide : length (s .last .1 .1 .1 .1 .1 .0) ≡ a .n = s .kept .1 .1 .1 .1 .1 .0 ∙ sym (slice-aggregate-split-groups (c .before .before .before .before .before .before .before .before .before .before .before .before .before .before)) in
+    let rest = drop (a .n) (now (a .marks)) in
+    let h = marked (stays (now (a .passed))) (now (c .before .before .before .before .before .before .before .before .before .before .before .before .before .before .before .before .before .column-of .result)) (now (c .before .before .before .before .before .before .before .before .before .before .before .before .before .before .before .before .before .before .slot-of .result)) (s .last .1 .1 .1 .1 .1 .0) rest (a .n) wide (s .ensures .1) in
     let order = take (s .result) (s .last .1 .1 .1 .1 .0) in
-    let marks = take (a .rows) (s .last .1 .1 .1 .1 .1 .0 ++ rest) in
+    let marks = take (a .n) (s .last .1 .1 .1 .1 .1 .0 ++ rest) in
     let w : a .set * 1024 + 1024 - a .set * 1024 ≡ 1024 = omega arith in
     let len : length (r .last .1 .1 .1 .0) ≡ a .set * 1024 + 1024 - a .set * 1024 = r .kept .1 .1 .1 .0 ∙ mid-len (a .set * 1024) (a .set * 1024 + 1024) (now (a .store)) (part-pack-groups-end (c .before .before .before .before .before .before .before)) in (
-      filled (a .least) (a .dims) (a .rows) (now (a .codes)) (now (a .store)) (now (a .sizes)) (r .last .1 .1 .1 .0) (a .set) (a .set * 1024) (a .set * 1024 + 1024 - a .set * 1024) (r .result .len) (p .0 .0) (low (c .before .before .before .before .before .before .before .before .before .before .before .before .before .before .before .before .before .before .before .before .before .before)) (p .1 .0 .0) (p .1 .0 .1) refl len w
+      filled (a .least) (a .dims) (a .n) (now (a .rows)) (now (a .store)) (now (a .sizes)) (r .last .1 .1 .1 .0) (a .set) (a .set * 1024) (a .set * 1024 + 1024 - a .set * 1024) (r .result .len) (p .0 .0) (low (c .before .before .before .before .before .before .before .before .before .before .before .before .before .before .before .before .before .before .before .before .before .before)) (p .1 .0 .0) (p .1 .0 .1) refl len w
           (omega (arith, r .ensures .1 .1 .0, n, s .ensures .0 .1, few)) (r .ensures .0 ∙ next-kept x order marks (s .ensures .0 .0) h),
       (r .ensures .1 .0 ∙ next-left x order marks (s .ensures .0 .0) h, omega (arith, r .ensures .1 .1 .1, n, s .ensures .0 .1, few)),
     )

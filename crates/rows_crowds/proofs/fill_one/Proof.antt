@@ -33,7 +33,7 @@ column-of-requires-2 : tie.Need-column-of-requires-2
 column-of-requires-2 c κs = let p = c .before .before .before .before .before .before .before .pre in (p .1 .1 .1 .room, omega (arith, last (c .before), p .1 .1 .0), p .0 .0)
 
 -- its column, and the rows in order
-turn : (c : tie.After-column-of2) → let a = c .before .before .before .before .before .before .before .before .args in Turn (a .least) (a .dims) (a .rows) (now (a .codes)) (now (a .columns)) (now (c .before .column-of .result)) (now (c .column-of2 .result)) (now (a .passed)) (a .set)
+turn : (c : tie.After-column-of2) → let a = c .before .before .before .before .before .before .before .before .args in Turn (a .least) (a .dims) (a .n) (now (a .rows)) (now (a .columns)) (now (c .before .column-of .result)) (now (c .column-of2 .result)) (now (a .passed)) (a .set)
 turn c =
     let p = c .before .before .before .before .before .before .before .before .pre in
     record {
@@ -51,8 +51,8 @@ turn c =
     }
 
 -- all rows
-long : (c : tie.After-column-of2) → length (now (c .column-of2 .result)) ≡ c .before .before .before .before .before .before .before .before .args .rows
-long c = let x = turn c in ap length (turn-rising x) ∙ arranged-length (codeIn (now (c .before .column-of .result))) (c .before .before .before .before .before .before .before .before .args .rows)
+long : (c : tie.After-column-of2) → length (now (c .column-of2 .result)) ≡ c .before .before .before .before .before .before .before .before .args .n
+long c = let x = turn c in ap length (turn-rising x) ∙ arranged-length (codeIn (now (c .before .column-of .result))) (c .before .before .before .before .before .before .before .before .args .n)
 
 part-pack-groups-end : tie.Need-part-pack-groups-end
 part-pack-groups-end c = omega (arith, low (c .before .before), c .before .before .before .before .before .before .before .before .pre .1 .0 .0)
@@ -80,7 +80,7 @@ returns c =
     let n = long (c .before .before .before .before .before .before .before) in
     let w : a .set * 1024 + 1024 - a .set * 1024 ≡ 1024 = omega arith in
     let len : length (r .last .1 .1 .1 .0) ≡ a .set * 1024 + 1024 - a .set * 1024 = r .kept .1 .1 .1 .0 ∙ mid-len (a .set * 1024) (a .set * 1024 + 1024) (now (a .store)) (part-pack-groups-end (c .before .before .before .before .before .before .before)) in (
-      filled (a .least) (a .dims) (a .rows) (now (a .codes)) (now (a .store)) (now (a .sizes)) (r .last .1 .1 .1 .0) (a .set) (a .set * 1024) (a .set * 1024 + 1024 - a .set * 1024) (r .result .len) (p .0 .0) (low (c .before .before .before .before .before .before .before .before .before)) (p .1 .0 .0) (p .1 .0 .1) refl len w
+      filled (a .least) (a .dims) (a .n) (now (a .rows)) (now (a .store)) (now (a .sizes)) (r .last .1 .1 .1 .0) (a .set) (a .set * 1024) (a .set * 1024 + 1024 - a .set * 1024) (r .result .len) (p .0 .0) (low (c .before .before .before .before .before .before .before .before .before)) (p .1 .0 .0) (p .1 .0 .1) refl len w
           (omega (arith, r .ensures .1 .1 .0, n)) (r .ensures .0 ∙ one-kept x (p .1 .1 .5) (p .1 .1 .6)),
       (r .ensures .1 .0 ∙ one-left x (p .1 .1 .5) (p .1 .1 .6), omega (arith, r .ensures .1 .1 .1, n)),
     )

@@ -16,28 +16,28 @@ use Rattle.rows_merge.proofs.next_turn.Tie as tie
 returns : tie.Need-returns
 returns c =
     let a = c .before .before .before .args in
-    sym (turn-none (cut (a .dims) (a .rows) (now (a .first))) (cut (a .dims) (a .others) (now (a .second))) (a .i) (a .j) (omega (arith, cut-length (a .dims) (a .rows) (now (a .first)), c .if1 .taken)))
+    sym (turn-none (cut (a .dims) (a .n) (now (a .first))) (cut (a .dims) (a .m) (now (a .second))) (a .i) (a .j) (omega (arith, cut-length (a .dims) (a .n) (now (a .first)), c .if1 .taken)))
 
 -- the first list has a row left
-left : (c : tie.Else1) → (let a = c .before .before .before .args in a .i < length (cut (a .dims) (a .rows) (now (a .first))))
-left c = let s = c .before .before .before in omega (arith, cut-length (s .args .dims) (s .args .rows) (now (s .args .first)), c .if1 .left, s .pre .3)
+left : (c : tie.Else1) → (let a = c .before .before .before .args in a .i < length (cut (a .dims) (a .n) (now (a .first))))
+left c = let s = c .before .before .before in omega (arith, cut-length (s .args .dims) (s .args .n) (now (s .args .first)), c .if1 .left, s .pre .3)
 
 returns-2 : tie.Need-returns-2
 returns-2 c =
     let a = c .before .before .before .before .args in
-    sym (turn-only (cut (a .dims) (a .rows) (now (a .first))) (cut (a .dims) (a .others) (now (a .second))) (a .i) (a .j) (left (c .before)) (omega (arith, cut-length (a .dims) (a .others) (now (a .second)), c .if2 .taken)))
+    sym (turn-only (cut (a .dims) (a .n) (now (a .first))) (cut (a .dims) (a .m) (now (a .second))) (a .i) (a .j) (left (c .before)) (omega (arith, cut-length (a .dims) (a .m) (now (a .second)), c .if2 .taken)))
 
 -- what the comparison told settles the turn
 told : (c : tie.After-compare)
     → (let a = c .before .before .before .before .before .before .before .args in
-    turn (drop (a .i) (cut (a .dims) (a .rows) (now (a .first)))) (drop (a .j) (cut (a .dims) (a .others) (now (a .second)))) ≡ turnBy (isBefore (c .compare .result)) (isEqual (c .compare .result)))
+    turn (drop (a .i) (cut (a .dims) (a .n) (now (a .first)))) (drop (a .j) (cut (a .dims) (a .m) (now (a .second)))) ≡ turnBy (isBefore (c .compare .result)) (isEqual (c .compare .result)))
 told c =
     let s = c .before .before .before .before .before .before .before in
     let a = s .args in
     let r = c .before .before .row-of .ensures in
     let q = c .before .row-of2 .ensures in
-    turn-compared (cut (a .dims) (a .rows) (now (a .first))) (cut (a .dims) (a .others) (now (a .second))) (a .i) (a .j) (left (c .before .before .before .before))
-    (omega (arith, cut-length (a .dims) (a .others) (now (a .second)), c .before .before .before .if2 .left, s .pre .4)) (r .0) (q .0) (omega (arith, r .1, s .pre .2)) (omega (arith, q .1, s .pre .2)) (c .compare .ensures)
+    turn-compared (cut (a .dims) (a .n) (now (a .first))) (cut (a .dims) (a .m) (now (a .second))) (a .i) (a .j) (left (c .before .before .before .before))
+    (omega (arith, cut-length (a .dims) (a .m) (now (a .second)), c .before .before .before .if2 .left, s .pre .4)) (r .0) (q .0) (omega (arith, r .1, s .pre .2)) (omega (arith, q .1, s .pre .2)) (c .compare .ensures)
 
 returns-3 : tie.Need-returns-3
 returns-3 c = sym (told (c .before .before) ∙ ap (λ o. turnBy (isBefore o) (isEqual o)) (c .enum-told .given .1))

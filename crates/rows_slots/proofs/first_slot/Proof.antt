@@ -12,7 +12,7 @@ use Rattle.rows_slots.proofs.first_slot.Statement.{statement}
 use Rattle.rows_slots.proofs.first_slot.Tie as tie
 
 -- each element is a row
-named : (c : tie.After-number-rows) → let a = c .before .before .before .before .before .before .before .args in Names (c .number-rows .last .0) (a .rows)
+named : (c : tie.After-number-rows) → let a = c .before .before .before .before .before .before .before .args in Names (c .number-rows .last .0) (a .n)
 named c i h = rw (c .number-rows .ensures .1 i h) (omega (arith, h, c .number-rows .ensures .0, c .before .before .before .before .before .before .before .pre .1 .0))
 
 pack-groups-requires : tie.Need-pack-groups-requires
@@ -32,11 +32,11 @@ returns c =
     let o = c .before .before .before .before .before .before .before .before .before .before .before .before .before .before .before .number-rows .ensures in
     let column = c .before .before .before .before .before .before .before .before .before .before .before .clear .last .0 in
     let zeros = c .before .before .before .before .before .before .before .before .before .before .before .clear .ensures .1 in
-    let all = numbered (c .before .before .before .before .before .before .before .before .before .before .before .before .before .before .before .number-rows .last .0) (a .rows) (o .0 ∙ p .1 .0) (o .1) in
+    let all = numbered (c .before .before .before .before .before .before .before .before .before .before .before .before .before .before .before .number-rows .last .0) (a .n) (o .0 ∙ p .1 .0) (o .1) in
     let r = c .before .before .before .before .pack-groups .ensures in (
-      r .0 ∙ ap (slotFrom (codeIn column) (a .least) true) all ∙ slot-none (a .dims) (a .rows) (now (a .codes)) column (p .0 .3) (a .least) (p .0 .1) (p .0 .2) zeros,
+      r .0 ∙ ap (slotFrom (codeIn column) (a .least) true) all ∙ slot-none (a .dims) (a .n) (now (a .rows)) column (p .0 .3) (a .least) (p .0 .1) (p .0 .2) zeros,
       (
-        r .1 .0 ∙ ap (loneFrom (codeIn column) (a .least) true) all ∙ lone-none (a .dims) (a .rows) (now (a .codes)) column (p .0 .3) (a .least) (p .0 .1) (p .0 .2) zeros,
+        r .1 .0 ∙ ap (loneFrom (codeIn column) (a .least) true) all ∙ lone-none (a .dims) (a .n) (now (a .rows)) column (p .0 .3) (a .least) (p .0 .1) (p .0 .2) zeros,
         (omega (arith, r .1 .1 .0, o .0, p .1 .0), omega (arith, r .1 .1 .1, o .0, p .1 .0)),
       ),
     )

@@ -11,7 +11,7 @@ use Rattle.small_tally.proofs.put_line.Tie as tie
 
 -- how many rows a table can have, and how many tallies there are
 sized : (c : tie.After-sets-of) → let m = c .sets-of .result in (m ≤ 8) × (m * m ≤ 64) × (m + m * m + 1 ≡ suc (mostEntries (c .before .before .args .dims)))
-sized c = most-fits (c .before .before .pre .1) (c .sets-of .ensures)
+sized c = most-fits (c .before .before .pre .0) (c .sets-of .ensures)
 
 mul-size : tie.Need-mul-size
 mul-size c = search (needs, sized c)
@@ -32,7 +32,7 @@ put-tallied-requires : tie.Need-put-tallied-requires
 put-tallied-requires c κs =
     let p = c .before .before .before .before .pre in
     let m = c .before .before .sets-of .result in
-    ((p .0, p .1, sym (slice-aggregate-put-tallied c) ∙ sized (c .before .before) .2, zeros-front (m + m * m + 1) 73), p .2)
+    ((p .0, sym (slice-aggregate-put-tallied c) ∙ sized (c .before .before) .2, zeros-front (m + m * m + 1) 73), p .1)
 
 pub put-line-spec : {M : Type 1} → statement M
 put-line-spec =

@@ -16,12 +16,12 @@ abbrev μ-loop : tie.MeasureT-loop
 μ-loop dims tallies₀ rows t₀ t-end tallies t = t-end - t
 
 sets-of-requires-2 : tie.Need-sets-of-requires-2 Inv-loop μ-loop
-sets-of-requires-2 c κs = omega (arith, c .sets-of .ensures, pow-mono (c .before .before .pre .1))
+sets-of-requires-2 c κs = omega (arith, c .sets-of .ensures, pow-mono (c .before .before .pre .0))
 
 loop-holds : tie.Need-loop-holds Inv-loop μ-loop
 loop-holds c =
     let p = c .before .before .before .pre in
-    (search needs, c .sets-of2 .ensures ∙ ap (λ (n : ℕ). 2 ^ n) (c .before .sets-of .ensures), tallied-none (c .before .before .before .args .dims) (p .2) (p .3))
+    (search needs, c .sets-of2 .ensures ∙ ap (λ (n : ℕ). 2 ^ n) (c .before .sets-of .ensures), tallied-none (c .before .before .before .args .dims) (p .1) (p .2))
 
 -- table t is one of them
 one : (c : tie.After-entries-of Inv-loop μ-loop) → c .before .before .loop .t < 2 ^ 2 ^ c .before .before .before .before .before .before .args .dims
@@ -55,7 +55,7 @@ loop-again c =
     (search needs, l .inv .1, tallied-more (c .before .before .before .before .before .before .before .args .dims) (l .inv .2) (one (c .before)) (c .before .entries-of .ensures))
 
 same-length : tie.Need-same-length Inv-loop μ-loop
-same-length c = let w = c .before .loop .inv .2 in omega (arith, w .size, c .before .before .before .before .before .pre .2)
+same-length c = let w = c .before .loop .inv .2 in omega (arith, w .size, c .before .before .before .before .before .pre .1)
 
 returns : tie.Need-returns Inv-loop μ-loop
 returns c = let l = c .before .loop in tallied-all (c .before .before .before .before .before .args .dims) (l .inv .2) (omega (arith, l .inv .0, l .inv .1, c .loop-test .left))

@@ -1,0 +1,2 @@
+-- The expansion as bytes: how long it is, and written over the front of lent bytes.
+pub mod Slotted

@@ -1,0 +1,3 @@
+-- Whether a set fixes a dimension in an archive.
+pub mod Follows
+pub mod Neighbours

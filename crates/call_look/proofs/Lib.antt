@@ -1,0 +1,3 @@
+-- An archive asked for a cell.
+pub mod Asked
+pub mod Normals

@@ -1,0 +1,39 @@
+-- `rows::words_of` meets its contract: a row's places are within the flat list.
+use mathlib.Core.Path.{_≡_, refl}
+use Prim.Native.Nat.{_+_, _*_, _-_, _≤_}
+use native.Mathlib.Omega.{arith}
+use lib.ListN.{length-drop}
+use lib.Seq.{length-take-le}
+use borrow.Author.Needs.{needs}
+use Rattle.rows.specs.Rows.{width}
+use Rattle.rows.proofs.Rows.{row-within}
+use Rattle.rows.proofs.words_of.Statement.{statement}
+use Rattle.rows.proofs.words_of.Tie as tie
+
+within : (c : tie.Start) → c .args .row * width (c .args .dims) + width (c .args .dims) ≤ c .args .n * width (c .args .dims)
+within c = row-within (width (c .args .dims)) (c .args .n) (c .args .row) (c .pre .1)
+
+add-width : tie.Need-add-width
+add-width c = omega (arith, within c, c .pre .0, c .fits)
+
+mul-from : tie.Need-mul-from
+mul-from c = omega (arith, within c)
+
+add-to : tie.Need-add-to
+add-to c = omega (arith, within c)
+
+mul-result : tie.Need-mul-result
+mul-result c = omega (arith, within c)
+
+part-result-end : tie.Need-part-result-end
+part-result-end c = omega (arith, within c)
+
+returns : tie.Need-returns
+returns c =
+    let a = c .before .args in
+    let e : a .row * width (a .dims) + width (a .dims) - a .row * width (a .dims) ≡ width (a .dims) = omega arith in
+    rw e (refl, length-take-le (width (a .dims)) _ (simp length-drop (omega (arith, within (c .before), c .before .pre .0))))
+
+pub words-of-spec : {M : Type 1} → statement M
+words-of-spec =
+    tie.close (tie.spec add-width mul-from add-to mul-result (λ c. search needs) (λ c. search needs) part-result-end returns)
