@@ -9,6 +9,8 @@ ghost use Rattle.cube.specs.Codes.{agree, plain};
 ghost use Rattle.cube.specs.Keys.{fixes as fixing};
 ghost use Rattle.rows_order.specs.Index.{Valid};
 ghost use Rattle.rows.specs.Rows.{width, cut, rowAt};
+ghost use Rattle.archive_entries.specs.Reading.{readArchive};
+ghost use Rattle.archive_read.specs.Sharing.{Shares};
 ghost use Rattle.call_ask.specs.Accepts.{Accepts};
 ghost use Rattle.call_keys.specs.Laid.{Laid, follows};
 ghost use Rattle.call_keys.specs.Calls.{tellsFixed};
@@ -71,17 +73,18 @@ fn rows_fix(rows: &[u32], n: usize, dims: usize, set: u32, fixed: u32) -> bool
     neighbours_fix(rows, n, dims, set, fixed, &mut index[..n])
 }
 
-// Tells whether a set fixes a dimension in an archive that was accepted.
+// Tells whether a set fixes a dimension in an archive that was accepted: a key fixes each, and otherwise the rows tell. Eight parameters: what was read of the archive is three numbers.
 fn fixes_read(
     s: &[u8],
     rows: &[u32],
     dims: u32,
     bases: u32,
     cells: u32,
+    used: &[usize],
     set: u32,
     dimension: u32,
 ) -> Fixed
-    requires { ⌜ Accepts (now s) (now rows) dims bases cells ⌝ }
+    requires { ⌜ Accepts (now s) (now rows) dims bases cells × Shares (readArchive (now s)) (now rows) (now used) ⌝ }
     ensures { λ r. ⌜ r ≡ tellsFixed (now (s .entry)) set dimension ⌝ }
 {
     if lattice::sets_of(dims) <= set {
@@ -94,6 +97,9 @@ fn fixes_read(
         return Fixed::Stop(16);
     }
     let d = dims as usize;
+    if call_keys::is_bare(d, used, set) {
+        return Fixed::Yes;
+    }
     let n = bases as usize;
     let size = n * (d + 3);
     let fixed = lattice::sets_of(dimension - 1);
@@ -104,14 +110,20 @@ fn fixes_read(
     }
 }
 
-// Reads an archive into the array that is lent, and tells whether a set fixes a dimension.
-fn fixes_in(s: &[u8], rows: &mut [u32; 11264], set: u32, dimension: u32) -> Fixed
+// Reads an archive into the arrays that are lent, and tells whether a set fixes a dimension.
+fn fixes_in(
+    s: &[u8],
+    rows: &mut [u32; 11264],
+    used: &mut [usize; 256],
+    set: u32,
+    dimension: u32,
+) -> Fixed
     ensures { λ r. ⌜ r ≡ tellsFixed (now (s .entry)) set dimension ⌝ }
 {
-    match archive_read::read_required(s, rows) {
+    match archive_read::read_sharing(s, rows, used) {
         ArchiveRead::Stop(n) => Fixed::Stop(n),
         ArchiveRead::Entries { dims, bases, cells } => {
-            fixes_read(s, rows, dims, bases, cells, set, dimension)
+            fixes_read(s, rows, dims, bases, cells, used, set, dimension)
         }
     }
 }
@@ -121,5 +133,6 @@ pub fn fixes(archive: &[u8], set: u32, dimension: u32) -> Fixed
     ensures { λ r. ⌜ r ≡ tellsFixed (now (archive .entry)) set dimension ⌝ }
 {
     let mut rows = [0u32; 11264];
-    fixes_in(archive, &mut rows, set, dimension)
+    let mut used = [0usize; 256];
+    fixes_in(archive, &mut rows, &mut used, set, dimension)
 }

@@ -78,7 +78,7 @@ module _ {d n : ℕ} {ws used : List ℕ} (rows : Laid d n ws) (told : Sharing d
         (λ t. eq-eqb (getD used s 0) 0 (k ∙ key-none t) ∙ sym t)
         (λ t. refuted (λ u. false≢true (sym t ∙ none-key (sym k ∙ eqb-true (getD used s 0) 0 u))) ∙ sym t)
 
-    bare-key : bare d used s ≡ key (plain d) xs s
+    pub bare-key : bare d used s ≡ key (plain d) xs s
     unfolding bare
     bare-key = cases (truth (eqb s (full d)))
         (λ t. ap (λ (b : Bool). b || eqb (getD used s 0) 0) t ∙ sym (ap (key (plain d) xs) (eqb-true s (full d) t) ∙ finest-key (plain d) (plain-laws d) xs (rows .base .valid)))

@@ -23,7 +23,7 @@ pub enum Fixed {
 }
 
 // Whether no cell of a set is shared.
-fn is_bare(dims: usize, used: &[usize], set: u32) -> bool
+pub fn is_bare(dims: usize, used: &[usize], set: u32) -> bool
     requires { ⌜ (dims ≤ 8) × (256 ≤ length (now used)) × (set < 2 ^ dims) ⌝ }
     ensures { λ r. ⌜ r ≡ bare dims (now (used .entry)) set ⌝ }
 {

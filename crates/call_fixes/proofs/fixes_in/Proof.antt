@@ -8,13 +8,11 @@ use Rattle.call_fixes.proofs.fixes_in.Tie as tie
 
 fixes-read-requires : tie.Need-fixes-read-requires
 fixes-read-requires c κs =
-    let r = c .before .before .before .before .before .read-required .ensures in
-    record { told = sym (r .0) ∙ c .before .before .before .dims .given .1; room = search needs; stored = r .1 }
+    let r = c .before .before .before .before .before .before .before .read-sharing .ensures in
+    (record { told = sym (r .0) ∙ c .before .before .before .before .before .dims .given .1; room = search needs; stored = r .1 .0 }, r .1 .1)
 
 returns : tie.Need-returns
-returns c = let a = c .before .before .before .before .before .before .args in fixes-refused (now (a .s)) (sym (c .before .before .before .read-required .ensures .0) ∙ c .before .n .given .1) (a .set) (a .dimension)
+returns c = let a = c .before .before .before .before .before .before .before .args in fixes-refused (now (a .s)) (sym (c .before .before .before .read-sharing .ensures .0) ∙ c .before .n .given .1) (a .set) (a .dimension)
 
 pub fixes-in-spec : {M : Type 1} → statement M
-fixes-in-spec =
-    tie.close
-    (tie.spec (λ c κs. search needs) (λ c. search needs) (λ c. search needs) fixes-read-requires returns (λ c. search needs))
+fixes-in-spec = tie.close (tie.spec (λ c κs. search needs) (λ c. search needs) (λ c. search needs) fixes-read-requires returns (λ c. search needs))
