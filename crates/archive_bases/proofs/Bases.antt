@@ -1,4 +1,4 @@
--- Our base entries of rows in flat lists, by their places, and how many sets and bytes each has.
+-- Our base entries of rows in a flat list, by their places, and how many sets and bytes each has.
 use mathlib.Core.Path.{_≡_, sym, ap, ap₂, _∙_}
 use mathlib.Core.List.{List, [], _∷_, map}
 use Prim.Native.Nat.{ℕ, _+_, _*_, _≤_, _<_}

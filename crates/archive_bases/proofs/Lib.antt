@@ -1,3 +1,3 @@
--- Laws of our base entries of rows in flat lists.
+-- Laws of our base entries of rows in a flat list.
 pub mod Bases
 pub mod Loops

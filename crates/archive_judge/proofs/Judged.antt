@@ -46,7 +46,7 @@ pub archive-sections : (zs : List ℕ) (rows : List (Row Total)) → archiveByte
 unfolding archiveBytes required layout sections ourBases normalRows
 archive-sections zs rows = refl
 
--- rows within the limits, in flat lists, are ready to be grouped
+-- rows within the limits, in a flat list, are ready to be grouped
 pub limits-ready : {zs : List ℕ} {rows : List (Row Total)} {d n : ℕ} {ws : List ℕ} → Limits zs rows → rowsOf d n ws ≡ rows
     → length zs ≡ d → n * width d ≡ length ws → Ready d n ws
 limits-ready {zs} {rows} {d} {n} {ws} l e k size =

@@ -1,2 +1,2 @@
--- An archive read with all its stops, 1 to 12: its fields checked, its base rows stored, and judged by them.
+-- How many rows share the cells of each set, as the check of an archive finds it.
 pub mod Sharing

@@ -1,4 +1,4 @@
--- An archive of rows in flat lists, as its sections one after the other, and how long it is.
+-- An archive of rows in a flat list, as its sections one after the other, and how long it is.
 use mathlib.Core.Path.{_≡_, sym, ap, ap₂, _∙_}
 use mathlib.Core.List.{List, _++_, map, flatMap, append-assoc}
 use Prim.Native.Nat.{ℕ, _+_, _*_, _≤_}

@@ -1,4 +1,4 @@
--- Why `build` writes the archive of a table: its base rows, stored in flat lists, are ready to be condensed, its sizes stand in its bytes, and what is written just if there is room for it answers the call.
+-- Why `build` writes the archive of a table: its base rows, stored in a flat list, are ready to be condensed, its sizes stand in its bytes, and what is written just if there is room for it answers the call.
 use mathlib.Core.Path.{_≡_, refl, sym, ap, ap₂, subst, _∙_}
 use mathlib.Core.Bool.{true, false, false≢true}
 use mathlib.Core.List.{List}

@@ -47,7 +47,7 @@ fn write_sized(
     fit_archive(out, sizes, rows, n, store)
 }
 
-// Writes the archive of a table that was accepted; the arrays have its base rows.
+// Writes the archive of a table that was accepted; the array has its base rows.
 fn build_read(s: &[u8], rows: &[u32], dims: u32, count: u32, out: &mut [u8]) -> Written
     requires { ⌜ tableAnswer (readTable (now s)) ≡ TableRead.Rows dims count ⌝ }
     requires { ⌜ (11264 ≤ length (now rows)) × Stored (readTable (now s)) (now rows) ⌝ }

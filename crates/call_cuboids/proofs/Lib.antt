@@ -1,2 +1,2 @@
--- Lengths of cuboids, and the expansion set by set.
+-- Lengths of cuboids.
 pub mod Lengths

@@ -1,2 +1,2 @@
--- The expansion as bytes: how long it is, and written over the front of lent bytes.
+-- Laws of cuboids written from slots.
 pub mod Slots

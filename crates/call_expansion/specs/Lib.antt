@@ -1,2 +1,2 @@
--- The expansion as bytes: how long it is, and written over the front of lent bytes.
+-- Base rows with the slots of all sets.
 pub mod Slotted

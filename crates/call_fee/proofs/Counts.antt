@@ -1,4 +1,4 @@
--- The counts of a set's cells: they are those of the grouped rows, in flat lists, and together as many as the readings of all rows.
+-- The counts of a set's cells: they are those of the grouped rows, in a flat list, and together as many as the readings of all rows.
 use mathlib.Core.Path.{_≡_, refl, sym, _∙_, ap}
 use mathlib.Core.List.{List, [], _∷_, map, map-append, List·Memᴰ·head}
 use Prim.Native.Nat.{ℕ, _+_, _*_, _≤_, _<_}

@@ -1,3 +1,3 @@
--- Whether a set fixes a dimension in an archive.
+-- Why neighbours tell whether a set fixes another.
 pub mod Follows
 pub mod Neighbours

@@ -1,4 +1,4 @@
--- Two lists of base rows in flat lists, merged into a store: what is filed of it.
+-- Two flat lists of base rows, merged into a store: what is filed of it.
 use mathlib.Core.Path.{_≡_, refl, sym, _∙_}
 use mathlib.Core.List.{List}
 use Prim.Native.Nat.{ℕ, _+_, _*_, _≤_, _<_}

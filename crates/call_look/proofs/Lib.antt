@@ -1,3 +1,3 @@
--- An archive asked for a cell.
+-- Why a cell that is asked for gets its entry.
 pub mod Asked
 pub mod Normals

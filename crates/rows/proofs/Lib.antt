@@ -1,4 +1,4 @@
--- Laws of rows in flat slices, and of their order under a set.
+-- Laws of rows in one flat list of words, and of their order under a set.
 pub mod Rows
 pub mod Flat
 pub mod Agree

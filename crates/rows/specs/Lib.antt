@@ -1,3 +1,3 @@
--- Rows in flat slices, and their order under a set.
+-- Rows in one flat list of words, and their order under a set.
 pub mod Rows
 pub mod Compare

@@ -1,2 +1,2 @@
--- The slots of all sets completed: those that have the groups of two rows or more have every group afterwards.
+-- Why the slots that are completed have every group.
 pub mod Completing

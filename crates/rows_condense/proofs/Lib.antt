@@ -1,4 +1,4 @@
--- Laws of lists in flat arrays, of the rows that are passed over, and of the cells that rows share.
+-- Laws of the rows that are passed over, of lists made set by set, and of the cells that rows share.
 pub mod Words
 pub mod Alone
 pub mod Growing

@@ -1,3 +1,3 @@
--- The lists of sets of rows in one flat slice: that of row i starts at 71 * i with how many sets it has, then its sets.
+-- Laws of lists in one flat list, and of sets put behind them.
 pub mod Lists
 pub mod Noted

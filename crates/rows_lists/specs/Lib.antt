@@ -1,2 +1,2 @@
--- The lists of sets of rows in one flat slice: that of row i starts at 71 * i with how many sets it has, then its sets.
+-- The lists of sets of rows in one flat list.
 pub mod Lists

@@ -1,3 +1,3 @@
--- Laws of base rows in flat lists, and of the cell of an empty table.
+-- Laws of base rows in a flat list, and of the cell of an empty table.
 pub mod Ready
 pub mod Blank

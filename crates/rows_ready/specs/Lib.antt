@@ -1,3 +1,3 @@
--- Base rows in flat lists, and the cell of an empty table.
+-- Base rows in a flat list, and the cell of an empty table.
 pub mod Ready
 pub mod Blank

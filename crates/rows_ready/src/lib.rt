@@ -1,4 +1,4 @@
-// Base rows in flat slices, as the functions over them take them, and the cell of an empty table.
+// Base rows as the functions over them take them, and the cell of an empty table.
 ghost use mathlib.Core.Path.{_≡_};
 ghost use Rattle.rows_ready.specs.Blank.{blanks};
 

@@ -1,3 +1,3 @@
--- The base rows of a table: its rows stored, and folded by their codes.
+-- Laws of a table's rows, stored.
 pub mod Rows
 pub mod Storing

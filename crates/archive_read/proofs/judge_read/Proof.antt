@@ -1,4 +1,4 @@
--- `archive_read::judge_read` meets its contract: the base rows fill the fronts of the arrays, and the archive is the one they require, or stop 12.
+-- `archive_read::judge_read` meets its contract: the base rows fill the front of the array, and the archive is the one they require, or stop 12.
 use mathlib.Core.Path.{sym, _∙_}
 use Prim.Native.Nat.{_*_}
 use native.Mathlib.Omega.{arith}

@@ -1,4 +1,4 @@
--- `call_build::build_read` meets its contract: the fronts of the arrays have the base rows of the table that was read, and its sizes stand in its bytes.
+-- `call_build::build_read` meets its contract: the front of the array has the base rows of the table that was read, and its sizes stand in its bytes.
 use mathlib.Core.Path.{sym, subst}
 use Prim.Native.Nat.{ℕ, _+_, _*_, _≤_}
 use native.Mathlib.Omega.{arith}
