@@ -5,7 +5,7 @@ ghost use mathlib.Core.List.{flatMap};
 ghost use Prim.Native.Nat.{_+_, _*_, _^_, _≤_, _<_};
 ghost use lib.ListN.{length};
 ghost use Rattle.fields.specs.Words.{wordBytes, wordsBytes};
-ghost use Rattle.fields.specs.Twos.{sumBytes};
+ghost use Rattle.fields_sums.specs.Twos.{sumBytes};
 ghost use Rattle.fields.specs.Written.{Wrote};
 ghost use Rattle.rows.specs.Rows.{width, rowsOf};
 ghost use Rattle.fields_walk.specs.Fields.{headerBytes};
@@ -37,7 +37,7 @@ pub fn put_cell(out: &mut [u8], codes: &[u32], sum: i64, count: u32) -> usize
     ensures { λ r. ⌜ Wrote (cellBytes (record { codes = now (codes .entry); total = record { sum = sum; count = count } })) (now (out .entry)) (now (out .exit)) r ⌝ }
 {
     let mut at = fields::put_words(out, codes);
-    at += fields::put_sum(&mut out[at..], sum);
+    at += fields_sums::put_sum(&mut out[at..], sum);
     at + fields::put_word(&mut out[at..], count)
 }
 
@@ -116,7 +116,7 @@ fn match_sum(s: &[u8], at: usize, sum: i64) -> Walk
     if s.len() - at < 8 {
         return Walk::Stop(12);
     }
-    if fields::sum_is(s, at, sum) {
+    if fields_sums::sum_is(s, at, sum) {
         return Walk::At(at + 8);
     }
     Walk::Stop(12)

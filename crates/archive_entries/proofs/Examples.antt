@@ -6,7 +6,7 @@ use lib.Count.{ones, onesIn}
 use lib.IntN.{pos}
 use lib.ListN.{take}
 use Rattle.fields.specs.Words.{wordAt, words, wordsBytes}
-use Rattle.fields.specs.Twos.{sumAt}
+use Rattle.fields_sums.specs.Twos.{sumAt}
 use Rattle.fields_check.specs.Check.{checkOf}
 use Rattle.lattice.specs.Sets.{sets}
 use Rattle.fields_walk.specs.Parsed.{stop, got, many}

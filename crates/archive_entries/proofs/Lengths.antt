@@ -7,7 +7,7 @@ use native.Mathlib.Omega.{arith}
 use lib.ListN.{length, length-append, length-map}
 use Rattle.fields.specs.Words.{wordBytes, wordsBytes}
 use Rattle.fields.specs.WordsLaws.{length-wordsBytes}
-use Rattle.fields.specs.Twos.{sumBytes}
+use Rattle.fields_sums.specs.Twos.{sumBytes}
 use Rattle.fields_check.specs.Check.{checkOf}
 use Rattle.fields_walk.specs.Fields.{headerBytes}
 use Rattle.fields_walk.proofs.Lengths.{length-flat, length-header, length-below}

@@ -9,7 +9,7 @@ use lib.ListN.{length, drop}
 use borrow.Author.Tests.{lt-leb}
 use Rattle.lists.specs.Order.{earlier}
 use Rattle.fields.specs.Words.{wordAt, wordsAt}
-use Rattle.fields.specs.Twos.{sumAt}
+use Rattle.fields_sums.specs.Twos.{sumAt}
 use Rattle.fields_walk.specs.declared.Walk.{Walk}
 use Rattle.fields_walk.specs.declared.Walk.the-variants.{At}
 use Rattle.fields_walk.specs.Parsed.{Parsed, stop, got, andThen, stopUnless, many}

@@ -9,7 +9,7 @@ use lib.Seq.{append-snoc, getD-drop}
 use borrow.Rule.Slice.PartMut.{putMid}
 use Rattle.fields.specs.Words.{wordAt, wordsAt}
 use Rattle.fields.specs.WordsLaws.{length-wordsAt, getD-wordsAt}
-use Rattle.fields.specs.Twos.{sumOf, sumAt}
+use Rattle.fields_sums.specs.Twos.{sumOf, sumAt}
 use Rattle.cube.specs.declared.Total.{Total}
 use Rattle.cube.specs.Measure.{Row}
 use Rattle.rows.specs.Rows.{width, rowOf, rowsOf}

@@ -12,7 +12,7 @@ use Rattle.lists.specs.Lists.{_∈_}
 use Rattle.lists.specs.Order.{earlier}
 use Rattle.lists.proofs.Pigeonhole.{no-more}
 use Rattle.fields.specs.Words.{wordBytes, wordsBytes}
-use Rattle.fields.specs.Twos.{sumBytes}
+use Rattle.fields_sums.specs.Twos.{sumBytes}
 use Rattle.fields_walk.specs.Parsed.{Parsed, got, andThen, stopUnless, many}
 use Rattle.fields_walk.specs.Fields.{word, sum, codes}
 use Rattle.fields_walk.specs.Limits.{Below}

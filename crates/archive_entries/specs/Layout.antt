@@ -19,7 +19,7 @@ use lib.ListN.{length}
 use Rattle.lists.specs.Lists.{_∈_}
 use Rattle.lists.specs.Order.{Rising, earlier}
 use Rattle.fields.specs.Words.{wordBytes, wordsBytes}
-use Rattle.fields.specs.Twos.{sumBytes}
+use Rattle.fields_sums.specs.Twos.{sumBytes}
 use Rattle.fields_check.specs.Check.{checked}
 use Rattle.fields_walk.specs.Fields.{headerBytes}
 use Rattle.fields_walk.specs.Limits.{Sized, Below}

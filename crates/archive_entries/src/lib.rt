@@ -1,6 +1,6 @@
 // An archive's sections read from their bytes: the fields from the left, and at each its stops in document 01's order (1 to 11), then the base rows.
 use fields_walk::Walk;
-use rows::Order;
+use rows_compare::Order;
 ghost use mathlib.Core.Logic.{_⊎_};
 ghost use mathlib.Core.Path.{_≡_};
 ghost use mathlib.Core.List.{[], _∷_, _++_};
@@ -43,7 +43,7 @@ fn is_after(s: &[u8], n: usize, p: usize, q: usize) -> bool
     let mut mine = [0u32; 8];
     fields::read_words(s, p, &mut before[..n]);
     fields::read_words(s, q, &mut mine[..n]);
-    match rows::compare(&before[..n], &mine[..n], 255) {
+    match rows_compare::compare(&before[..n], &mine[..n], 255) {
         Order::Before(_) => true,
         Order::Equal => false,
         Order::After(_) => false,
@@ -88,7 +88,7 @@ fn check_amount(s: &[u8], total: u32, at: usize) -> Walk
                 if 1048576 - total < count {
                     return Walk::Stop(8);
                 }
-                if can_make(count, fields::sum_at(s, at)) {
+                if can_make(count, fields_sums::sum_at(s, at)) {
                     Walk::At(next)
                 } else {
                     Walk::Stop(8)

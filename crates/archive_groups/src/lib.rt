@@ -44,7 +44,7 @@ pub fn put_group(out: &mut [u8], mine: &[u32], missing: &[u32; 8], total: cube::
 {
     let mut at = put_shown(out, mine, missing);
     let sum = total.sum;
-    at += fields::put_sum(&mut out[at..], sum);
+    at += fields_sums::put_sum(&mut out[at..], sum);
     at + fields::put_word(&mut out[at..], total.count)
 }
 
@@ -107,7 +107,7 @@ fn match_group(s: &[u8], start: usize, mine: &[u32], missing: &[u32; 8], total: 
     }
     let at = start + size;
     let sum = total.sum;
-    if !fields::sum_is(s, at, sum) {
+    if !fields_sums::sum_is(s, at, sum) {
         return Walk::Stop(12);
     }
     let next = at + 8;

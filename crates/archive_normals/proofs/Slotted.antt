@@ -10,7 +10,8 @@ use Rattle.lattice.proofs.Sets.{full-lt}
 use Rattle.rows.specs.Rows.{cut, rowsOf, rowTotal}
 use Rattle.archive_entries.specs.Layout.{cellBytes}
 use Rattle.rows_order.specs.Index.{key}
-use Rattle.rows_crowds.specs.Crowds.{part, Holds}
+use Rattle.rows_columns.specs.Columns.{part}
+use Rattle.rows_crowds.specs.Crowds.{Holds}
 use Rattle.rows_condense.proofs.Groups.{slot-shared}
 use Rattle.archive_groups.specs.Groups.{Groupable, groupBytes}
 use Rattle.archive_groups.proofs.Groupable.{groupable}

@@ -24,7 +24,8 @@ use Rattle.rows_slots.specs.Slots.{large, crowds, packed}
 use Rattle.rows_slots.specs.Summed.{summed}
 use Rattle.rows_slots.proofs.Entries.{crowds-below, slot-length, flat-few}
 use Rattle.rows_slots.proofs.Totalled.{summed-cuboid}
-use Rattle.rows_crowds.specs.Crowds.{part, Holds, ends}
+use Rattle.rows_columns.specs.Columns.{part}
+use Rattle.rows_crowds.specs.Crowds.{Holds, ends}
 use Rattle.rows_crowds.proofs.Left.{ends-packed}
 use Rattle.archive_entries.specs.Layout.{cellBytes}
 use Rattle.rows_ready.specs.Ready.{Ready}

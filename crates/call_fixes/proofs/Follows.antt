@@ -7,10 +7,10 @@ use Rattle.lists.proofs.Tests.{cases, truth, refuted}
 use Rattle.lists.proofs.Order.{same-refl}
 use Rattle.cube.specs.Codes.{cell, agree}
 use Rattle.cube.proofs.Codes.{agree-cell, agree-same}
-use Rattle.rows.specs.declared.Order.{Order}
-use Rattle.rows.specs.declared.Order.the-variants.{Before, Equal, After}
-use Rattle.rows.specs.Compare.{compared}
-use Rattle.rows.proofs.Parting.{compared-equal}
+use Rattle.rows_compare.specs.declared.Order.{Order}
+use Rattle.rows_compare.specs.declared.Order.the-variants.{Before, Equal, After}
+use Rattle.rows_compare.specs.Compare.{compared}
+use Rattle.rows_compare.proofs.Parting.{compared-equal}
 use Rattle.call_keys.specs.Laid.{follows}
 
 -- ---- by their order

@@ -20,10 +20,10 @@ fn agrees(mine: &[u32], other: &[u32], set: u32) -> bool
     requires { ⌜ length (now mine) ≡ length (now other) ⌝ }
     ensures { λ r. ⌜ r ≡ agree set (now (mine .entry)) (now (other .entry)) ⌝ }
 {
-    match rows::compare(mine, other, set) {
-        rows::Order::Before(_) => false,
-        rows::Order::Equal => true,
-        rows::Order::After(_) => false,
+    match rows_compare::compare(mine, other, set) {
+        rows_compare::Order::Before(_) => false,
+        rows_compare::Order::Equal => true,
+        rows_compare::Order::After(_) => false,
     }
 }
 

@@ -5,7 +5,7 @@ use Prim.Native.Nat.{ℕ, _+_}
 use lib.Count.{ones, onesIn}
 use lib.ListN.{take}
 use Rattle.fields.specs.Words.{wordAt, words, wordsBytes}
-use Rattle.fields.specs.Twos.{sumAt}
+use Rattle.fields_sums.specs.Twos.{sumAt}
 use Rattle.fields_check.specs.Check.{checkOf}
 use Rattle.lattice.specs.Sets.{sets}
 use Rattle.fields_walk.specs.Parsed.{many}

@@ -2,7 +2,7 @@
 // The call answers for whatever bytes it is lent, looks at the output last, and leaves every byte of it alone when it stops.
 use archive_entries::ArchiveRead;
 use call_answers::Written;
-use rows::Order;
+use rows_compare::Order;
 ghost use mathlib.Core.Path.{_≡_};
 ghost use Prim.Native.Nat.{_+_, _*_, _≤_};
 ghost use lib.ListN.{length};
@@ -23,7 +23,7 @@ fn same_sizes(first: &[u8], second: &[u8], sizes: &mut [u32], others: &mut [u32]
 {
     fields::read_words(first, 8, sizes);
     fields::read_words(second, 8, others);
-    match rows::compare(sizes, others, 255) {
+    match rows_compare::compare(sizes, others, 255) {
         Order::Before(_) => false,
         Order::Equal => true,
         Order::After(_) => false,

@@ -8,7 +8,7 @@ use lib.ListN.{length}
 use Rattle.lists.specs.Lists.{_∈_}
 use Rattle.lists.specs.Search.{Between}
 use Rattle.fields.specs.Words.{wordAt}
-use Rattle.fields.specs.Twos.{sumAt}
+use Rattle.fields_sums.specs.Twos.{sumAt}
 use Rattle.cube.specs.declared.Total.{Total}
 use Rattle.cube.specs.Measure.{Row, sums as measure, codesOf}
 use Rattle.cube.specs.Codes.{falls, set-of, plain}

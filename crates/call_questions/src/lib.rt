@@ -95,10 +95,10 @@ fn cell_before(mine: &[u32], cell: &[u32]) -> bool
     if set != other {
         return set < other;
     }
-    match rows::compare(mine, cell, 255) {
-        rows::Order::Before(_) => true,
-        rows::Order::Equal => false,
-        rows::Order::After(_) => false,
+    match rows_compare::compare(mine, cell, 255) {
+        rows_compare::Order::Before(_) => true,
+        rows_compare::Order::Equal => false,
+        rows_compare::Order::After(_) => false,
     }
 }
 
@@ -167,7 +167,7 @@ pub fn answer(
     if i == n {
         return without_rows(n, cell);
     }
-    if rows::is_single(rows, n, dims, i, set_of(cell)) {
+    if rows_compare::is_single(rows, n, dims, i, set_of(cell)) {
         let total = rows::total_at(rows, n, dims, i);
         let sum = total.sum;
         let count = total.count;
@@ -176,7 +176,7 @@ pub fn answer(
     }
     let k = find_cell(s, at, m, cell);
     let place = at + k * (4 * dims + 12) + 4 * dims;
-    let sum = fields::sum_at(s, place);
+    let sum = fields_sums::sum_at(s, place);
     let count = fields::word_at(s, place + 8);
     let entry = (n + k) as u32;
     Look::Cell { sum, count, entry }

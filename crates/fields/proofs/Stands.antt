@@ -6,15 +6,12 @@ use Prim.Native.Nat.{ℕ, _+_, _/_, _%_, _^_, _≤_, _<_}
 use native.Mathlib.Nat.{add-zero}
 use native.Mathlib.Omega.{arith}
 use lib.Dec.{eqb}
-use lib.IntN.{ℤ}
 use lib.ListN.{length, drop, getD, length-drop}
-use lib.Seq.{getD-drop, drop-drop}
+use lib.Seq.{getD-drop}
 use borrow.Author.Tests.{eq-eqb, eqb-true, eqb-false}
 use Rattle.lists.proofs.Tests.{cases, truth, both, refuted}
 use Rattle.fields.specs.Words.{word, wordBytes}
-use Rattle.fields.specs.Twos.{lowOf, highOf, sumBytes}
 use Rattle.fields.specs.Opening.{startsWith}
-use Rattle.fields.specs.OpeningLaws.{startsWith-append}
 
 module _ (a b c d w : ℕ) (ha : a < 256) (hb : b < 256) (hc : c < 256) (hd : d < 256) (hw : w < 2 ^ 32) where
   -- the test byte by byte
@@ -52,10 +49,3 @@ starts-word s at w h ha hb hc hd hw =
     let r : getD (drop at s) 2 0 ≡ getD s (at + 2) 0 = getD-drop at s 2 0 in
     let t : getD (drop at s) 3 0 ≡ getD s (at + 3) 0 = getD-drop at s 3 0 in
     front (drop at s) w (simp length-drop (omega arith)) (rw p ha) (rw q hb) (rw r hc) (rw t hd) hw ∙ rw (p, q, r, t) refl
-
--- a sum is two words
-pub starts-sum : (s : List ℕ) (at : ℕ) (z : ℤ)
-    → startsWith (drop at s) (sumBytes z) ≡ startsWith (drop at s) (wordBytes (lowOf z)) && startsWith (drop (at + 4) s) (wordBytes (highOf z))
-starts-sum s at z =
-    startsWith-append (drop at s) (wordBytes (lowOf z)) (wordBytes (highOf z))
-    ∙ ap (λ (l : List ℕ). startsWith (drop at s) (wordBytes (lowOf z)) && startsWith l (wordBytes (highOf z))) (drop-drop 4 at s)

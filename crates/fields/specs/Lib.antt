@@ -1,9 +1,7 @@
--- The definitions that the contracts cite, one idea a file: `Words`, `Twos`, `Opening`, `Written`. Each `..Laws` has what callers use of them.
+-- The definitions that the contracts cite, one idea a file: `Words`, `Opening`, `Written`. Each `..Laws` has what callers use of them.
 pub mod Written
 pub mod WrittenLaws
 pub mod Words
 pub mod WordsLaws
-pub mod Twos
-pub mod TwosLaws
 pub mod Opening
 pub mod OpeningLaws

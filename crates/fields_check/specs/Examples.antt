@@ -3,7 +3,7 @@ use mathlib.Core.Path.{_≡_, refl}
 use mathlib.Core.List.{[], _∷_, _++_}
 use lib.IntN.{negsuc}
 use Rattle.fields.specs.Words.{words, wordAt, wordsBytes}
-use Rattle.fields.specs.Twos.{sumAt, sumBytes, readingAt, readingBytes}
+use Rattle.fields_sums.specs.Twos.{sumAt, sumBytes, readingAt, readingBytes}
 use Rattle.fields_check.specs.Check.{checkOf}
 
 -- the archive of a table of no rows, D 1 and size 1, has the check word 45435545 (hexadecimal): no base entry, and one normal entry, all ALL

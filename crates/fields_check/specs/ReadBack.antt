@@ -13,8 +13,8 @@ use lib.ListN.{length, drop}
 use lib.Seq.{drop-at, drop-drop}
 use Rattle.fields.specs.Words.{wordAt, wordBytes, words, wordsBytes, areWords}
 use Rattle.fields.specs.WordsLaws.{word-back, wordAt-drop}
-use Rattle.fields.specs.Twos.{signedOf, bitsOf, sumAt, sumBytes, readingAt, readingBytes}
-use Rattle.fields.specs.TwosLaws.{signed-bits, bits-lt}
+use Rattle.fields_sums.specs.Twos.{signedOf, bitsOf, sumAt, sumBytes, readingAt, readingBytes}
+use Rattle.fields_sums.specs.TwosLaws.{signed-bits, bits-lt}
 use Rattle.fields.specs.Opening.{startsWith}
 use Rattle.fields.specs.OpeningLaws.{starts-append}
 use Rattle.fields_check.specs.Check.{checkOf, checked}

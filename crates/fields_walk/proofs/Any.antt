@@ -11,7 +11,7 @@ use lib.Seq.{drop-drop}
 use borrow.Author.Tests.{leb-true, leb-false}
 use Rattle.lists.proofs.Tests.{cases, truth}
 use Rattle.fields.specs.Words.{wordAt}
-use Rattle.fields.specs.Twos.{sumAt}
+use Rattle.fields_sums.specs.Twos.{sumAt}
 use Rattle.fields_walk.specs.declared.Walk.{Walk}
 use Rattle.fields_walk.specs.declared.Walk.the-variants.{Stop, At}
 use Rattle.fields_walk.specs.Parsed.{stop, got, andThen, many}

@@ -14,8 +14,8 @@ use Rattle.lists.proofs.Members.{at-in}
 use Rattle.lists.proofs.Pigeonhole.{no-more}
 use Rattle.fields.specs.Words.{word as wordOf, wordAt, wordBytes, wordsBytes}
 use Rattle.fields.specs.WordsLaws.{word-back, wordAt-drop}
-use Rattle.fields.specs.Twos.{signedOf, bitsOf, sumAt, sumBytes, readingAt, readingBytes}
-use Rattle.fields.specs.TwosLaws.{bits-lt, signed-bits, bits-signed, signed-fits}
+use Rattle.fields_sums.specs.Twos.{signedOf, bitsOf, sumAt, sumBytes, readingAt, readingBytes}
+use Rattle.fields_sums.specs.TwosLaws.{bits-lt, signed-bits, bits-signed, signed-fits}
 use Rattle.fields_walk.specs.Parsed.{got, andThen}
 use Rattle.fields_walk.specs.Fields.{room, word, sum, reading, field, codes}
 use Rattle.fields_walk.specs.Limits.{Below, Bytes}

@@ -8,7 +8,7 @@ use native.Mathlib.Omega.{arith}
 use lib.ListN.{length, drop}
 use Rattle.fields.specs.Words.{wordAt, wordsAt}
 use Rattle.fields.specs.WordsLaws.{wordAt-drop}
-use Rattle.fields.specs.Twos.{signedOf, sumAt, readingAt}
+use Rattle.fields_sums.specs.Twos.{signedOf, sumAt, readingAt}
 use Rattle.fields_walk.specs.Parsed.{got, andThen, stopUnless, consed, many}
 use Rattle.fields_walk.specs.Fields.{room, word, sum, reading, field, codes}
 use Rattle.fields_walk.proofs.Steps.{Reader, through, passed, value-rest}

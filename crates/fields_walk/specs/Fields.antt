@@ -16,7 +16,7 @@ use lib.Dec.{eqb, leb, ltb}
 use lib.IntN.{ℤ}
 use lib.ListN.{length, take, drop}
 use Rattle.fields.specs.Words.{wordAt, wordBytes, wordsBytes}
-use Rattle.fields.specs.Twos.{sumAt, readingAt}
+use Rattle.fields_sums.specs.Twos.{sumAt, readingAt}
 use Rattle.fields.specs.Opening.{startsWith}
 use Rattle.fields_check.specs.Check.{checkOf}
 use Rattle.fields_walk.specs.Parsed.{Parsed, got, andThen, stopUnless, consed, many}

@@ -5,7 +5,7 @@ use Prim.Native.Nat.{ℕ}
 use lib.IntN.{pos}
 use lib.Count.{ones, onesIn}
 use Rattle.fields.specs.Words.{wordAt, words, wordsBytes}
-use Rattle.fields.specs.Twos.{readingAt, sumAt}
+use Rattle.fields_sums.specs.Twos.{readingAt, sumAt}
 use Rattle.fields_check.specs.Check.{checkOf}
 use Rattle.lattice.specs.Sets.{sets}
 use Rattle.fields_walk.specs.Parsed.{many}

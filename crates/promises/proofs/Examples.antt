@@ -6,7 +6,7 @@ use lib.IntN.{pos}
 use lib.Count.{ones, onesIn}
 use lib.ListN.{length}
 use Rattle.fields.specs.Words.{wordAt, words, wordsBytes}
-use Rattle.fields.specs.Twos.{readingAt, sumAt}
+use Rattle.fields_sums.specs.Twos.{readingAt, sumAt}
 use Rattle.fields_check.specs.Check.{checkOf}
 use Rattle.lattice.specs.Sets.{sets}
 use Rattle.fields_walk.specs.Parsed.{Parsed, stop, got, many}

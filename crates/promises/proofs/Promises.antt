@@ -29,11 +29,11 @@ use Rattle.cube.proofs.Sums.{sums-add}
 use Rattle.cube.proofs.Existing.{existing-of, exists-node}
 use Rattle.cube.proofs.Folding.{cells-folded}
 use Rattle.cube.proofs.Promises.{base-rows, any-expands, ours-condensed, any-road, no-record-iff, answer, one-entry, fewest-entries, as-few, shortest-list}
-use Rattle.rows.specs.declared.Order.the-variants.{Equal}
+use Rattle.rows_compare.specs.declared.Order.the-variants.{Equal}
 use Rattle.rows.specs.Rows.{cut}
-use Rattle.rows.specs.Compare.{compared, named, has, FirstDifference, added, Longer}
-use Rattle.rows.proofs.Parting as parting
-use Rattle.rows.proofs.Longer as carrying
+use Rattle.rows_compare.specs.Compare.{compared, named, has, FirstDifference, added, Longer}
+use Rattle.rows_compare.proofs.Parting as parting
+use Rattle.rows_compare.proofs.Longer as carrying
 use Rattle.rows_order.specs.Index.{key, Indexed}
 use Rattle.rows_runs.specs.Runs.{runs, again}
 use Rattle.rows_runs.proofs.Longer as grouping

@@ -10,8 +10,8 @@ use lib.Signed.{mag}
 use lib.ListN.{length, getD, take, drop, set, take-append-drop, length-set}
 use lib.Seq.{drop-drop, getD-take, getD-drop, getD-set-same, getD-set-other, take-set-le, take-take, take-at, drop-at, length-take-le}
 use borrow.Rule.Slice.PartMut.{putMid}
-use Rattle.fields.specs.Twos.{sumOf, lowOf, highOf}
-use Rattle.fields.specs.TwosLaws.{sum-words}
+use Rattle.fields_sums.specs.Twos.{sumOf, lowOf, highOf}
+use Rattle.fields_sums.specs.TwosLaws.{sum-words}
 use Rattle.cube.specs.declared.Total.{Total}
 use Rattle.cube.specs.Measure.{Row, nothing}
 use Rattle.rows.specs.Rows.{width, rowOf, cut, rowAt, rowsOf, rowTotal}

@@ -1,3 +1,2 @@
--- Rows in one flat list of words, and their order under a set.
+-- Rows in one flat list of words.
 pub mod Rows
-pub mod Compare

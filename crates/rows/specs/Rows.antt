@@ -10,7 +10,7 @@
 use mathlib.Core.List.{List, [], _∷_}
 use Prim.Native.Nat.{ℕ, zero, suc, _+_}
 use lib.ListN.{getD, take, drop}
-use Rattle.fields.specs.Twos.{sumOf}
+use Rattle.fields_sums.specs.Twos.{sumOf}
 use Rattle.cube.specs.declared.Total.{Total}
 use Rattle.cube.specs.Measure.{Row, nothing}
 

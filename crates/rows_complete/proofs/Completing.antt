@@ -19,7 +19,8 @@ use Rattle.rows_order.proofs.Arranged.{arranged-length}
 use Rattle.rows_slots.specs.Slots.{flat, large, crowds, packed}
 use Rattle.rows_slots.proofs.Groups.{flat-runs}
 use Rattle.rows_slots.proofs.Entries.{slot-length}
-use Rattle.rows_crowds.specs.Crowds.{part, Holds, AllHold, Filled}
+use Rattle.rows_columns.specs.Columns.{part}
+use Rattle.rows_crowds.specs.Crowds.{Holds, AllHold, Filled}
 use Rattle.rows_crowds.proofs.Turns.{Filling, filling-start, filling-skip, filling-more}
 
 -- ---- a slot that has every row has all groups

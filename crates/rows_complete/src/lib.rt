@@ -18,7 +18,7 @@ pub fn complete_slots(rows: &[u32], n: usize, dims: usize, store: &mut [u16], si
     let mut marks = [0u32; 1024];
     let mut lone = [0u32; 1024];
     let passed = [0u32; 32];
-    rows_crowds::read_columns(rows, n, dims, &mut columns);
+    rows_columns::read_columns(rows, n, dims, &mut columns);
     let all = lattice::sets_of(dims as u32) - 1;
     for k in 0..256 {
         let set = lattice::set_at(k);

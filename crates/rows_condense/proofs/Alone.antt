@@ -15,8 +15,8 @@ use Rattle.rows_order.specs.Index.{key}
 use Rattle.rows_slots.specs.Slots.{shares}
 use Rattle.rows_crowds.specs.Crowds.{Passing, leftOut}
 use Rattle.rows_crowds.proofs.Left.{left-in, left-of}
-use Rattle.rows_condense.specs.Alone.{passes, isNew, Lower, Stored, Told}
-use Rattle.rows_condense.proofs.Words.{passes-first}
+use Rattle.rows_alone.specs.Alone.{passes, isNew, Lower, Stored, Told}
+use Rattle.rows_alone.proofs.Words.{passes-first}
 
 module _ {d n : ℕ} {ws alone : List ℕ} {s : ℕ} (low : Lower d n ws alone s) (passed : List ℕ) (told : (x : ℕ) → has passed x ≡ passes 8 alone s x) where
   abbrev xs : List (List ℕ)

@@ -1,5 +1,4 @@
--- Laws of the rows that are passed over, of lists made set by set, and of the cells that rows share.
-pub mod Words
+-- Laws of lists made set by set, and of the cells that rows share.
 pub mod Alone
 pub mod Growing
 pub mod Partly

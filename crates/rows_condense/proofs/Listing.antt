@@ -26,7 +26,7 @@ use Rattle.rows_slots.specs.Slots.{crowds, packed}
 use Rattle.rows_crowds.specs.Crowds.{leftOut, ends}
 use Rattle.rows_crowds.proofs.Left.{ends-shared}
 use Rattle.rows_lists.specs.Lists.{listsOf, Short, Empty, Fit, noted, ourLists}
-use Rattle.rows_condense.specs.Alone.{AloneOn, isNew, Lower, Told}
+use Rattle.rows_alone.specs.Alone.{AloneOn, isNew, Lower, Told}
 use Rattle.rows_condense.proofs.Partly.{partly, partly-none, partly-all, partly-fit}
 use Rattle.rows_condense.proofs.Lone.{lone-lower, partly-noted}
 

@@ -36,8 +36,8 @@ use Rattle.rows_crowds.proofs.First.{first-shares}
 use Rattle.rows_crowds.proofs.Turns.{all-rising, all-of}
 use Rattle.rows_crowds.proofs.Left.{left-in, left-of, left-distinct, shares-single}
 use Rattle.rows_lists.specs.Lists.{noted}
-use Rattle.rows_condense.specs.Alone.{wordsOf, AloneOn, passes, isNew, Lower}
-use Rattle.rows_condense.proofs.Words.{passes-in, passes-of}
+use Rattle.rows_alone.specs.Alone.{wordsOf, AloneOn, passes, isNew, Lower}
+use Rattle.rows_alone.proofs.Words.{passes-in, passes-of}
 use Rattle.rows_lists.proofs.Noted.{noted-length, noted-out, noted-in}
 use Rattle.rows_condense.proofs.Growing.{listedTo, listed-among, listed-more}
 use Rattle.rows_condense.proofs.Partly.{partly, below}

@@ -1,67 +1,18 @@
 // Base rows condensed: the groups that they form under each set, and our list of each row.
 ghost use mathlib.Core.Path.{_≡_};
-ghost use mathlib.Core.Bool.{_||_};
-ghost use Prim.Native.Nat.{ℕ, _*_, _^_, _≤_, _<_};
-ghost use lib.Dec.{eqb};
+ghost use Prim.Native.Nat.{_*_, _^_, _≤_, _<_};
 ghost use lib.ListN.{length};
-ghost use Rattle.lists.specs.Lists.{some, keep};
+ghost use Rattle.lists.specs.Lists.{keep};
 ghost use Rattle.lattice.specs.Sets.{full};
 ghost use Rattle.cube.specs.Codes.{plain};
 ghost use Rattle.cube.specs.Condensed.{normals, Base};
 ghost use Rattle.rows.specs.Rows.{width, cut};
-ghost use Rattle.rows_bits.specs.Rowsets.{has as hasRow};
-ghost use Rattle.rows_deals.specs.Deals.{Names};
 ghost use Rattle.rows_order.specs.Index.{key, Valid};
 ghost use Rattle.rows_slots.specs.Slots.{crowds, packed};
-ghost use Rattle.rows_crowds.specs.Crowds.{Columns, shorter, leftOut, Holds, AllHold, Filled, ends};
+ghost use Rattle.rows_columns.specs.Columns.{Columns};
+ghost use Rattle.rows_crowds.specs.Crowds.{shorter, leftOut, Holds, AllHold, Filled, ends};
 ghost use Rattle.rows_lists.specs.Lists.{listsOf, Short, Fit, noted, ourLists};
-ghost use Rattle.rows_condense.specs.Alone.{wordsOf, passes, isNew, Lower, Stored, Told};
-
-// The words of a set.
-fn words_of<'a>(alone: &'a [u32], set: usize) -> &'a [u32]
-    requires { ⌜ (8192 ≤ length (now alone)) × (set < 256) ⌝ }
-    ensures { λ r. ⌜ now r ≡ wordsOf (now (alone .entry)) set ⌝ }
-{
-    let from = set * 32;
-    let to = from + 32;
-    &alone[from..to]
-}
-
-// The rows that are passed over at a set: those that are single on the set without one of its dimensions.
-fn pass_rows(alone: &[u32], set: u32, passed: &mut [u32])
-    requires { ⌜ (8192 ≤ length (now alone)) × (set < 256) × (length (now passed) ≡ 32) ⌝ }
-    ensures { λ _. ⌜ (length (now (passed .exit)) ≡ 32) × ((x : ℕ) → hasRow (now (passed .exit)) x ≡ passes 8 (now (alone .entry)) set x) ⌝ }
-{
-    rows_deals::clear(passed);
-    for d in 0..8 {
-        let one = lattice::sets_of(d);
-        if !lattice::holds_set(set, one) {
-            continue;
-        }
-        rows_bits::join(passed, words_of(alone, (set - one) as usize));
-    }
-}
-
-// Adds rows to a set of rows.
-fn add_rows(rows: &[u32], words: &mut [u32])
-    requires { ⌜ Names (now rows) 1024 × (length (now words) ≡ 32) ⌝ }
-    ensures { λ _. ⌜ (length (now (words .exit)) ≡ 32) × ((x : ℕ) → hasRow (now (words .exit)) x ≡ some (eqb x) (now (rows .entry)) || hasRow (now (words .entry)) x) ⌝ }
-{
-    for i in 0..rows.len() {
-        rows_bits::add(words, rows[i]);
-    }
-}
-
-// Puts words into those of a set.
-fn put_words(words: &[u32], set: usize, alone: &mut [u32])
-    requires { ⌜ (length (now words) ≡ 32) × (set < 256) × (8192 ≤ length (now alone)) ⌝ }
-    ensures { λ _. ⌜ Stored (now (words .entry)) (now (alone .entry)) (now (alone .exit)) set ⌝ }
-{
-    let from = set * 32;
-    for i in 0..32 {
-        alone[from + i] = words[i];
-    }
-}
+ghost use Rattle.rows_alone.specs.Alone.{isNew, Lower, Told};
 
 // One set more: its slot is filled, and it is put behind the lists of the rows that come out alone there and on no smaller set. Returns how many cells of it rows share. Thirteen parameters: the rows, their lists, and work arrays that are lent once a call.
 fn list_set(
@@ -88,7 +39,7 @@ fn list_set(
     ensures { λ r. ⌜ (listsOf n (now (lists .exit)) ≡ noted set (keep (isNew (now (alone .entry)) set) (leftOut 2 (cut dims n (now (rows .entry))) n set)) (listsOf n (now (lists .entry)))) × Short n (now (lists .exit)) ⌝ }
     ensures { λ r. ⌜ r ≡ ends (packed (crowds 2 (key set (cut dims n (now (rows .entry)))) n)) ⌝ }
 {
-    pass_rows(alone, set, passed);
+    rows_alone::pass_rows(alone, set, passed);
     let left = rows_crowds::fill_set(
         rows,
         n,
@@ -105,8 +56,8 @@ fn list_set(
     );
     let new = &lone[..left];
     rows_lists::note_lone(new, set as u8, lists, n);
-    add_rows(new, passed);
-    put_words(passed, set as usize, alone);
+    rows_alone::add_rows(new, passed);
+    rows_alone::put_words(passed, set as usize, alone);
     let slot = rows_crowds::slot_of(store, sizes, set as usize);
     rows_crowds::count_groups(slot)
 }
@@ -133,7 +84,7 @@ pub fn condense_rows(
     let mut marks = [0u32; 1024];
     let mut lone = [0u32; 1024];
     rows_lists::clear_lists(lists, n);
-    rows_crowds::read_columns(rows, n, dims, &mut columns);
+    rows_columns::read_columns(rows, n, dims, &mut columns);
     let all = lattice::sets_of(dims as u32) - 1;
     let mut cells = 0;
     for k in 0..256 {

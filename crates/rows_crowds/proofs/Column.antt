@@ -23,7 +23,8 @@ use Rattle.rows_slots.specs.Slots.{crowds, shares, loners, parted, packed, code
 use Rattle.rows_slots.proofs.Marks.{slot-arranged, lone-arranged}
 use Rattle.rows_slots.proofs.Split.{slot-same, lone-same}
 use Rattle.rows_slots.proofs.Last.{key-none, last-refined}
-use Rattle.rows_crowds.specs.Crowds.{part, Columns, Passing, place, shorter, leftOut}
+use Rattle.rows_columns.specs.Columns.{part, Columns}
+use Rattle.rows_crowds.specs.Crowds.{Passing, place, shorter, leftOut}
 use Rattle.rows_crowds.proofs.Shorter.{shorter-last, shorter-and, shorter-place, shorter-none}
 use Rattle.rows_crowds.proofs.Left.{left-in}
 use Rattle.rows_crowds.proofs.First.{first-shares, arranged-same}

@@ -22,10 +22,11 @@ use Rattle.rows_order.specs.Index.{key, arranged}
 use Rattle.rows_order.proofs.Sorted.{stable-in}
 use Rattle.rows_slots.specs.Slots.{crowds, packed, rowIn, endIn, codeIn, slotFrom, loneFrom, out, markIn, markKey, splitOrder, Slot}
 use Rattle.rows_slots.proofs.Split.{slot-same, lone-same, split-kept, split-left}
-use Rattle.rows_marks.proofs.Slotted.{slot-few, slot-in}
-use Rattle.rows_crowds.specs.Crowds.{part, Passing, shorter, leftOut, Holds, Filled, ends}
+use Rattle.rows_split.proofs.Slotted.{slot-few, slot-in}
+use Rattle.rows_columns.specs.Columns.{part}
+use Rattle.rows_crowds.specs.Crowds.{Passing, shorter, leftOut, Holds, Filled, ends}
 use Rattle.rows_crowds.proofs.Column.{Turn, left-next, turn-refined, turn-small, turn-column, turn-rising}
-use Rattle.rows_crowds.proofs.Parts.{part-here, part-other}
+use Rattle.rows_columns.proofs.Parts.{part-here, part-other}
 
 pub below-all : {s : ℕ} (d : ℕ) → d ≤ 8 → s < 2 ^ d → s < 256
 below-all d h l = omega (arith, l, pow-mono {i = d} {j = 8} h)

@@ -1,6 +1,4 @@
 -- Laws of slots in a flat array, and of the set without its last dimension.
-pub mod Parts
-pub mod Reading
 pub mod Shorter
 pub mod Left
 pub mod First

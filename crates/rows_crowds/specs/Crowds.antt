@@ -1,7 +1,5 @@
--- The groups of rows under all sets, in one flat array: the slot of set s starts at 1024 * s. The codes of the rows in one dimension stand in another in the same way.
+-- The groups of rows under all sets, in one flat list: the slot of set s starts at 1024 * s.
 --
---   part i n l          the first n elements of part i of a flat list
---   Columns d n ..      the columns of n rows of d codes; and behind them, for each, the rows in the order of their codes
 --   Passing ..          rows may be passed over at set s: none of them shares its cell; at the empty set there are none, nor at a set of one dimension unless there is one row only
 --   Holds ..            the slot of set s has the groups that the rows form by their cells under s
 --   AllHold .. m        so have the slots of all sets below m
@@ -14,22 +12,15 @@ use mathlib.Core.Path.{_≡_}
 use mathlib.Core.Logic.{_≢_}
 use mathlib.Core.Bool.{true}
 use mathlib.Core.List.{List, [], _∷_}
-use Prim.Native.Nat.{ℕ, zero, suc, _+_, _-_, _*_, _^_, _≤_, _<_}
+use Prim.Native.Nat.{ℕ, zero, suc, _+_, _-_, _^_, _≤_, _<_}
 use lib.Count.{leadingZeros}
-use lib.ListN.{length, getD, take, drop}
+use lib.ListN.{length, getD}
 use Rattle.lattice.specs.Sets.{size}
 use Rattle.rows.specs.Rows.{cut}
 use Rattle.rows_bits.specs.Rowsets.{stays}
-use Rattle.rows_order.specs.Index.{key, arranged, columnOf}
-use Rattle.rows_slots.specs.Slots.{crowds, shares, loners, loneRows, packed, endIn, codeIn}
-
-abbrev pub part : ℕ → ℕ → List ℕ → List ℕ
-part i n l = take n (drop (i * 1024) l)
-
-pub record Columns (d n : ℕ) (ws columns : List ℕ) : Type 0 where
-  pub room : 16384 ≤ length columns
-  pub column : (i : ℕ) → i < d → part i n columns ≡ columnOf i (cut d n ws)
-  pub order : (i : ℕ) → i < d → part (8 + i) n columns ≡ arranged (codeIn (columnOf i (cut d n ws))) n
+use Rattle.rows_order.specs.Index.{key}
+use Rattle.rows_columns.specs.Columns.{part}
+use Rattle.rows_slots.specs.Slots.{crowds, shares, loners, loneRows, packed, endIn}
 
 pub record Passing (least d n : ℕ) (ws passed : List ℕ) (s : ℕ) : Type 0 where
   pub room : length passed ≡ 32

@@ -14,9 +14,9 @@ use Rattle.lists.proofs.Tests.{cases, truth, refuted}
 use Rattle.lists.proofs.Order.{by-codes, same-eq, same-refl}
 use Rattle.cube.specs.Measure.{Measure, Row, codesOf}
 use Rattle.cube.proofs.Codes.{cell-wide, agree-same}
-use Rattle.rows.specs.declared.Order.{Order}
-use Rattle.rows.specs.Compare.{compared, isBefore, isEqual}
-use Rattle.rows.proofs.Parting.{compared-agree}
+use Rattle.rows_compare.specs.declared.Order.{Order}
+use Rattle.rows_compare.specs.Compare.{compared, isBefore, isEqual}
+use Rattle.rows_compare.proofs.Parting.{compared-agree}
 use Rattle.archive_entries.proofs.After.{earlier-compared}
 use Rattle.rows_merge.specs.declared.Turn.{Turn}
 use Rattle.rows_merge.specs.declared.Turn.the-variants.{First, Second, Both}

@@ -1,5 +1,5 @@
 // Base rows of two archives as one list: one pass over both lists, which rise strictly by codes.
-use rows::Order;
+use rows_compare::Order;
 ghost use mathlib.Core.Path.{_≡_};
 ghost use Prim.Native.Nat.{_+_, _*_, _≤_, _<_};
 ghost use lib.ListN.{length, drop};
@@ -44,7 +44,7 @@ fn next_turn(
     }
     let mine = rows::row_of(first, n, dims, i);
     let other = rows::row_of(second, m, dims, j);
-    match rows::compare(mine, other, 255) {
+    match rows_compare::compare(mine, other, 255) {
         Order::Before(_) => Turn::First,
         Order::Equal => Turn::Both,
         Order::After(_) => Turn::Second,

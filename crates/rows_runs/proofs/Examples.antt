@@ -3,7 +3,7 @@ use mathlib.Core.Path.{_≡_, refl}
 use mathlib.Core.List.{List, [], _∷_, map, flatMap}
 use Prim.Native.Nat.{ℕ}
 use lib.ListN.{length}
-use Rattle.rows.specs.Compare.{added}
+use Rattle.rows_compare.specs.Compare.{added}
 use Rattle.rows_order.specs.Index.{key, insert, arranged, into}
 use Rattle.rows_runs.specs.Runs.{members, runs, again}
 

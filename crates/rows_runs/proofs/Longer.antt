@@ -9,10 +9,10 @@ use Rattle.lists.proofs.Order.{by-codes, same-refl}
 use Rattle.cube.specs.Codes.{cell}
 use Rattle.cube.proofs.Codes.{agree-same, agree-cell}
 use Rattle.rows.specs.Rows.{cut, rowAt}
-use Rattle.rows.specs.Compare.{isBefore, added, Longer}
+use Rattle.rows_compare.specs.Compare.{isBefore, added, Longer}
 use Rattle.rows.proofs.Rows.{row-length}
-use Rattle.rows.proofs.Parting.{compared-before}
-use Rattle.rows.proofs.Longer.{agree-added, compared-later}
+use Rattle.rows_compare.proofs.Parting.{compared-before}
+use Rattle.rows_compare.proofs.Longer.{agree-added, compared-later}
 use Rattle.rows_order.specs.Index.{key, Indexed}
 use Rattle.rows_runs.specs.Runs.{runs, again}
 use Rattle.rows_runs.proofs.Refined.{Refined, order-refined, groups-refined}

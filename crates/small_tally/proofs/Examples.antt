@@ -5,7 +5,7 @@ use Prim.Native.Nat.{ℕ}
 use lib.ListN.{length}
 use Rattle.text_decimals.specs.Decimals.{ascii, digitsIn, decimal}
 use Rattle.small_model.proofs.Examples.{one-dimension, two-dimensions, three-dimensions}
-use Rattle.small_tally.specs.Lines.{gap, spaced, line, report}
+use Rattle.small_lines.specs.Lines.{gap, spaced, line, report}
 
 line-one : line 1 ≡ ascii "1 1 3 3 1\n"
 unfolding line spaced gap decimal digitsIn flatMap

@@ -1,4 +1,4 @@
-// The small tables generated, their entries tallied, and the tallies as text.
+// The small tables generated, their entries tallied, and the report.
 ghost use mathlib.Core.Path.{_≡_};
 ghost use mathlib.Core.List.{map};
 ghost use Prim.Native.Nat.{suc, _+_, _*_, _≤_};
@@ -11,7 +11,7 @@ ghost use Rattle.rows.specs.Rows.{width, cut};
 ghost use Rattle.small_model.specs.Small.{upTo, binary, table};
 ghost use Rattle.small_model.specs.Tally.{entries, tally, mostEntries};
 ghost use Rattle.small_tally.specs.Flat.{flatRow, flatRows, Coding, Zeros};
-ghost use Rattle.small_tally.specs.Lines.{gap, pairText, textFrom, line, report};
+ghost use Rattle.small_lines.specs.Lines.{line, report};
 
 // Writes a number in binary, the highest digit first.
 fn put_binary(out: &mut [u32], dims: usize, j: u32) -> usize
@@ -90,40 +90,6 @@ fn tally_tables(dims: usize, tallies: &mut [u32])
     }
 }
 
-// Writes a space and a number.
-fn put_gap(out: &mut [u8], n: u64) -> usize
-    requires { ⌜ length (gap n) ≤ length (now out) ⌝ }
-    ensures { λ r. ⌜ Wrote (gap n) (now (out .entry)) (now (out .exit)) r ⌝ }
-{
-    let at = text_decimals::put_character(out, b' ');
-    at + text_decimals::put_decimal(&mut out[at..], n)
-}
-
-// Writes a number of entries and its tally.
-fn put_pair(out: &mut [u8], n: u64, tally: u64) -> usize
-    requires { ⌜ length (pairText n tally) ≤ length (now out) ⌝ }
-    ensures { λ r. ⌜ Wrote (pairText n tally) (now (out .entry)) (now (out .exit)) r ⌝ }
-{
-    let at = put_gap(out, n);
-    at + put_gap(&mut out[at..], tally)
-}
-
-// Writes the numbers of entries that occur, with their tallies.
-fn put_tallies(out: &mut [u8], tallies: &[u32]) -> usize
-    requires { ⌜ length (textFrom 0 (now tallies)) ≤ length (now out) ⌝ }
-    ensures { λ r. ⌜ Wrote (textFrom 0 (now (tallies .entry))) (now (out .entry)) (now (out .exit)) r ⌝ }
-{
-    let mut at = 0;
-    for n in 0..tallies.len() {
-        let tally = tallies[n];
-        if tally == 0 {
-            continue;
-        }
-        at += put_pair(&mut out[at..], n as u64, tally as u64);
-    }
-    at
-}
-
 // Tallies the tables of D, and writes the line for D.
 fn put_tallied(out: &mut [u8], dims: usize, tallies: &mut [u32]) -> usize
     requires { ⌜ (dims ≤ 3) × (length (now tallies) ≡ suc (mostEntries dims)) × Zeros (now tallies) ⌝ }
@@ -132,7 +98,7 @@ fn put_tallied(out: &mut [u8], dims: usize, tallies: &mut [u32]) -> usize
 {
     tally_tables(dims, tallies);
     let mut at = text_decimals::put_decimal(out, dims as u64);
-    at += put_tallies(&mut out[at..], tallies);
+    at += small_lines::put_tallies(&mut out[at..], tallies);
     at + text_decimals::put_character(&mut out[at..], b'\n')
 }
 

@@ -7,7 +7,7 @@ use lib.ListN.{length, take, drop}
 use Rattle.lists.specs.Lists.{_∈_}
 use Rattle.lists.proofs.Tests.{cases}
 use Rattle.fields.specs.Words.{wordAt, words, wordsBytes}
-use Rattle.fields.specs.Twos.{readingAt}
+use Rattle.fields_sums.specs.Twos.{readingAt}
 use Rattle.fields_check.specs.Check.{checkOf}
 use Rattle.fields_walk.specs.Parsed.{stop, got, many}
 use Rattle.fields_walk.specs.Fields.{room, word, reading, field, codes, header, close}

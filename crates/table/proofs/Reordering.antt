@@ -8,7 +8,7 @@ use Rattle.lists.proofs.Permutations.{perm-back, perm-same}
 use Rattle.lists.proofs.Pigeonhole.{perm-length}
 use Rattle.fields.specs.Words.{words, wordBytes, wordsBytes}
 use Rattle.fields.specs.WordsLaws.{length-wordsBytes, words-append}
-use Rattle.fields.specs.Twos.{readingBytes}
+use Rattle.fields_sums.specs.Twos.{readingBytes}
 use Rattle.fields_check.specs.Check.{wordsSum, checkOf}
 use Rattle.fields_check.specs.CheckLaws.{sum-append}
 use Rattle.fields_walk.specs.Fields.{headerBytes}

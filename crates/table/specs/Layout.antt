@@ -13,7 +13,7 @@ use lib.ListN.{length}
 use lib.Signed.{mag}
 use Rattle.lists.specs.Lists.{_∈_}
 use Rattle.fields.specs.Words.{wordBytes, wordsBytes}
-use Rattle.fields.specs.Twos.{readingBytes}
+use Rattle.fields_sums.specs.Twos.{readingBytes}
 use Rattle.fields_check.specs.Check.{checked}
 use Rattle.fields_walk.specs.Fields.{headerBytes}
 use Rattle.fields_walk.specs.Limits.{Sized, Below}

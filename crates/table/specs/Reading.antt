@@ -15,7 +15,7 @@ use mathlib.Core.List.{List, [], _∷_}
 use Prim.Native.Nat.{ℕ, zero, suc, _+_, _*_, _≤_}
 use lib.ListN.{length}
 use Rattle.fields.specs.Words.{wordsAt}
-use Rattle.fields.specs.Twos.{readingAt}
+use Rattle.fields_sums.specs.Twos.{readingAt}
 use Rattle.fields_walk.specs.Parsed.{Parsed, stop, got, andThen, many}
 use Rattle.fields_walk.specs.Fields.{reading, field, codes, header, close}
 use Rattle.cube.specs.declared.Total.{Total}

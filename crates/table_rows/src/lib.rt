@@ -17,7 +17,7 @@ fn fill_row(row: &mut [u32], s: &[u8], dims: usize, at: usize)
     ensures { λ _. ⌜ rowOf dims (now (row .exit)) ≡ recordThere (now (s .entry)) dims at ⌝ }
 {
     fields::read_words(s, at, &mut row[..dims]);
-    let sum = fields::reading_at(s, at + 4 * dims);
+    let sum = fields_sums::reading_at(s, at + 4 * dims);
     let count = 1;
     rows::put_total(row, dims, cube::Total { sum, count });
 }

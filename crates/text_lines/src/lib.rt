@@ -72,7 +72,7 @@ fn put_row(out: &mut [u8], s: &[u8], at: usize, dims: usize) -> usize
     requires { ⌜ length (rowText (rowThere (now s) dims at)) ≤ length (now out) ⌝ }
     ensures { λ r. ⌜ Wrote (rowText (rowThere (now (s .entry)) dims at)) (now (out .entry)) (now (out .exit)) r ⌝ }
 {
-    let sum = fields::sum_at(s, at + 4 * dims);
+    let sum = fields_sums::sum_at(s, at + 4 * dims);
     let count = fields::word_at(s, at + 4 * dims + 8);
     let mut done = put_codes(out, s, at, dims);
     done += text_decimals::put_integer(&mut out[done..], sum);

@@ -6,7 +6,7 @@ use native.Mathlib.Omega.{arith}
 use denote.Ref.{now}
 use lib.ListN.{drop}
 use mir.Facts.{toZ-ofZ}
-use Rattle.fields.specs.Twos.{sumBytes}
+use Rattle.fields_sums.specs.Twos.{sumBytes}
 use Rattle.fields.specs.Opening.{startsWith}
 use Rattle.archive_cells.specs.MatchedLaws.{matched-on, matched-none, matched-short}
 use borrow.Author.Needs.{needs}

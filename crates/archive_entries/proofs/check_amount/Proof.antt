@@ -9,7 +9,7 @@ use lib.ListN.{drop}
 use mir.Syntax.{w64}
 use mir.Facts.{toZ-ofZ}
 use Rattle.fields.specs.Words.{wordAt}
-use Rattle.fields.specs.Twos.{sumAt}
+use Rattle.fields_sums.specs.Twos.{sumAt}
 use Rattle.cube.specs.Bounds.{canMake}
 use Rattle.fields_walk.specs.declared.Walk.the-variants.{At}
 use Rattle.fields_walk.specs.Fields.{room}

@@ -8,7 +8,7 @@ use borrow.Author.Needs.{needs}
 use denote.Ref.{now}
 use Rattle.lists.specs.Order.{earlier}
 use Rattle.fields.specs.Words.{wordsAt}
-use Rattle.rows.specs.Compare.{isBefore}
+use Rattle.rows_compare.specs.Compare.{isBefore}
 use Rattle.archive_entries.proofs.After.{earlier-compared}
 use Rattle.archive_entries.proofs.Front.{front-is, front-length, front-room}
 use Rattle.archive_entries.proofs.is_after.Statement.{statement}

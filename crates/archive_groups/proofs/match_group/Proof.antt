@@ -10,7 +10,7 @@ use mir.Facts.{toZ-ofZ}
 use borrow.Author.Tests.{not-true, not-false}
 use Rattle.fields_walk.specs.declared.Walk.the-variants.{Stop, At}
 use Rattle.fields.specs.Words.{wordsBytes}
-use Rattle.fields.specs.Twos.{sumBytes}
+use Rattle.fields_sums.specs.Twos.{sumBytes}
 use Rattle.fields.specs.Opening.{startsWith}
 use Rattle.archive_entries.specs.Layout.{cellBytes}
 use Rattle.archive_entries.proofs.Lengths.{cell-length}

@@ -2,7 +2,7 @@
 use mathlib.Core.Path.{_≡_, sym, _∙_}
 use denote.Ref.{now}
 use Rattle.cube.specs.Codes.{agree}
-use Rattle.rows.specs.declared.Order.{Order}
+use Rattle.rows_compare.specs.declared.Order.{Order}
 use Rattle.call_fixes.proofs.Follows.{isEqual, equal-agree}
 use borrow.Author.Needs.{needs}
 use Rattle.call_fixes.proofs.agrees.Statement.{statement}

@@ -7,7 +7,7 @@ use lib.ListN.{length}
 use Rattle.lists.specs.Order.{same}
 use Rattle.fields.specs.Words.{wordsAt}
 use Rattle.fields.specs.WordsLaws.{length-wordsAt}
-use Rattle.rows.specs.Compare.{isEqual}
+use Rattle.rows_compare.specs.Compare.{isEqual}
 use Rattle.rows_merge.proofs.Turns.{same-compared}
 use borrow.Author.Needs.{needs}
 use Rattle.call_join.proofs.same_sizes.Statement.{statement}

@@ -8,7 +8,7 @@ use Rattle.lists.specs.Order.{earlier}
 use Rattle.lattice.specs.Sets.{size}
 use Rattle.cube.specs.Codes.{set-of, keys}
 use Rattle.cube.proofs.CellOrder.{keys-size, keys-set, keys-codes}
-use Rattle.rows.specs.Compare.{isBefore}
+use Rattle.rows_compare.specs.Compare.{isBefore}
 use Rattle.archive_entries.proofs.After.{earlier-compared}
 use Rattle.call_questions.proofs.cell_before.Statement.{statement}
 use Rattle.call_questions.proofs.cell_before.Tie as tie

@@ -7,7 +7,7 @@ use mir.Val.{SFits}
 use mir.Facts.{toZ-ofZ}
 use denote.Ref.{now}
 use borrow.Author.Needs.{needs}
-use Rattle.fields.specs.Twos.{lowOf, highOf}
+use Rattle.fields_sums.specs.Twos.{lowOf, highOf}
 use Rattle.rows.proofs.Flat.{total-put}
 use Rattle.rows.proofs.put_total.Statement.{statement}
 use Rattle.rows.proofs.put_total.Tie as tie

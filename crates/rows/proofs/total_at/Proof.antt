@@ -8,7 +8,7 @@ use mir.Syntax.{w64}
 use mir.Facts.{toZ-ofZ}
 use denote.Ref.{now}
 use borrow.Author.Needs.{needs, sfits-of}
-use Rattle.fields.specs.Twos.{sumOf}
+use Rattle.fields_sums.specs.Twos.{sumOf}
 use Rattle.cube.specs.declared.Total.{Total}
 use Rattle.rows.proofs.Flat.{total-words}
 use Rattle.rows.proofs.total_at.Statement.{statement}

@@ -12,7 +12,8 @@ use lib.Seq.{length-take-le, take-append-le, take-all}
 use Rattle.lists.specs.Lists.{_∈_}
 use Rattle.rows_bits.specs.Rowsets.{stays}
 use Rattle.rows_slots.specs.Slots.{rowIn, out, markIn}
-use Rattle.rows_crowds.specs.Crowds.{part, place, shorter, Holds}
+use Rattle.rows_columns.specs.Columns.{part}
+use Rattle.rows_crowds.specs.Crowds.{place, shorter, Holds}
 use Rattle.rows_crowds.proofs.Shorter.{shorter-zeros, shorter-power, shorter-place}
 use Rattle.rows_crowds.proofs.Column.{turn-small, turn-column}
 use Rattle.rows_crowds.proofs.Filling.{below-all, Next, next-few, next-slot, next-rising, next-names, next-kept, next-left, filled}

@@ -5,7 +5,7 @@ use native.Mathlib.Omega.{arith}
 use denote.Ref.{now}
 use lib.ListN.{length, drop}
 use Rattle.rows.specs.Rows.{cut}
-use Rattle.rows.specs.Compare.{isBefore, isEqual}
+use Rattle.rows_compare.specs.Compare.{isBefore, isEqual}
 use Rattle.rows.proofs.Rows.{cut-length}
 use Rattle.rows_merge.specs.Turns.{turnBy, turn}
 use Rattle.rows_merge.proofs.Turns.{turn-none, turn-only, turn-compared}

@@ -1,6 +1,6 @@
 -- `small_tally::put_report` meets its contract: one line after the other.
 use Rattle.fields.specs.WrittenLaws.{wrote-then}
-use Rattle.small_tally.proofs.Texts.{report-is, report-length}
+use Rattle.small_lines.proofs.Texts.{report-is, report-length}
 use borrow.Author.Needs.{needs}
 use Rattle.small_tally.proofs.put_report.Statement.{statement}
 use Rattle.small_tally.proofs.put_report.Tie as tie

@@ -4,8 +4,8 @@ use Prim.Native.Nat.{_+_}
 use lib.ListN.{length}
 use Rattle.fields.specs.WrittenLaws.{wrote-then}
 use Rattle.text_decimals.specs.Decimals.{decimal}
-use Rattle.small_tally.specs.Lines.{line, textFrom}
-use Rattle.small_tally.proofs.Texts.{line-is, line-length}
+use Rattle.small_lines.specs.Lines.{line, textFrom}
+use Rattle.small_lines.proofs.Texts.{line-is, line-length}
 use borrow.Author.Needs.{needs}
 use Rattle.small_tally.proofs.put_tallied.Statement.{statement}
 use Rattle.small_tally.proofs.put_tallied.Tie as tie

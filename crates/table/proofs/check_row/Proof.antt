@@ -4,7 +4,7 @@ use denote.Ref.{now}
 use mathlib.Core.List.{List}
 use Prim.Native.Nat.{ℕ}
 use lib.ListN.{drop}
-use Rattle.fields.specs.Twos.{readingAt}
+use Rattle.fields_sums.specs.Twos.{readingAt}
 use Rattle.fields_walk.specs.Parsed.{Parsed, got, andThen}
 use Rattle.fields_walk.specs.Fields.{reading}
 use Rattle.fields_walk.proofs.Steps.{seen, walked-as, walked-map, then-on, then-off}

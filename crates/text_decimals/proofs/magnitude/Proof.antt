@@ -10,7 +10,7 @@ use mir.Syntax.{w64}
 use mir.Val.{toZ, ofZ}
 use mir.Facts.{toZ-ofZ, fits-ofZ}
 use borrow.Author.Tests.{ltb-true}
-use Rattle.fields.proofs.Machine.{less-fits, lower, same, bits-ofZ}
+use Rattle.fields_sums.proofs.Machine.{less-fits, lower, same, bits-ofZ}
 use Rattle.text_decimals.proofs.magnitude.Statement.{statement}
 use Rattle.text_decimals.proofs.magnitude.Tie as tie
 

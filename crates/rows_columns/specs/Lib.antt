@@ -1,0 +1,2 @@
+-- The columns of rows, and their orders.
+pub mod Columns

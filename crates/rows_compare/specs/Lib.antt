@@ -1,0 +1,2 @@
+-- The order of two rows under a set.
+pub mod Compare

@@ -1,0 +1,2 @@
+-- Why one walk deals the marked rows.
+pub mod Walking

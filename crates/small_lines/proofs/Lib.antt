@@ -1,0 +1,2 @@
+-- Laws of tallies as text.
+pub mod Texts

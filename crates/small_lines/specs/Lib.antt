@@ -1,0 +1,2 @@
+-- Tallies as text.
+pub mod Lines
