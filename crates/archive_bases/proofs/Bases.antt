@@ -1,23 +1,26 @@
 -- Our base entries of rows in a flat list, by their places, and how many sets and bytes each has.
 use mathlib.Core.Path.{_≡_, sym, ap, ap₂, _∙_}
-use mathlib.Core.List.{List, [], _∷_, map}
+use mathlib.Core.List.{List, [], _∷_, _++_, map}
 use Prim.Native.Nat.{ℕ, _+_, _*_, _≤_, _<_}
 use native.Mathlib.Numerals.{add-one}
 use native.Mathlib.Omega.{arith}
-use lib.ListN.{length, getD, drop, length-map, drop-of-length-le, List·getD-map}
+use lib.ListN.{length, getD, drop, length-drop, length-map, drop-of-length-le, List·getD-map}
 use lib.Seq.{drop-cons}
 use Rattle.lists.proofs.Places.{map-at}
+use Rattle.fields.specs.Words.{wordBytes, wordsBytes}
 use Rattle.cube.specs.declared.Total.{Total}
 use Rattle.cube.specs.Measure.{Row}
 use Rattle.cube.specs.Codes.{plain}
 use Rattle.cube.specs.Condensed.{listed}
-use Rattle.rows.specs.Rows.{cut, rowAt, rowsOf, rowTotal}
-use Rattle.rows.proofs.Rows.{cut-length, rows-codes, row-at, row-length}
-use Rattle.rows.proofs.Flat.{blank, rows-length, rows-at, total-at}
+use Rattle.rows.specs.Rows.{width, cut, rowAt, rowsOf}
+use Rattle.rows.proofs.Rows.{row-within, cut-length, rows-codes, row-length}
+use Rattle.rows.proofs.Flat.{wordsOf, placed, blank, rows-length, rows-at}
 use Rattle.rows_lists.specs.Lists.{listsOf, ourLists}
 use Rattle.rows_lists.proofs.Lists.{list-length}
-use Rattle.archive_entries.specs.Layout.{baseBytes, setsIn, based}
+use Rattle.archive_entries.specs.Layout.{cellBytes, baseBytes, setsIn, based}
 use Rattle.archive_entries.proofs.Lengths.{base-length}
+use Rattle.archive_cells.specs.ListBytes.{listBytes, list-is}
+use Rattle.archive_cells.proofs.Cells.{AreWords, words-drop, cell-words}
 use Rattle.archive_bases.specs.Listed.{Listed, ourBase, ourBases}
 
 module _ {d n : ℕ} {ws ls : List ℕ} (rows : Listed d n ws ls) where
@@ -28,6 +31,10 @@ module _ {d n : ℕ} {ws ls : List ℕ} (rows : Listed d n ws ls) where
     codes-at : rowAt (cut d n ws) i ≡ ourBase d table i .row .codes
     unfolding ourBase
     codes-at = ap (λ (l : List (List ℕ)). rowAt l i) (sym (rows-codes d n ws)) ∙ List·getD-map (λ r. r .codes) table i blank
+
+    row-placed : i < n → ourBase d table i .row ≡ placed d ws i
+    unfolding ourBase
+    row-placed h = rows-at d n i ws h
 
     pub bases-none : n ≤ i → drop i (ourBases d table) ≡ []
     unfolding ourBases
@@ -50,15 +57,15 @@ module _ {d n : ℕ} {ws ls : List ℕ} (rows : Listed d n ws ls) where
           ∙ map-at (listed (plain d) xs) [] [] xs i (rw (cut-length d n ws) h)
           ∙ ap₂ (λ (ys : List (List ℕ)) (x : List ℕ). listed (plain d) ys x) (sym (rows-codes d n ws)) codes-at
 
-      -- codes, sum, count and list of a row make its base entry
-      pub base-at : {x list : List ℕ} {u : Total} → x ≡ rowAt (cut d n ws) i → u ≡ rowTotal d n ws i → list ≡ getD (listsOf n ls) i []
-          → record { row = record { codes = x; total = u }; list = list } ≡ ourBase d table i
-      unfolding ourBase
-      base-at {x} {list} {u} e g f =
-          let same : record { codes = x; total = u } ≡ getD table i blank =
-          ap₂ (λ (c : List ℕ) (t : Total). record { codes = c; total = t }) (e ∙ row-at d n i ws h) (g ∙ total-at d n i ws h)
-          ∙ sym (rows-at d n i ws h) in
-          ap₂ (λ (r : Row Total) (l : List ℕ). record { row = r; list = l }) same (f ∙ list-at)
+      -- the words of a row and its list are its base entry
+      pub base-words : AreWords ws → baseBytes (ourBase d table i) ≡ wordsBytes (wordsOf d ws i) ++ listBytes (getD (listsOf n ls) i [])
+      unfolding baseBytes
+      base-words w =
+          let l = ourBase d table i .list in
+          let within : width d ≤ length (drop (i * width d) ws) = simp length-drop (omega (arith, row-within (width d) n i h, rows .ready .size)) in
+          let row = ap cellBytes (row-placed h) ∙ cell-words d (drop (i * width d) ws) within (words-drop (i * width d) ws w) in
+          ap (λ (x : List ℕ). x ++ (wordBytes (length l) ++ wordsBytes l)) row
+          ∙ ap (λ (x : List ℕ). wordsBytes (wordsOf d ws i) ++ x) (sym (list-is l) ∙ ap listBytes (sym list-at))
 
       -- how many sets and bytes it has
       base-sets : length (ourBase d table i .list) ≡ getD ls (i * 71) 0

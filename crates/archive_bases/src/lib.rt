@@ -29,12 +29,9 @@ fn put_base(out: &mut [u8], rows: &[u32], n: usize, dims: usize, lists: &[u8], r
     requires { ⌜ length (baseBytes (ourBase dims (rowsOf dims n (now rows)) row)) ≤ length (now out) ⌝ }
     ensures { λ r. ⌜ Wrote (baseBytes (ourBase dims (rowsOf dims n (now (rows .entry))) row)) (now (out .entry)) (now (out .exit)) r ⌝ }
 {
-    let mine = rows::row_of(rows, n, dims, row);
-    let total = rows::total_at(rows, n, dims, row);
-    let sum = total.sum;
-    let count = total.count;
+    let mine = rows::words_of(rows, n, dims, row);
     let list = rows_lists::list_of(lists, n, row);
-    archive_cells::put_entry(out, mine, sum, count, list)
+    archive_cells::put_entry(out, mine, list)
 }
 
 // Writes the base entries.
@@ -63,12 +60,9 @@ fn match_base(
     requires { ⌜ Listed dims n (now rows) (now lists) × (row < n) × (at ≤ length (now s)) ⌝ }
     ensures { λ r. ⌜ Matched (now (s .entry)) at (baseBytes (ourBase dims (rowsOf dims n (now (rows .entry))) row)) r ⌝ }
 {
-    let mine = rows::row_of(rows, n, dims, row);
-    let total = rows::total_at(rows, n, dims, row);
-    let sum = total.sum;
-    let count = total.count;
+    let mine = rows::words_of(rows, n, dims, row);
     let list = rows_lists::list_of(lists, n, row);
-    archive_cells::match_entry(s, at, mine, sum, count, list)
+    archive_cells::match_entry(s, at, mine, list)
 }
 
 // Whether the bytes s have the base entries from a place on.

@@ -1,62 +1,98 @@
--- The cells of the rows in a flat list as bytes, and how a loop writes them: those from row i on are left.
-use mathlib.Core.Path.{_≡_, sym, ap, _∙_}
-use mathlib.Core.List.{List, [], _++_, flatMap}
-use Prim.Native.Nat.{ℕ, zero, suc, _+_, _-_, _*_, _≤_, _<_}
-use native.Mathlib.Nat.{zero-mul, suc-mul}
-use native.Mathlib.Numerals.{add-one}
+-- The cells of rows in a flat list as bytes: they are the bytes of the rows' words.
+use mathlib.Core.Path.{_≡_, refl, sym, ap, ap₂, _∙_}
+use mathlib.Core.List.{List, [], _∷_, _++_, flatMap}
+use Prim.Native.Nat.{ℕ, zero, suc, _+_, _-_, _*_, _%_, _/_, _^_, _≤_, _<_}
+use native.Mathlib.Nat.{zero-add, suc-add, zero-mul, suc-mul}
 use native.Mathlib.Omega.{arith}
-use lib.ListN.{length, drop, length-append, length-drop, drop-of-length-le}
-use lib.Seq.{drop-cons, length-take-le}
-use borrow.Rule.Slice.PartMut.{midOf, putMid}
-use Rattle.fields.specs.Written.{Wrote}
+use lib.ListN.{length, getD, take, drop, replicate, length-drop, length-replicate, take-append-drop}
+use lib.Seq.{getD-drop, length-take-le, take-append-add, take-all}
+use Rattle.fields.specs.Words.{wordBytes, wordsBytes}
+use Rattle.fields.specs.WordsLaws.{wordsBytes-append}
+use Rattle.fields_sums.specs.Twos.{sumOf, sumBytes, lowOf, highOf}
+use Rattle.fields_sums.specs.TwosLaws.{bits-signed}
+use Rattle.cube.specs.Measure.{nothing}
+use Rattle.cube.specs.Codes.{ALL}
 use Rattle.rows.specs.Rows.{width, rowOf, rowsOf}
-use Rattle.rows.proofs.Rows.{row-at, row-length}
-use Rattle.rows.proofs.Flat.{placed, blank, rows-at, rows-length}
 use Rattle.archive_entries.specs.Layout.{cellBytes}
 use Rattle.archive_entries.proofs.Lengths.{cell-length}
-use Rattle.archive_cells.specs.Writing.{Writing}
-use Rattle.archive_cells.specs.WritingLaws.{writing-more, writing-room, writing-done}
 
-pub cells-length : (d n : ℕ) (ws : List ℕ) → n * width d ≡ length ws
-    → length (flatMap cellBytes (rowsOf d n ws)) ≡ n * (4 * d + 12)
-unfolding flatMap rowsOf
-cells-length d zero ws e = sym (zero-mul (4 * d + 12))
-cells-length d (suc n) ws e =
-    let rest = drop (width d) ws in
+-- each number of a list is a word
+abbrev pub AreWords : List ℕ → Type 0
+AreWords ws = (i : ℕ) → getD ws i 0 < 2 ^ 32
+
+pub words-drop : (k : ℕ) (ws : List ℕ) → AreWords ws → AreWords (drop k ws)
+words-drop k ws w i = rw (getD-drop k ws i 0) (w (k + i))
+
+pub words-take : (k : ℕ) (ws : List ℕ) → AreWords ws → AreWords (take k ws)
+words-take zero ws w i = omega arith
+words-take (suc k) [] w i = omega arith
+words-take (suc k) (u ∷ ws) w zero = w 0
+words-take (suc k) (u ∷ ws) w (suc i) = words-take k ws (λ j. w (suc j)) i
+
+-- the bytes of a sum are those of its two words
+sum-bytes : (low high : ℕ) → low < 2 ^ 32 → high < 2 ^ 32 → sumBytes (sumOf low high) ≡ wordBytes low ++ wordBytes high
+sum-bytes low high l h =
+    let all = bits-signed 64 (low + 2 ^ 32 * high) (omega (arith, l, h)) in
+    let first : lowOf (sumOf low high) ≡ low = ap (λ (n : ℕ). n % 2 ^ 32) all ∙ omega (arith, l) in
+    let second : highOf (sumOf low high) ≡ high = ap (λ (n : ℕ). n / 2 ^ 32) all ∙ omega (arith, l) in
+    ap₂ (λ (a b : ℕ). wordBytes a ++ wordBytes b) first second
+
+front-three : (l : List ℕ) → 3 ≤ length l → take 3 l ≡ getD l 0 0 ∷ getD l 1 0 ∷ getD l 2 0 ∷ []
+front-three [] h = absurd (omega arith)
+front-three (a ∷ []) h = absurd (omega arith)
+front-three (a ∷ b ∷ []) h = absurd (omega arith)
+front-three (a ∷ b ∷ c ∷ l) h = refl
+
+-- a front of a list, and what stands behind it
+take-more : (n k : ℕ) (l : List ℕ) → n ≤ length l → take (n + k) l ≡ take n l ++ take k (drop n l)
+take-more n k l h =
+    ap₂ (λ (m : ℕ) (u : List ℕ). take (m + k) u) (sym (length-take-le n l h)) (sym (take-append-drop n l)) ∙ take-append-add (take n l) (drop n l) k
+
+-- the cell of the row that words begin with
+pub cell-words : (d : ℕ) (ws : List ℕ) → width d ≤ length ws → AreWords ws → cellBytes (rowOf d ws) ≡ wordsBytes (take (width d) ws)
+unfolding cellBytes wordsBytes
+cell-words d ws h w =
+    let l = drop d ws in
+    let three = front-three l (simp length-drop (omega (arith, h))) in
+    let v = words-drop d ws w in
+    ap (λ (k : List ℕ). wordsBytes (take d ws) ++ (k ++ wordBytes (getD l 2 0))) (sum-bytes (getD l 0 0) (getD l 1 0) (v 0) (v 1))
+    ∙ ap (λ (k : List ℕ). wordsBytes (take d ws) ++ wordsBytes k) (sym three)
+    ∙ sym (wordsBytes-append (take d ws) (take 3 l)) ∙ ap wordsBytes (sym (take-more d 3 ws (omega (arith, h))))
+
+-- the cells of rows, one behind the other
+pub cells-words : (d n : ℕ) (ws : List ℕ) → n * width d ≡ length ws → AreWords ws → flatMap cellBytes (rowsOf d n ws) ≡ wordsBytes ws
+unfolding flatMap rowsOf wordsBytes
+cells-words d zero [] e w = refl
+cells-words d zero (u ∷ ws) e w = absurd (omega (arith, e, zero-mul (width d)))
+cells-words d (suc n) ws e w =
     let more : width d + n * width d ≡ length ws = omega (arith, suc-mul n (width d), e) in
-    let f = cell-length d (rowOf d ws) (length-take-le d ws (omega (arith, more))) in
-    let g = cells-length d n rest (simp length-drop (omega (arith, more))) in
-    omega (arith, length-append (cellBytes (rowOf d ws)) (flatMap cellBytes (rowsOf d n rest)), f, g, suc-mul n (4 * d + 12))
+    let here = cell-words d ws (omega (arith, more)) w in
+    let behind = cells-words d n (drop (width d) ws) (simp length-drop (omega (arith, more))) (words-drop (width d) ws w) in
+    ap₂ (λ (a b : List ℕ). a ++ b) here behind
+    ∙ sym (wordsBytes-append (take (width d) ws) (drop (width d) ws)) ∙ ap wordsBytes (take-append-drop (width d) ws)
 
-module _ (d n : ℕ) (ws : List ℕ) (i : ℕ) where
-  -- the bytes of all cells, and of those from a row on
-  abbrev all : List ℕ
-  all = flatMap cellBytes (rowsOf d n ws)
+-- ---- the cell of an empty table
 
-  abbrev from : ℕ → List ℕ
-  from k = flatMap cellBytes (drop k (rowsOf d n ws))
+abbrev blank : List ℕ
+blank = ALL ∷ ALL ∷ ALL ∷ ALL ∷ ALL ∷ ALL ∷ ALL ∷ ALL ∷ 0 ∷ 0 ∷ 0 ∷ []
 
-  -- the cell of row i, and those behind it
-  cells-next : i < n → from i ≡ cellBytes (placed d ws i) ++ from (i + 1)
-  unfolding flatMap
-  cells-next h = rw (add-one, drop-cons (rowsOf d n ws) i blank (rw (rows-length d n ws) h), rows-at d n i ws h)
+-- the words of that of d dimensions
+abbrev end : ℕ → List ℕ
+end d = take (11 - (8 - d)) (drop (8 - d) blank)
 
-  cells-none : n ≤ i → from i ≡ []
-  unfolding flatMap
-  cells-none h = rw (drop-of-length-le (rowsOf d n ws) {i = i} (rw (rows-length d n ws) h))
+drop-alls : (k d : ℕ) (l : List ℕ) → drop k (replicate (k + d) ALL ++ l) ≡ replicate d ALL ++ l
+drop-alls zero d l = ap (λ (n : ℕ). replicate n ALL ++ l) (zero-add d)
+drop-alls (suc k) d l = ap (λ (n : ℕ). drop (suc k) (replicate n ALL ++ l)) (suc-add k d) ∙ drop-alls k d l
 
-  module _ {l m : List ℕ} {at : ℕ} (w : Writing all (from i) l m at) where
-    -- there is room for one more cell where there is room for all
-    pub cells-room : i < n → n * width d ≡ length ws → n * (4 * d + 12) ≤ length l → at + (4 * d + 12) ≤ length m
-    cells-room h e k =
-        let one = cell-length d (placed d ws i) (ap length (sym (row-at d n i ws h)) ∙ row-length d n i ws h e) in
-        let fits : length all ≤ length l = omega (arith, cells-length d n ws e, k) in
-        omega (arith, one, writing-room (cellBytes (placed d ws i)) (from (i + 1)) (rw (cells-next h) at w) fits)
+pub blank-words : (d : ℕ) → d ≤ 8 → wordsBytes (end d) ≡ cellBytes (record { codes = replicate d ALL; total = nothing })
+unfolding cellBytes wordsBytes
+blank-words d h =
+    let zeros : List ℕ = 0 ∷ 0 ∷ 0 ∷ [] in
+    let whole : 8 ≡ 8 - d + d = omega (arith, h) in
+    let all = take-all (11 - (8 - d)) (drop (8 - d) blank) (simp length-drop (omega arith)) in
+    let there : drop (8 - d) blank ≡ replicate d ALL ++ zeros = ap (λ (n : ℕ). drop (8 - d) (replicate n ALL ++ zeros)) whole ∙ drop-alls (8 - d) d zeros in
+    ap wordsBytes (all ∙ there) ∙ wordsBytes-append (replicate d ALL) zeros
 
-    -- one more is written over the front of the rest
-    pub cells-more : {r : List ℕ} {k : ℕ} → i < n → Wrote (cellBytes (placed d ws i)) (midOf at (length m - at) m) r k
-        → Writing all (from (i + 1)) l (putMid at (length m - at) m r) (at + k)
-    cells-more h s = writing-more (cellBytes (placed d ws i)) (from (i + 1)) (rw (cells-next h) at w) s
-
-    pub cells-done : n ≤ i → Wrote all l m at
-    cells-done h = writing-done (rw (cells-none h) at w)
+pub blank-length : (d : ℕ) → d ≤ 8 → length (wordsBytes (end d)) ≡ 4 * d + 12
+blank-length d h =
+    ap length (blank-words d h) ∙ cell-length d (record { codes = replicate d ALL; total = nothing }) (length-replicate d ALL)

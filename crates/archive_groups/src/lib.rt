@@ -38,7 +38,7 @@ fn put_shown(out: &mut [u8], mine: &[u32], missing: &[u32; 8]) -> usize
 }
 
 // Writes the codes of a row under a mask, with a total.
-pub fn put_group(out: &mut [u8], mine: &[u32], missing: &[u32; 8], total: cube::Total) -> usize
+fn put_group(out: &mut [u8], mine: &[u32], missing: &[u32; 8], total: cube::Total) -> usize
     requires { ⌜ (length (now mine) ≤ 8) × (4 * length (now mine) + 12 ≤ length (now out)) ⌝ }
     ensures { λ r. ⌜ Wrote (cellBytes (record { codes = masked (now (missing .entry)) (now (mine .entry)); total = total })) (now (out .entry)) (now (out .exit)) r ⌝ }
 {

@@ -3,7 +3,7 @@ use mathlib.Core.Path.{_≡_, refl, sym, ap, _∙_}
 use mathlib.Core.List.{List, [], _∷_, _++_, map, flatMap, map-append, append-nil}
 use Prim.Native.Nat.{ℕ, zero, suc, _+_, _*_, _≤_}
 use native.Mathlib.Omega.{arith}
-use lib.ListN.{length, take, replicate, length-replicate}
+use lib.ListN.{length, replicate, length-replicate}
 use Rattle.lists.proofs.Members.{flat-append}
 use Rattle.lattice.specs.Sets.{full}
 use Rattle.lattice.proofs.Turns.{from-full}
@@ -47,20 +47,6 @@ normal-parts d rows =
 
 -- ---- the entry of an empty table
 
-abbrev alls : List ℕ
-alls = ALL ∷ ALL ∷ ALL ∷ ALL ∷ ALL ∷ ALL ∷ ALL ∷ ALL ∷ []
-
-take-replicate : (d n : ℕ) → d ≤ n → take d (replicate n ALL) ≡ replicate d ALL
-take-replicate zero n h = refl
-take-replicate (suc d) zero h = absurd (omega arith)
-take-replicate (suc d) (suc n) h = ap (λ (l : List ℕ). ALL ∷ l) (take-replicate d n (omega arith))
-
-take-alls : (d : ℕ) → d ≤ 8 → take d alls ≡ replicate d ALL
-take-alls d h = take-replicate d 8 h
-
-pub alls-front : (d : ℕ) → d ≤ 8 → length (take d alls) ≡ d
-alls-front d h = ap length (take-alls d h) ∙ length-replicate d ALL
-
 pub blank-long : (d n : ℕ) → n ≡ 0 → length (blankBytes d n) ≡ 4 * d + 12
 unfolding blankBytes flatMap
 blank-long d zero e = simp append-nil (omega (arith, cell-length d (record { codes = replicate d ALL; total = nothing }) (length-replicate d ALL)))
@@ -72,7 +58,7 @@ unfolding blankBytes flatMap
 blank-none d zero h = absurd (h refl)
 blank-none d (suc n) h = refl
 
-pub blank-one : (d n : ℕ) → d ≤ 8 → n ≡ 0 → cellBytes (record { codes = take d alls; total = nothing }) ≡ blankBytes d n
+pub blank-one : (d n : ℕ) → n ≡ 0 → cellBytes (record { codes = replicate d ALL; total = nothing }) ≡ blankBytes d n
 unfolding blankBytes flatMap
-blank-one d zero h e = ap (λ (x : List ℕ). cellBytes (record { codes = x; total = nothing })) (take-alls d h) ∙ sym (append-nil (cellBytes (record { codes = replicate d ALL; total = nothing })))
-blank-one d (suc n) h e = absurd (omega (arith, e))
+blank-one d zero e = sym (append-nil (cellBytes (record { codes = replicate d ALL; total = nothing })))
+blank-one d (suc n) e = absurd (omega (arith, e))

@@ -60,8 +60,7 @@ fn put_blank(out: &mut [u8], n: usize, dims: usize) -> usize
     if n != 0 {
         return 0;
     }
-    let cell = [65535u32; 8];
-    archive_cells::put_cell(out, &cell[..dims], 0, 0)
+    archive_cells::put_blank(out, dims)
 }
 
 // Writes the normal entries.
@@ -135,8 +134,7 @@ fn match_blank(s: &[u8], at: usize, n: usize, dims: usize) -> Walk
     if n != 0 {
         return Walk::At(at);
     }
-    let cell = [65535u32; 8];
-    archive_cells::match_cell(s, at, &cell[..dims], 0, 0)
+    archive_cells::match_blank(s, at, dims)
 }
 
 // Whether the bytes s have the normal entries from a place on.

@@ -46,13 +46,16 @@ cell-whole : (x : List ℕ) → cell 0 x ≡ replicate (length x) ALL
 cell-whole [] = refl
 cell-whole (a ∷ x) = ap (λ (l : List ℕ). ALL ∷ l) (cell-whole x)
 
-pub blank-there : (d : ℕ) → cells (plain d) sums [] 0 ≡ record { codes = replicate d ALL; total = nothing } ∷ []
+blank-there : (d : ℕ) → cells (plain d) sums [] 0 ≡ record { codes = replicate d ALL; total = nothing } ∷ []
 unfolding cells total
 blank-there d = rw (existing-none (plain d) 0, set-whole d)
 
-pub blank-length : (d : ℕ) → length (flatMap cellBytes (cells (plain d) sums [] 0)) ≡ 4 * d + 12
+pub blank-bytes : (d : ℕ) → flatMap cellBytes (cells (plain d) sums [] 0) ≡ cellBytes (record { codes = replicate d ALL; total = nothing })
 unfolding flatMap
-blank-length d = ap (λ (l : List (Row Total)). length (flatMap cellBytes l)) (blank-there d) ∙ simp append-nil (cell-length d (record { codes = replicate d ALL; total = nothing }) (length-replicate d ALL))
+blank-bytes d = ap (flatMap cellBytes) (blank-there d) ∙ append-nil (cellBytes (record { codes = replicate d ALL; total = nothing }))
+
+pub blank-length : (d : ℕ) → length (flatMap cellBytes (cells (plain d) sums [] 0)) ≡ 4 * d + 12
+blank-length d = ap length (blank-bytes d) ∙ cell-length d (record { codes = replicate d ALL; total = nothing }) (length-replicate d ALL)
 
 pub blank-here : (d : ℕ) (x : List ℕ) → length x ≡ d → record { codes = cell 0 x; total = nothing } ∷ [] ≡ cells (plain d) sums [] 0
 blank-here d x e = ap (λ (c : List ℕ). record { codes = c; total = nothing } ∷ []) (cell-whole x ∙ ap (λ (n : ℕ). replicate n ALL) e) ∙ sym (blank-there d)

@@ -49,13 +49,14 @@ fn find_cells(
     rows_runs::group_rows(rows, n, dims, set, index, cells)
 }
 
-// Writes a count, and so many cells.
+// Writes a count, and so many cells: the words of the first rows of the array that is lent.
 fn put_counted(out: &mut [u8], cells: &[u32], n: usize, dims: usize) -> usize
-    requires { ⌜ (n * width dims ≡ length (now cells)) × (n ≤ 1024) × (4 + n * (4 * dims + 12) ≤ length (now out)) ⌝ }
+    requires { ⌜ (dims ≤ 8) × (n ≤ 1024) × (n * width dims ≤ length (now cells)) × (4 + n * (4 * dims + 12) ≤ length (now out)) ⌝ }
     ensures { λ r. ⌜ Wrote (section cellBytes (rowsOf dims n (now (cells .entry)))) (now (out .entry)) (now (out .exit)) r ⌝ }
 {
     let at = fields::put_word(out, n as u32);
-    at + archive_cells::put_cells(&mut out[at..], cells, n, dims)
+    let size = n * (dims + 3);
+    at + fields::put_words(&mut out[at..], &cells[..size])
 }
 
 // Writes the listed cuboid of a set where there is room for it. Returns how long it is.
@@ -66,10 +67,9 @@ pub fn write_cuboid(out: &mut [u8], rows: &[u32], n: usize, dims: usize, set: u3
     let mut index = [0u32; 1024];
     let mut cells = [0u32; 11264];
     let count = find_cells(rows, n, dims, set, &mut index[..n], &mut cells);
-    let size = count * (dims + 3);
     let len = 4 + count * (4 * dims + 12);
     if out.len() < len {
         return len;
     }
-    put_counted(out, &cells[..size], count, dims)
+    put_counted(out, &cells, count, dims)
 }

@@ -1,6 +1,6 @@
 // The expansion as bytes: how long it is, and written over the front of lent bytes.
 ghost use mathlib.Core.Path.{_≡_};
-ghost use mathlib.Core.List.{[], flatMap};
+ghost use mathlib.Core.List.{flatMap};
 ghost use Prim.Native.Nat.{_+_, _*_, _^_, _≤_, _<_};
 ghost use lib.ListN.{length};
 ghost use Rattle.fields.specs.Written.{Wrote};
@@ -55,17 +55,6 @@ fn expansion_len(rows: &[u32], n: usize, dims: usize, store: &[u16], used: &[usi
     len
 }
 
-// Writes the cell of an empty table: ALL in each place.
-fn put_blank(out: &mut [u8], dims: usize) -> usize
-    requires { ⌜ (dims ≤ 8) × (4 * dims + 12 ≤ length (now out)) ⌝ }
-    ensures { λ r. ⌜ Wrote (flatMap cellBytes (cuboid (plain dims) measure [] 0)) (now (out .entry)) (now (out .exit)) r ⌝ }
-{
-    let codes = [0u32; 8];
-    let missing = [65535u32; 8];
-    let total = cube::Total { sum: 0, count: 0 };
-    archive_groups::put_group(out, &codes[..dims], &missing, total)
-}
-
 // Writes the cells of a set that exist, by its slot.
 fn put_existing(
     out: &mut [u8],
@@ -85,7 +74,7 @@ fn put_existing(
     if set != 0 {
         return 0;
     }
-    put_blank(out, dims)
+    archive_cells::put_blank(out, dims)
 }
 
 // Writes the listed cuboid of a set.

@@ -1,9 +1,9 @@
--- `archive_normals::match_blank` meets its contract: there are rows, and nothing is compared, or one cell is.
+-- `archive_normals::match_blank` meets its contract: there are rows, and nothing is compared, or the cell of an empty table is.
 use mathlib.Core.Path.{sym}
 use mathlib.Core.List.{[]}
 use denote.Ref.{now}
 use Rattle.archive_cells.specs.MatchedLaws.{matching-none, matching-done, matched-as}
-use Rattle.archive_normals.proofs.Sections.{alls-front, blank-none, blank-one}
+use Rattle.archive_normals.proofs.Sections.{blank-none, blank-one}
 use borrow.Author.Needs.{needs}
 use Rattle.archive_normals.proofs.match_blank.Statement.{statement}
 use Rattle.archive_normals.proofs.match_blank.Tie as tie
@@ -11,13 +11,8 @@ use Rattle.archive_normals.proofs.match_blank.Tie as tie
 returns : tie.Need-returns
 returns c = let a = c .before .before .args in matched-as (sym (blank-none (a .dims) (a .n) (c .if1 .taken))) (matching-done (matching-none [] (now (a .s)) (a .at) (c .before .before .pre .1)))
 
-slice-aggregate-match-cell : tie.Need-slice-aggregate-match-cell
-slice-aggregate-match-cell c = sym (alls-front (c .before .before .before .args .dims) (c .before .before .before .pre .0))
-
 returns-2 : tie.Need-returns-2
-returns-2 c = let a = c .before .before .before .before .args in matched-as (blank-one (a .dims) (a .n) (c .before .before .before .before .pre .0) (c .before .before .if1 .left)) (c .match-cell .ensures)
+returns-2 c = let a = c .before .before .before .args in matched-as (blank-one (a .dims) (a .n) (c .before .if1 .left)) (c .match-blank .ensures)
 
 pub match-blank-spec : {M : Type 1} → statement M
-match-blank-spec =
-    tie.close
-    (tie.spec returns (λ c. search needs) slice-aggregate-match-cell (λ c κs. search needs) returns-2)
+match-blank-spec = tie.close (tie.spec returns (λ c κs. search needs) returns-2)

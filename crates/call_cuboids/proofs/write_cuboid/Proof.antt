@@ -14,7 +14,6 @@ use Rattle.fields.specs.Written.{Wrote}
 use Rattle.rows.specs.Rows.{width, rowsOf}
 use Rattle.rows.proofs.Flat.{rows-length}
 use Rattle.archive_entries.specs.Layout.{section, cellBytes}
-use Rattle.rows_ready.proofs.Ready.{rows-front}
 use Rattle.archive_cells.specs.WritingLaws.{wrote-as}
 use Rattle.call_cuboids.specs.Cuboids.{cuboidBytes}
 use Rattle.call_cuboids.proofs.Lengths.{cuboid-length}
@@ -38,9 +37,6 @@ size c =
     let k = mul-le-mul (few c) wide in
     (rows-small (c .before .before .before .before .before .before .before .args .dims) (c .before .before .find-cells .result) (c .before .before .before .before .before .before .before .pre .dims) (few c), omega (arith, k))
 
-mul-size : tie.Need-mul-size
-mul-size c = omega (arith, size c .0)
-
 mul-len-2 : tie.Need-mul-len-2
 mul-len-2 c = omega (arith, size c .1)
 
@@ -58,21 +54,16 @@ long c =
 returns : tie.Need-returns
 returns c = record { count = sym (long (c .before)); fits = λ h. absurd (omega (arith, h, long (c .before), c .if1 .taken)); short = λ h. refl }
 
-array-share-prefix-cells : tie.Need-array-share-prefix-cells
-array-share-prefix-cells c = omega (arith, size (c .before .before) .0, c .before .before .cells2 .given)
-
-slice-aggregate-put-counted : tie.Need-slice-aggregate-put-counted
-slice-aggregate-put-counted c = sym (length-take-le (c .before .before .before .before .before .find-cells .result * width (c .before .before .before .before .before .before .before .before .before .before .args .dims)) _ (omega (arith, size (c .before .before .before) .0, c .before .before .before .cells2 .given)))
-
 put-counted-requires : tie.Need-put-counted-requires
-put-counted-requires c κs = (slice-aggregate-put-counted c, few (c .before .before .before), omega (arith, c .before .before .if1 .left))
+put-counted-requires c κs =
+    let s = size (c .before .before .before) .0 in
+    let room = c .before .before .before .cells2 .given in
+    (c .before .before .before .before .before .before .before .before .before .before .pre .dims, few (c .before .before .before), omega (arith, s, room), omega (arith, c .before .before .if1 .left))
 
 -- what is written
 wrote : (c : tie.After-slice-known2) → (let a = c .before .before .before .before .before .before .before .before .before .before .before .before .before .args in Wrote (cuboidBytes (a .dims) (rowsOf (a .dims) (a .n) (now (a .rows))) (a .set)) (now (a .out)) (c .before .before .put-counted .last .0) (c .before .before .put-counted .result))
 unfolding cuboidBytes
-wrote c =
-    let g = rows-front (c .before .before .before .before .before .before .before .before .before .before .before .before .before .args .dims) (c .before .before .before .before .before .before .before .before .find-cells .result) _ ∙ c .before .before .before .before .before .before .before .before .find-cells .ensures .0 in
-    wrote-as (ap (section cellBytes) g) (c .before .before .put-counted .ensures)
+wrote c = wrote-as (ap (section cellBytes) (c .before .before .before .before .before .before .before .before .find-cells .ensures .0)) (c .before .before .put-counted .ensures)
 
 returns-2 : tie.Need-returns-2
 returns-2 c = let w = wrote c in record { count = w .count; fits = λ h. w .list; short = λ h. absurd (omega (arith, h, long (c .before .before .before .before .before .before), c .before .before .before .before .before .if1 .left)) }
@@ -80,4 +71,4 @@ returns-2 c = let w = wrote c in record { count = w .count; fits = λ h. w .list
 pub write-cuboid-spec : {M : Type 1} → statement M
 write-cuboid-spec =
     tie.close
-    (tie.spec (λ c. search needs) slice-aggregate-find-cells (λ c. search needs) find-cells-requires (λ c. search needs) mul-size (λ c. search needs) (λ c. search needs) mul-len-2 add-len-2 returns array-share-prefix-cells slice-aggregate-put-counted put-counted-requires (λ c. search needs) returns-2)
+    (tie.spec (λ c. search needs) slice-aggregate-find-cells (λ c. search needs) find-cells-requires (λ c. search needs) (λ c. search needs) mul-len-2 add-len-2 returns (λ c. search needs) put-counted-requires (λ c. search needs) returns-2)

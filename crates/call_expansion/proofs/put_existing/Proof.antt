@@ -13,7 +13,7 @@ use Rattle.rows.specs.Rows.{rowsOf}
 use Rattle.archive_entries.specs.Layout.{cellBytes}
 use Rattle.archive_cells.specs.WritingLaws.{wrote-as}
 use Rattle.archive_groups.proofs.Groupable.{groupable}
-use Rattle.call_cuboids.proofs.Lengths.{blank-elsewhere, blank-length}
+use Rattle.call_cuboids.proofs.Lengths.{blank-elsewhere, blank-bytes, blank-length}
 use Rattle.call_expansion.proofs.Slots.{slot-bytes, blank-cells}
 use borrow.Author.Needs.{needs}
 use Rattle.call_expansion.proofs.put_existing.Statement.{statement}
@@ -48,7 +48,7 @@ put-blank-requires c κs =
     (p .0 .0 .dims, omega (arith, p .1, ap (λ (l : List (Row Total)). length (flatMap cellBytes l)) (blank (c .before)), blank-length (c .before .before .before .before .before .before .args .dims)))
 
 returns-3 : tie.Need-returns-3
-returns-3 c = wrote-as (ap (flatMap cellBytes) (blank (c .before .before .before .before))) (c .before .before .put-blank .ensures)
+returns-3 c = wrote-as (sym (blank-bytes _) ∙ ap (flatMap cellBytes) (blank (c .before .before .before .before))) (c .before .before .put-blank .ensures)
 
 pub put-existing-spec : {M : Type 1} → statement M
 put-existing-spec =

@@ -1,0 +1,18 @@
+-- `archive_cells::put_blank` meets its contract: the end of the blank words is the cell.
+use native.Mathlib.Omega.{arith}
+use Rattle.archive_cells.specs.WritingLaws.{wrote-as}
+use Rattle.archive_cells.proofs.Cells.{blank-words, blank-length}
+use borrow.Author.Needs.{needs}
+use Rattle.archive_cells.proofs.put_blank.Statement.{statement}
+use Rattle.archive_cells.proofs.put_blank.Tie as tie
+
+put-words-requires : tie.Need-put-words-requires
+put-words-requires c κs = let p = c .before .before .before .before .pre in omega (arith, blank-length (c .before .before .before .before .args .dims) (p .0), p .1)
+
+returns : tie.Need-returns
+returns c = wrote-as (blank-words (c .before .before .before .before .before .before .before .args .dims) (c .before .before .before .before .before .before .before .pre .0)) (c .before .before .put-words .ensures)
+
+pub put-blank-spec : {M : Type 1} → statement M
+put-blank-spec =
+    tie.close
+    (tie.spec (λ c. search needs) (λ c. search needs) (λ c. search needs) (λ c. search needs) (λ c. search needs) put-words-requires (λ c. search needs) returns)
