@@ -180,7 +180,7 @@ fn store_row(s: &[u8], dims: usize, at: usize, i: usize, rows: &mut [u32])
     requires { ⌜ (at + 4 * width dims ≤ length (now s)) × (i * width dims + width dims ≤ length (now rows)) ⌝ }
     ensures { λ r. ⌜ rowsOf dims (i + 1) (now (rows .exit)) ≡ rowsOf dims i (now (rows .entry)) ++ rowThere (now (s .entry)) dims at ∷ [] ⌝ }
 {
-    let width = dims + 3;
+    let width = dims + rows::TOTAL_WORDS;
     let from = i * width;
     let to = from + width;
     fields::read_words(s, at, &mut rows[from..to]);

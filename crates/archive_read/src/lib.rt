@@ -26,7 +26,7 @@ fn judge_read(
 {
     let d = dims as usize;
     let n = bases as usize;
-    let size = n * (d + 3);
+    let size = n * (d + rows::TOTAL_WORDS);
     if archive_judge::is_required(s, &rows[..size], n, d, store, used) {
         ArchiveRead::Entries { dims, bases, cells }
     } else {
@@ -37,7 +37,7 @@ fn judge_read(
 // The base rows of an archive whose fields are right, and their slots, into the arrays that are lent; what was read of it, or stop 12.
 pub fn read_judged(
     s: &[u8],
-    rows: &mut [u32; 11264],
+    rows: &mut [u32; rows::ROOM],
     store: &mut [u16; 262144],
     used: &mut [usize; 256],
     dims: u32,
@@ -58,7 +58,7 @@ fn judge_fields(s: &[u8], dims: u32, bases: u32, cells: u32) -> ArchiveRead
     requires { ⌜ archiveAnswer (walkArchive (now s)) ≡ ArchiveRead.Entries dims bases cells ⌝ }
     ensures { λ r. ⌜ r ≡ archiveAnswer (readArchive (now (s .entry))) ⌝ }
 {
-    let mut rows = [0u32; 11264];
+    let mut rows = [0u32; rows::ROOM];
     let mut store = [0u16; 262144];
     let mut used = [0usize; 256];
     read_judged(s, &mut rows, &mut store, &mut used, dims, bases, cells)
@@ -77,7 +77,7 @@ pub fn check_required(s: &[u8]) -> ArchiveRead
 // The same as `read_judged`, with slots of its own: they tell how many rows share the cells of each set.
 fn judge_sharing(
     s: &[u8],
-    rows: &mut [u32; 11264],
+    rows: &mut [u32; rows::ROOM],
     used: &mut [usize; 256],
     dims: u32,
     bases: u32,
@@ -93,7 +93,7 @@ fn judge_sharing(
 }
 
 // Reads an archive with all its stops, 1 to 12; its base rows into the array that is lent, and how many of them share the cells of each set but the full one.
-pub fn read_sharing(s: &[u8], rows: &mut [u32; 11264], used: &mut [usize; 256]) -> ArchiveRead
+pub fn read_sharing(s: &[u8], rows: &mut [u32; rows::ROOM], used: &mut [usize; 256]) -> ArchiveRead
     ensures { λ r. ⌜ r ≡ archiveAnswer (readArchive (now (s .entry))) ⌝ }
     ensures { λ r. ⌜ Stored (readArchive (now (s .entry))) (now (rows .exit)) ⌝ }
     ensures { λ r. ⌜ Shares (readArchive (now (s .entry))) (now (rows .exit)) (now (used .exit)) ⌝ }
@@ -107,7 +107,7 @@ pub fn read_sharing(s: &[u8], rows: &mut [u32; 11264], used: &mut [usize; 256]) 
 }
 
 // Reads an archive with all its stops, 1 to 12; its base rows into the array that is lent. The one for slots is lent too.
-pub fn read_lent(s: &[u8], rows: &mut [u32; 11264], store: &mut [u16; 262144]) -> ArchiveRead
+pub fn read_lent(s: &[u8], rows: &mut [u32; rows::ROOM], store: &mut [u16; 262144]) -> ArchiveRead
     ensures { λ r. ⌜ r ≡ archiveAnswer (readArchive (now (s .entry))) ⌝ }
     ensures { λ r. ⌜ Stored (readArchive (now (s .entry))) (now (rows .exit)) ⌝ }
 {
@@ -121,7 +121,7 @@ pub fn read_lent(s: &[u8], rows: &mut [u32; 11264], store: &mut [u16; 262144]) -
 }
 
 // The same as `read_lent`, with slots of its own.
-pub fn read_required(s: &[u8], rows: &mut [u32; 11264]) -> ArchiveRead
+pub fn read_required(s: &[u8], rows: &mut [u32; rows::ROOM]) -> ArchiveRead
     ensures { λ r. ⌜ r ≡ archiveAnswer (readArchive (now (s .entry))) ⌝ }
     ensures { λ r. ⌜ Stored (readArchive (now (s .entry))) (now (rows .exit)) ⌝ }
 {

@@ -59,12 +59,12 @@ fn list_read(
     }
     let d = dims as usize;
     let n = bases as usize;
-    let size = n * (d + 3);
+    let size = n * (d + rows::TOTAL_WORDS);
     fit_cuboid(out, &rows[..size], n, d, set)
 }
 
 // Reads an archive into the array that is lent, and lists the cuboid of a set.
-fn list_in(s: &[u8], rows: &mut [u32; 11264], set: u32, out: &mut [u8]) -> Written
+fn list_in(s: &[u8], rows: &mut [u32; rows::ROOM], set: u32, out: &mut [u8]) -> Written
     ensures { λ r. ⌜ Answered (listsCuboid (now (s .entry)) set) (now (out .entry)) (now (out .exit)) r ⌝ }
 {
     match archive_read::read_required(s, rows) {
@@ -79,7 +79,7 @@ fn list_in(s: &[u8], rows: &mut [u32; 11264], set: u32, out: &mut [u8]) -> Writt
 pub fn list_cuboid(archive: &[u8], set: u32, out: &mut [u8]) -> Written
     ensures { λ r. ⌜ Answered (listsCuboid (now (archive .entry)) set) (now (out .entry)) (now (out .exit)) r ⌝ }
 {
-    let mut rows = [0u32; 11264];
+    let mut rows = [0u32; rows::ROOM];
     list_in(archive, &mut rows, set, out)
 }
 
@@ -119,14 +119,14 @@ fn expand_read(
 {
     let d = dims as usize;
     let n = bases as usize;
-    let size = n * (d + 3);
+    let size = n * (d + rows::TOTAL_WORDS);
     fit_expansion(out, &rows[..size], n, d, store, used)
 }
 
 // Reads the base rows of an archive whose fields are right into the array that is lent, and expands it. Eight parameters, as `expand_read`.
 fn expand_in(
     s: &[u8],
-    rows: &mut [u32; 11264],
+    rows: &mut [u32; rows::ROOM],
     store: &mut [u16; 262144],
     used: &mut [usize; 256],
     dims: u32,
@@ -150,7 +150,7 @@ fn expand_fields(s: &[u8], dims: u32, bases: u32, cells: u32, out: &mut [u8]) ->
     requires { ⌜ archiveAnswer (walkArchive (now s)) ≡ ArchiveRead.Entries dims bases cells ⌝ }
     ensures { λ r. ⌜ Answered (expands (now (s .entry))) (now (out .entry)) (now (out .exit)) r ⌝ }
 {
-    let mut rows = [0u32; 11264];
+    let mut rows = [0u32; rows::ROOM];
     let mut store = [0u16; 262144];
     let mut used = [0usize; 256];
     expand_in(s, &mut rows, &mut store, &mut used, dims, bases, cells, out)

@@ -55,14 +55,14 @@ fn build_read(s: &[u8], rows: &[u32], dims: u32, count: u32, out: &mut [u8]) -> 
 {
     let d = dims as usize;
     let n = count as usize;
-    let size = n * (d + 3);
+    let size = n * (d + rows::TOTAL_WORDS);
     let mut sizes = [0u32; 8];
     let mut store = [0u16; 262144];
     write_sized(s, &mut sizes[..d], &rows[..size], n, &mut store, out)
 }
 
 // Reads a table into the array that is lent, and builds its archive.
-fn build_in(table: &[u8], rows: &mut [u32; 11264], out: &mut [u8]) -> Written
+fn build_in(table: &[u8], rows: &mut [u32; rows::ROOM], out: &mut [u8]) -> Written
     ensures { λ r. ⌜ Answered (builds (now (table .entry))) (now (out .entry)) (now (out .exit)) r ⌝ }
 {
     match table_rows::read_table(table, rows) {
@@ -75,6 +75,6 @@ fn build_in(table: &[u8], rows: &mut [u32; 11264], out: &mut [u8]) -> Written
 pub fn build(table: &[u8], out: &mut [u8]) -> Written
     ensures { λ r. ⌜ Answered (builds (now (table .entry))) (now (out .entry)) (now (out .exit)) r ⌝ }
 {
-    let mut rows = [0u32; 11264];
+    let mut rows = [0u32; rows::ROOM];
     build_in(table, &mut rows, out)
 }

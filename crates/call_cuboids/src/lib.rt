@@ -55,7 +55,7 @@ fn put_counted(out: &mut [u8], cells: &[u32], n: usize, dims: usize) -> usize
     ensures { λ r. ⌜ Wrote (section cellBytes (rowsOf dims n (now (cells .entry)))) (now (out .entry)) (now (out .exit)) r ⌝ }
 {
     let at = fields::put_word(out, n as u32);
-    let size = n * (dims + 3);
+    let size = n * (dims + rows::TOTAL_WORDS);
     at + fields::put_words(&mut out[at..], &cells[..size])
 }
 
@@ -65,7 +65,7 @@ pub fn write_cuboid(out: &mut [u8], rows: &[u32], n: usize, dims: usize, set: u3
     ensures { λ r. ⌜ Fitted (cuboidBytes dims (rowsOf dims n (now (rows .entry))) set) (now (out .entry)) (now (out .exit)) r ⌝ }
 {
     let mut index = [0u32; 1024];
-    let mut cells = [0u32; 11264];
+    let mut cells = [0u32; rows::ROOM];
     let count = find_cells(rows, n, dims, set, &mut index[..n], &mut cells);
     let len = 4 + count * (4 * dims + 12);
     if out.len() < len {

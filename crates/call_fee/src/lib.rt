@@ -32,9 +32,9 @@ fn cell_counts(rows: &[u32], n: usize, dims: usize, set: u32, tallies: &mut [u32
     ensures { λ r. ⌜ (take r (now (tallies .exit)) ≡ weights dims (rowsOf dims n (now (rows .entry))) set) × (r ≤ n) ⌝ }
 {
     let mut index = [0u32; 1024];
-    let mut cells = [0u32; 11264];
+    let mut cells = [0u32; rows::ROOM];
     let count = rows_runs::group_rows(rows, n, dims, set, &mut index[..n], &mut cells);
-    let size = count * (dims + 3);
+    let size = count * (dims + rows::TOTAL_WORDS);
     copy_counts(&cells[..size], count, dims, tallies);
     count
 }
@@ -85,12 +85,12 @@ fn share_read(
     }
     let d = dims as usize;
     let n = bases as usize;
-    let size = n * (d + 3);
+    let size = n * (d + rows::TOTAL_WORDS);
     share_rows(out, &rows[..size], n, d, set, fee)
 }
 
 // Reads an archive into the array that is lent, and shares a fee over the cells of a set.
-fn share_in(s: &[u8], rows: &mut [u32; 11264], fee: u64, set: u32, out: &mut [u8]) -> Written
+fn share_in(s: &[u8], rows: &mut [u32; rows::ROOM], fee: u64, set: u32, out: &mut [u8]) -> Written
     ensures { λ r. ⌜ Answered (sharesFee (now (s .entry)) fee set) (now (out .entry)) (now (out .exit)) r ⌝ }
 {
     match archive_read::read_required(s, rows) {
@@ -105,6 +105,6 @@ fn share_in(s: &[u8], rows: &mut [u32; 11264], fee: u64, set: u32, out: &mut [u8
 pub fn share_fee(archive: &[u8], fee: u32, set: u32, out: &mut [u8]) -> Written
     ensures { λ r. ⌜ Answered (sharesFee (now (archive .entry)) fee set) (now (out .entry)) (now (out .exit)) r ⌝ }
 {
-    let mut rows = [0u32; 11264];
+    let mut rows = [0u32; rows::ROOM];
     share_in(archive, &mut rows, fee as u64, set, out)
 }

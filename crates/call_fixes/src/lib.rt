@@ -101,7 +101,7 @@ fn fixes_read(
         return Fixed::Yes;
     }
     let n = bases as usize;
-    let size = n * (d + 3);
+    let size = n * (d + rows::TOTAL_WORDS);
     let fixed = lattice::sets_of(dimension - 1);
     if rows_fix(&rows[..size], n, d, set, fixed) {
         Fixed::Yes
@@ -113,7 +113,7 @@ fn fixes_read(
 // Reads an archive into the arrays that are lent, and tells whether a set fixes a dimension.
 fn fixes_in(
     s: &[u8],
-    rows: &mut [u32; 11264],
+    rows: &mut [u32; rows::ROOM],
     used: &mut [usize; 256],
     set: u32,
     dimension: u32,
@@ -132,7 +132,7 @@ fn fixes_in(
 pub fn fixes(archive: &[u8], set: u32, dimension: u32) -> Fixed
     ensures { λ r. ⌜ r ≡ tellsFixed (now (archive .entry)) set dimension ⌝ }
 {
-    let mut rows = [0u32; 11264];
+    let mut rows = [0u32; rows::ROOM];
     let mut used = [0usize; 256];
     fixes_in(archive, &mut rows, &mut used, set, dimension)
 }

@@ -47,12 +47,12 @@ fn join_rows(
     if 1048576 < rows_merge::readings_in(rows1, n, d) + rows_merge::readings_in(rows2, m, d) {
         return Written::Stop(18);
     }
-    let mut rows = [0u32; 11264];
+    let mut rows = [0u32; rows::ROOM];
     let k = rows_merge::merge_rows(rows1, n, rows2, m, d, &mut rows);
     if 1024 < k {
         return Written::Stop(18);
     }
-    let size = k * (d + 3);
+    let size = k * (d + rows::TOTAL_WORDS);
     call_build::fit_archive(out, sizes, &rows[..size], k, store)
 }
 
@@ -78,8 +78,8 @@ fn join_read(
     let d = dims1 as usize;
     let n = bases1 as usize;
     let m = bases2 as usize;
-    let size1 = n * (d + 3);
-    let size2 = m * (d + 3);
+    let size1 = n * (d + rows::TOTAL_WORDS);
+    let size2 = m * (d + rows::TOTAL_WORDS);
     let mut sizes = [0u32; 8];
     let mut others = [0u32; 8];
     if same_sizes(first, second, &mut sizes[..d], &mut others[..d]) {
@@ -100,9 +100,9 @@ fn join_read(
 // Reads both archives into the arrays that are lent, the first whole before the second, and joins them. One array has the slots of both checks and then those of the new archive.
 fn join_in(
     first: &[u8],
-    rows1: &mut [u32; 11264],
+    rows1: &mut [u32; rows::ROOM],
     second: &[u8],
-    rows2: &mut [u32; 11264],
+    rows2: &mut [u32; rows::ROOM],
     store: &mut [u16; 262144],
     out: &mut [u8],
 ) -> Written
@@ -142,8 +142,8 @@ fn join_in(
 pub fn join(first: &[u8], second: &[u8], out: &mut [u8]) -> Written
     ensures { λ r. ⌜ Answered (joins (now (first .entry)) (now (second .entry))) (now (out .entry)) (now (out .exit)) r ⌝ }
 {
-    let mut rows1 = [0u32; 11264];
-    let mut rows2 = [0u32; 11264];
+    let mut rows1 = [0u32; rows::ROOM];
+    let mut rows2 = [0u32; rows::ROOM];
     let mut store = [0u16; 262144];
     join_in(first, &mut rows1, second, &mut rows2, &mut store, out)
 }

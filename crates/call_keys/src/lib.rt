@@ -107,7 +107,12 @@ fn keys_read(
 }
 
 // Reads an archive into the arrays that are lent, and lists its smallest keys.
-fn keys_in(s: &[u8], rows: &mut [u32; 11264], used: &mut [usize; 256], out: &mut [u8]) -> Written
+fn keys_in(
+    s: &[u8],
+    rows: &mut [u32; rows::ROOM],
+    used: &mut [usize; 256],
+    out: &mut [u8],
+) -> Written
     ensures { λ r. ⌜ Answered (listsKeys (now (s .entry))) (now (out .entry)) (now (out .exit)) r ⌝ }
 {
     match archive_read::read_sharing(s, rows, used) {
@@ -122,7 +127,7 @@ fn keys_in(s: &[u8], rows: &mut [u32; 11264], used: &mut [usize; 256], out: &mut
 pub fn smallest_keys(archive: &[u8], out: &mut [u8]) -> Written
     ensures { λ r. ⌜ Answered (listsKeys (now (archive .entry))) (now (out .entry)) (now (out .exit)) r ⌝ }
 {
-    let mut rows = [0u32; 11264];
+    let mut rows = [0u32; rows::ROOM];
     let mut used = [0usize; 256];
     keys_in(archive, &mut rows, &mut used, out)
 }

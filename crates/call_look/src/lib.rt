@@ -17,7 +17,7 @@ fn look_read(s: &[u8], rows: &[u32], dims: u32, bases: u32, cells: u32, question
         return Found::Stop(13);
     }
     let n = bases as usize;
-    let size = n * (d + 3);
+    let size = n * (d + rows::TOTAL_WORDS);
     let m = cells as usize;
     let at = s.len() - 4 - m * (4 * d + 12);
     match call_questions::answer(s, at, m, &rows[..size], n, d, question) {
@@ -27,7 +27,7 @@ fn look_read(s: &[u8], rows: &[u32], dims: u32, bases: u32, cells: u32, question
 }
 
 // Reads an archive into the array that is lent, and looks up a cell.
-fn look_in(s: &[u8], rows: &mut [u32; 11264], question: &[u32]) -> Found
+fn look_in(s: &[u8], rows: &mut [u32; rows::ROOM], question: &[u32]) -> Found
     ensures { λ r. ⌜ r ≡ looksUp (now (s .entry)) (now (question .entry)) ⌝ }
 {
     match archive_read::read_required(s, rows) {
@@ -42,6 +42,6 @@ fn look_in(s: &[u8], rows: &mut [u32; 11264], question: &[u32]) -> Found
 pub fn look_up(archive: &[u8], question: &[u32]) -> Found
     ensures { λ r. ⌜ r ≡ looksUp (now (archive .entry)) (now (question .entry)) ⌝ }
 {
-    let mut rows = [0u32; 11264];
+    let mut rows = [0u32; rows::ROOM];
     look_in(archive, &mut rows, question)
 }

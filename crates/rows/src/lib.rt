@@ -5,12 +5,18 @@ ghost use Prim.Native.Nat.{_*_, _<_};
 ghost use lib.ListN.{length, take, drop};
 ghost use Rattle.rows.specs.Rows.{width, rowOf, cut, rowAt, rowTotal};
 
+// How many words a total has.
+pub const TOTAL_WORDS: usize = 3;
+
+// How many words 1,024 rows of 8 codes have.
+pub const ROOM: usize = 11264;
+
 // The words of a row.
 pub fn words_of(rows: &[u32], n: usize, dims: usize, row: usize) -> &[u32]
     requires { ⌜ (n * width dims ≡ length (now rows)) × (row < n) ⌝ }
     ensures { λ r. ⌜ (now r ≡ take (width dims) (drop (row * width dims) (now (rows .entry)))) × (length (now r) ≡ width dims) ⌝ }
 {
-    let width = dims + 3;
+    let width = dims + TOTAL_WORDS;
     let from = row * width;
     let to = from + width;
     &rows[from..to]

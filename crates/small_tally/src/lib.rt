@@ -75,7 +75,7 @@ fn entries_of(dims: usize, t: u32) -> usize
 {
     let mut rows = [0u32; 48];
     let size = put_table(&mut rows, dims, t);
-    rows_entries(&rows[..size], size / (dims + 3), dims)
+    rows_entries(&rows[..size], size / (dims + rows::TOTAL_WORDS), dims)
 }
 
 // Tallies how many of all tables have each number of entries.

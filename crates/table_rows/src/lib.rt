@@ -27,7 +27,7 @@ fn store_row(s: &[u8], dims: usize, at: usize, i: usize, rows: &mut [u32])
     requires { ⌜ (at + (4 * dims + 4) ≤ length (now s)) × (i * width dims + width dims ≤ length (now rows)) ⌝ }
     ensures { λ _. ⌜ rowsOf dims (i + 1) (now (rows .exit)) ≡ rowsOf dims i (now (rows .entry)) ++ recordThere (now (s .entry)) dims at ∷ [] ⌝ }
 {
-    let width = dims + 3;
+    let width = dims + rows::TOTAL_WORDS;
     let from = i * width;
     let to = from + width;
     fill_row(&mut rows[from..to], s, dims, at);
@@ -74,15 +74,15 @@ fn fold_table(s: &[u8], d: usize, n: usize, rows: &mut [u32]) -> usize
     ensures { λ r. ⌜ rowsOf d r (now (rows .exit)) ≡ folded measure d (rowsAt (now (s .entry)) d n (12 + 4 * d)) ⌝ }
     ensures { λ r. ⌜ r ≤ n ⌝ }
 {
-    let mut own = [0u32; 11264];
+    let mut own = [0u32; rows::ROOM];
     let mut index = [0u32; 1024];
-    let size = n * (d + 3);
+    let size = n * (d + rows::TOTAL_WORDS);
     let start = 12 + 4 * d;
     fold_rows(s, d, n, start, &mut own[..size], &mut index[..n], rows)
 }
 
 // Reads a table: its stops, and its base rows into the array that is lent.
-pub fn read_table(s: &[u8], rows: &mut [u32; 11264]) -> TableRead
+pub fn read_table(s: &[u8], rows: &mut [u32; rows::ROOM]) -> TableRead
     ensures { λ r. ⌜ r ≡ tableAnswer (readTable (now (s .entry))) ⌝ }
     ensures { λ r. ⌜ Stored (readTable (now (s .entry))) (now (rows .exit)) ⌝ }
 {
