@@ -16,7 +16,7 @@ pub fn complete_slots(rows: &[u32], n: usize, dims: usize, store: &mut [u16], si
     let mut columns = [0u32; 16384];
     let mut order = [0u32; 1024];
     let mut marks = [0u32; 1024];
-    let mut lone = [0u32; 1024];
+    let mut lone = [0u32; 1026];
     let passed = [0u32; 32];
     rows_columns::read_columns(rows, n, dims, &mut columns);
     let all = lattice::sets_of(dims as u32) - 1;

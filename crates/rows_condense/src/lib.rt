@@ -31,7 +31,7 @@ fn list_set(
     lists: &mut [u8],
 ) -> usize
     requires { ⌜ (n ≤ 1024) × Valid dims (cut dims n (now rows)) × (dims ≤ 8) × Columns dims n (now rows) (now columns) × (set < 2 ^ dims) × (1 ≤ set → Holds 2 dims n (now rows) (now store) (now sizes) (shorter set)) ⌝ }
-    requires { ⌜ (262144 ≤ length (now store)) × (256 ≤ length (now sizes)) × (length (now order) ≡ 1024) × (length (now marks) ≡ 1024) × (length (now lone) ≡ 1024) ⌝ }
+    requires { ⌜ (262144 ≤ length (now store)) × (256 ≤ length (now sizes)) × (length (now order) ≡ 1024) × (length (now marks) ≡ 1024) × (length (now lone) ≡ 1026) ⌝ }
     requires { ⌜ (8192 ≤ length (now alone)) × (length (now passed) ≡ 32) × Lower dims n (now rows) (now alone) set ⌝ }
     requires { ⌜ (n * 71 ≤ length (now lists)) × Short n (now lists) × Fit (noted set (keep (isNew (now alone) set) (leftOut 2 (cut dims n (now rows)) n set)) (listsOf n (now lists))) ⌝ }
     ensures { λ r. ⌜ Filled 2 dims n (now (rows .entry)) (now (store .entry)) (now (sizes .entry)) (now (store .exit)) (now (sizes .exit)) set ⌝ }
@@ -82,7 +82,7 @@ pub fn condense_rows(
     let mut passed = [0u32; 32];
     let mut order = [0u32; 1024];
     let mut marks = [0u32; 1024];
-    let mut lone = [0u32; 1024];
+    let mut lone = [0u32; 1026];
     rows_lists::clear_lists(lists, n);
     rows_columns::read_columns(rows, n, dims, &mut columns);
     let all = lattice::sets_of(dims as u32) - 1;

@@ -17,7 +17,7 @@ use Rattle.rows_complete.proofs.complete_slots.Tie as tie
 
 abbrev Inv-loop : tie.InvT-loop
 Inv-loop rows n dims store₀ sizes₀ columns order₀ marks₀ lone₀ passed all k₀ store sizes order marks lone k =
-    (length store ≡ length store₀) × (length sizes ≡ length sizes₀) × (length order ≡ 1024) × (length marks ≡ 1024) × (length lone ≡ 1024)
+    (length store ≡ length store₀) × (length sizes ≡ length sizes₀) × (length order ≡ 1024) × (length marks ≡ 1024) × (length lone ≡ 1026)
     × ((s : ℕ) → Passing 1 dims n rows passed s) × Completing dims n rows store sizes all k
 
 abbrev μ-loop : tie.MeasureT-loop

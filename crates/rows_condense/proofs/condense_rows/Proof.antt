@@ -22,7 +22,7 @@ use Rattle.rows_condense.proofs.condense_rows.Tie as tie
 abbrev Inv-loop : tie.InvT-loop
 Inv-loop rows n dims store₀ sizes₀ lists₀ columns alone₀ passed₀ order₀ marks₀ lone₀ all cells₀ k₀ store sizes lists alone passed order marks lone cells k =
     (length store ≡ length store₀) × (length sizes ≡ length sizes₀) × (length lists ≡ length lists₀) × (length alone ≡ 8192) × (length passed ≡ 32)
-    × (length order ≡ 1024) × (length marks ≡ 1024) × (length lone ≡ 1024)
+    × (length order ≡ 1024) × (length marks ≡ 1024) × (length lone ≡ 1026)
     × Filling 2 dims n rows store sizes (full dims) k × Listing dims n rows alone lists cells k
 
 abbrev μ-loop : tie.MeasureT-loop

@@ -1,5 +1,4 @@
 -- `rows_crowds::fill_next` meets its contract: the rows of the set without its last dimension are split, and their groups are packed.
--- the set is one of 256
 use mathlib.Core.Path.{_≡_, refl, sym, ap, subst, _∙_}
 use mathlib.Core.List.{List, _++_, map}
 use mathlib.Core.Bool.{Bool}
@@ -21,6 +20,7 @@ use borrow.Author.Needs.{needs}
 use Rattle.rows_crowds.proofs.fill_next.Statement.{statement}
 use Rattle.rows_crowds.proofs.fill_next.Tie as tie
 
+-- the set is one of 256
 low : (c : tie.After-slice-known5) → c .before .before .before .before .before .before .before .before .args .set < 256
 low c = below-all (c .before .before .before .before .before .before .before .before .args .dims) (c .before .before .before .before .before .before .before .before .pre .1 .1 .0) (c .before .before .before .before .before .before .before .before .pre .1 .1 .3)
 
@@ -78,42 +78,42 @@ next c =
     }
 
 slice-aggregate-split-groups : tie.Need-slice-aggregate-split-groups
-slice-aggregate-split-groups c = let p = c .before .before .before .before .before .before .before .before .before .before .before .before .before .before .before .before .pre in sym (length-take-le (c .before .before .before .before .before .before .before .before .before .before .before .before .before .before .before .before .args .n) _ (omega (arith, p .0 .0, p .1 .0 .3)))
+slice-aggregate-split-groups c = let p = c .before .before .before .before .before .before .before .before .before .before .before .before .before .before .before .before .before .pre in sym (length-take-le (c .before .before .before .before .before .before .before .before .before .before .before .before .before .before .before .before .before .args .n) _ (omega (arith, p .0 .0, p .1 .0 .3)))
 
 split-groups-requires : tie.Need-split-groups-requires
 split-groups-requires c κs =
-    let p = c .before .before .before .before .before .before .before .before .before .before .before .before .before .before .before .before .pre in
-    let x = next (c .before .before) in (
+    let p = c .before .before .before .before .before .before .before .before .before .before .before .before .before .before .before .before .before .pre in
+    let x = next (c .before .before .before) in (
       (omega (arith, turn-column (x .turn), p .0 .0), next-slot x, p .1 .1 .4 .room, turn-small (x .turn), next-rising x),
-      (p .1 .0 .2, sym (slice-aggregate-split-groups (c)) ∙ sym (turn-column (x .turn))),
+      (p .1 .0 .2, sym (slice-aggregate-split-groups c) ∙ sym (turn-column (x .turn)), p .1 .0 .4),
     )
 
 mul-from : tie.Need-mul-from
-mul-from c = omega (arith, low (c .before .before .before .before .before .before .before .before .before .before .before .before .before))
+mul-from c = omega (arith, low (c .before .before .before .before .before .before .before .before .before .before .before .before .before .before .before .before))
 
 add-to : tie.Need-add-to
-add-to c = omega (arith, low (c .before .before .before .before .before .before .before .before .before .before .before .before .before))
+add-to c = omega (arith, low (c .before .before .before .before .before .before .before .before .before .before .before .before .before .before .before .before))
 
 slice-reshare-prefix-pack-groups : tie.Need-slice-reshare-prefix-pack-groups
 slice-reshare-prefix-pack-groups c =
-    let p = c .before .before .before .before .before .before .before .before .before .before .before .before .before .before .before .before .before .before .before .before .before .pre in
-    let r = c .before .before .before .before .split-groups in
-    omega (arith, r .ensures .0 .1, next-few (next (c .before .before .before .before .before .before .before)), p .0 .0, r .kept .1 .1 .1 .1 .0, p .1 .0 .2)
+    let p = c .before .before .before .before .before .before .before .before .before .before .before .before .before .before .before .before .before .before .before .before .before .before .before .before .pre in
+    let r = c .before .before .before .before .before .before .split-groups in
+    omega (arith, r .ensures .0 .1, next-few (next (c .before .before .before .before .before .before .before .before .before .before)), p .0 .0, r .kept .1 .1 .1 .1 .1 .0, p .1 .0 .2)
 
 slice-aggregate-pack-groups : tie.Need-slice-aggregate-pack-groups
-slice-aggregate-pack-groups c = sym (length-take-le (c .before .before .before .before .before .split-groups .result) _ (slice-reshare-prefix-pack-groups (c .before)))
+slice-aggregate-pack-groups c = sym (length-take-le (c .before .before .before .before .before .before .before .split-groups .result) _ (slice-reshare-prefix-pack-groups (c .before)))
 
 slice-reshare-prefix-pack-groups-2 : tie.Need-slice-reshare-prefix-pack-groups-2
-slice-reshare-prefix-pack-groups-2 c = let p = c .before .before .before .before .before .before .before .before .before .before .before .before .before .before .before .before .before .before .before .before .before .before .pre in omega (arith, c .before .before .marks .given .1, p .1 .0 .3, p .0 .0)
+slice-reshare-prefix-pack-groups-2 c = let p = c .before .before .before .before .before .before .before .before .before .before .before .before .before .before .before .before .before .before .before .before .before .before .before .before .before .pre in omega (arith, c .before .before .marks .given .1, p .1 .0 .3, p .0 .0)
 
 slice-aggregate-pack-groups-2 : tie.Need-slice-aggregate-pack-groups-2
-slice-aggregate-pack-groups-2 c = sym (length-take-le (c .before .before .before .before .before .before .before .before .before .before .before .before .before .before .before .before .before .before .before .before .before .before .before .args .n) _ (slice-reshare-prefix-pack-groups-2 (c .before)))
+slice-aggregate-pack-groups-2 c = sym (length-take-le (c .before .before .before .before .before .before .before .before .before .before .before .before .before .before .before .before .before .before .before .before .before .before .before .before .before .before .args .n) _ (slice-reshare-prefix-pack-groups-2 (c .before)))
 
 mul-pack-groups : tie.Need-mul-pack-groups
-mul-pack-groups c = omega (arith, low (c .before .before .before .before .before .before .before .before .before .before .before .before .before .before .before))
+mul-pack-groups c = omega (arith, low (c .before .before .before .before .before .before .before .before .before .before .before .before .before .before .before .before .before .before))
 
 part-pack-groups-end : tie.Need-part-pack-groups-end
-part-pack-groups-end c = omega (arith, low (c .before .before .before .before .before .before .before .before .before .before .before .before .before .before .before), c .before .before .before .before .before .before .before .before .before .before .before .before .before .before .before .before .before .before .before .before .before .before .before .pre .1 .0 .0)
+part-pack-groups-end c = omega (arith, low (c .before .before .before .before .before .before .before .before .before .before .before .before .before .before .before .before .before .before), c .before .before .before .before .before .before .before .before .before .before .before .before .before .before .before .before .before .before .before .before .before .before .before .before .before .before .pre .1 .0 .0)
 
 -- the marks are in front of what is lent
 front : (l m : List ℕ) (k : ℕ) → length l ≡ k → take k (l ++ m) ≡ l
@@ -124,43 +124,43 @@ marked p column old l m k e h y i = ap (λ (z : List ℕ). getD z y 0) (front l 
 
 pack-groups-requires : tie.Need-pack-groups-requires
 pack-groups-requires c κs =
-    let a = c .before .before .before .before .before .before .before .before .before .before .before .before .before .before .before .before .before .before .before .before .before .before .before .before .before .args in
-    let p = c .before .before .before .before .before .before .before .before .before .before .before .before .before .before .before .before .before .before .before .before .before .before .before .before .before .pre in
-    let r = c .before .before .before .before .before .before .before .before .split-groups in
-    let x = next (c .before .before .before .before .before .before .before .before .before .before .before) in
-    let names = next-names x (take (r .result) (r .last .1 .1 .1 .1 .0)) (r .last .1 .1 .1 .1 .1 .0) (r .ensures .0 .0) (r .ensures .1) in
+    let a = c .before .before .before .before .before .before .before .before .before .before .before .before .before .before .before .before .before .before .before .before .before .before .before .before .before .before .before .before .args in
+    let p = c .before .before .before .before .before .before .before .before .before .before .before .before .before .before .before .before .before .before .before .before .before .before .before .before .before .before .before .before .pre in
+    let r = c .before .before .before .before .before .before .before .before .before .before .split-groups in
+    let x = next (c .before .before .before .before .before .before .before .before .before .before .before .before .before .before) in
+    let names = next-names x (take (r .result) (r .last .1 .1 .1 .1 .1 .0)) (r .last .1 .1 .1 .1 .1 .1 .0) (r .ensures .0 .0) (r .ensures .1) in
     let n = slice-aggregate-pack-groups (c .before .before .before) in
     let few = next-few x in (
       (λ i l. omega (arith, names i l, slice-aggregate-pack-groups-2 (c .before .before)), λ i l. omega (arith, names i l, p .0 .0), omega (arith, n, r .ensures .0 .1, few, p .0 .0)),
       (
         omega (arith, n, r .ensures .0 .1, few, p .0 .0, mid-len (a .set * 1024) (a .set * 1024 + 1024) (now (a .store)) (part-pack-groups-end (c .before .before))),
-        omega (arith, n, r .ensures .0 .1, few, p .0 .0, p .1 .0 .4),
+        omega (arith, n, r .ensures .0 .1, few, p .0 .0, r .kept .1 .1 .1 .1 .0, p .1 .0 .4),
       ),
     )
 
 mul-sizes : tie.Need-mul-sizes
-mul-sizes c = omega (arith, low (c .before .before .before .before .before .before .before .before .before .before .before .before .before .before .before .before .before .before .before .before .before .before))
+mul-sizes c = omega (arith, low (c .before .before .before .before .before .before .before .before .before .before .before .before .before .before .before .before .before .before .before .before .before .before .before .before .before))
 
 slice-write-sizes : tie.Need-slice-write-sizes
-slice-write-sizes c = omega (arith, low (c .before .before .before .before .before .before .before .before .before .before .before .before .before .before .before .before .before .before .before .before .before .before), c .before .before .before .before .before .before .before .before .before .before .before .before .before .before .before .before .before .before .before .before .before .before .before .before .before .before .before .before .before .before .pre .1 .0 .1)
+slice-write-sizes c = omega (arith, low (c .before .before .before .before .before .before .before .before .before .before .before .before .before .before .before .before .before .before .before .before .before .before .before .before .before), c .before .before .before .before .before .before .before .before .before .before .before .before .before .before .before .before .before .before .before .before .before .before .before .before .before .before .before .before .before .before .before .before .before .pre .1 .0 .1)
 
 returns : tie.Need-returns
 returns c =
-    let a = c .before .before .before .before .before .before .before .before .before .before .before .before .before .before .before .before .before .before .before .before .before .before .before .before .before .before .before .before .before .before .args in
-    let p = c .before .before .before .before .before .before .before .before .before .before .before .before .before .before .before .before .before .before .before .before .before .before .before .before .before .before .before .before .before .before .pre in
-    let s = c .before .before .before .before .before .before .before .before .before .before .before .before .before .split-groups in
+    let a = c .before .before .before .before .before .before .before .before .before .before .before .before .before .before .before .before .before .before .before .before .before .before .before .before .before .before .before .before .before .before .before .before .before .args in
+    let p = c .before .before .before .before .before .before .before .before .before .before .before .before .before .before .before .before .before .before .before .before .before .before .before .before .before .before .before .before .before .before .before .before .before .pre in
+    let s = c .before .before .before .before .before .before .before .before .before .before .before .before .before .before .before .split-groups in
     let r = c .before .before .before .before .pack-groups in
-    let x = next (c .before .before .before .before .before .before .before .before .before .before .before .before .before .before .before .before) in
+    let x = next (c .before .before .before .before .before .before .before .before .before .before .before .before .before .before .before .before .before .before .before) in
     let few = next-few x in
     let n = slice-aggregate-pack-groups (c .before .before .before .before .before .before .before .before) in
-    let wide : length (s .last .1 .1 .1 .1 .1 .0) ≡ a .n = s .kept .1 .1 .1 .1 .1 .0 ∙ sym (slice-aggregate-split-groups (c .before .before .before .before .before .before .before .before .before .before .before .before .before .before)) in
+    let wide : length (s .last .1 .1 .1 .1 .1 .1 .0) ≡ a .n = s .kept .1 .1 .1 .1 .1 .1 .0 ∙ sym (slice-aggregate-split-groups (c .before .before .before .before .before .before .before .before .before .before .before .before .before .before .before .before)) in
     let rest = drop (a .n) (now (a .marks)) in
-    let h = marked (stays (now (a .passed))) (now (c .before .before .before .before .before .before .before .before .before .before .before .before .before .before .before .before .before .column-of .result)) (now (c .before .before .before .before .before .before .before .before .before .before .before .before .before .before .before .before .before .before .slot-of .result)) (s .last .1 .1 .1 .1 .1 .0) rest (a .n) wide (s .ensures .1) in
-    let order = take (s .result) (s .last .1 .1 .1 .1 .0) in
-    let marks = take (a .n) (s .last .1 .1 .1 .1 .1 .0 ++ rest) in
+    let h = marked (stays (now (a .passed))) (now (c .before .before .before .before .before .before .before .before .before .before .before .before .before .before .before .before .before .before .before .before .column-of .result)) (now (c .before .before .before .before .before .before .before .before .before .before .before .before .before .before .before .before .before .before .before .before .before .slot-of .result)) (s .last .1 .1 .1 .1 .1 .1 .0) rest (a .n) wide (s .ensures .1) in
+    let order = take (s .result) (s .last .1 .1 .1 .1 .1 .0) in
+    let marks = take (a .n) (s .last .1 .1 .1 .1 .1 .1 .0 ++ rest) in
     let w : a .set * 1024 + 1024 - a .set * 1024 ≡ 1024 = omega arith in
     let len : length (r .last .1 .1 .1 .0) ≡ a .set * 1024 + 1024 - a .set * 1024 = r .kept .1 .1 .1 .0 ∙ mid-len (a .set * 1024) (a .set * 1024 + 1024) (now (a .store)) (part-pack-groups-end (c .before .before .before .before .before .before .before)) in (
-      filled (a .least) (a .dims) (a .n) (now (a .rows)) (now (a .store)) (now (a .sizes)) (r .last .1 .1 .1 .0) (a .set) (a .set * 1024) (a .set * 1024 + 1024 - a .set * 1024) (r .result .len) (p .0 .0) (low (c .before .before .before .before .before .before .before .before .before .before .before .before .before .before .before .before .before .before .before .before .before .before)) (p .1 .0 .0) (p .1 .0 .1) refl len w
+      filled (a .least) (a .dims) (a .n) (now (a .rows)) (now (a .store)) (now (a .sizes)) (r .last .1 .1 .1 .0) (a .set) (a .set * 1024) (a .set * 1024 + 1024 - a .set * 1024) (r .result .len) (p .0 .0) (low (c .before .before .before .before .before .before .before .before .before .before .before .before .before .before .before .before .before .before .before .before .before .before .before .before .before)) (p .1 .0 .0) (p .1 .0 .1) refl len w
           (omega (arith, r .ensures .1 .1 .0, n, s .ensures .0 .1, few)) (r .ensures .0 ∙ next-kept x order marks (s .ensures .0 .0) h),
       (r .ensures .1 .0 ∙ next-left x order marks (s .ensures .0 .0) h, omega (arith, r .ensures .1 .1 .1, n, s .ensures .0 .1, few)),
     )
