@@ -76,9 +76,6 @@ module _ {d n : ℕ} {ws ls : List ℕ} (rows : Listed d n ws ls) where
           let e = base-length d (ourBase d table i) (ap length (sym codes-at) ∙ row-length d n i ws h (rows .ready .size)) in
           omega (arith, e, base-sets)
 
-      pub base-most : length (baseBytes (ourBase d table i)) ≤ 328
-      base-most = omega (arith, base-bytes, rows .ready .dims, rows .short i h)
-
       pub sets-next : setsIn (drop i (ourBases d table)) ≡ getD ls (i * 71) 0 + setsIn (drop (i + 1) (ourBases d table))
       sets-next = ap setsIn bases-next ∙ ap (λ (k : ℕ). k + setsIn (drop (i + 1) (ourBases d table))) base-sets
 

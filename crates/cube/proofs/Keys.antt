@@ -104,11 +104,6 @@ module _ (L : Lattice) (W : Laws L) (xs : List (List ℕ)) where
       λ e. key-of L xs s (λ x y m n a. W .agree-finest x y (v x m) (v y n) (fixes-in L xs s (L .finest) e m n a)),
     )
 
-    pub fixes-finest : (s : ℕ) → fixes L xs s (L .finest) ≡ key L xs s
-    fixes-finest s = cases (truth (key L xs s))
-        (λ e. key-finest s .0 e ∙ sym e)
-        (λ e. refuted (λ f. false≢true (sym e ∙ key-finest s .1 f)) ∙ sym e)
-
     -- so the finest node is a key.
     pub finest-key : key L xs (L .finest) ≡ true
     finest-key = key-finest (L .finest) .1 (fixes-held (L .finest) (L .finest) (W .holds-refl (L .finest)))

@@ -83,9 +83,5 @@ strict-turned o x y e = refuted (λ f. o .irrefl x (o .trans x y x e f))
 pub before-cut : (x y z : List ℕ) → earlier x y ≡ true → earlier z y ≡ false → earlier x z ≡ true
 before-cut x y z e f = cases (truth (earlier y z)) (by-codes .trans x y z e) (λ g. rw (← by-codes .total y z g f) e)
 
--- not coming before is transitive
-pub not-cut : (x y z : List ℕ) → earlier x y ≡ false → earlier y z ≡ false → earlier x z ≡ false
-not-cut x y z e f = refuted (λ g. false≢true (sym e ∙ before-cut x z y g f))
-
 pub not-same : (x y : List ℕ) → earlier x y ≡ true → same y x ≡ false
 not-same x y e = refuted (λ f. by-codes .irrefl x (rw (same-eq y x f) at e))

@@ -1,13 +1,12 @@
 -- Parts of lists.
 use mathlib.Core.Path.{_≡_, refl, sym, ap, ap₂, _∙_}
-use mathlib.Core.List.{List, [], _∷_, _++_, map, flatMap, List·Memᴰ·head, List·Memᴰ·tail, Memᴰ·append-left, Memᴰ·append-right, Memᴰ·cast}
-use Prim.Native.Nat.{ℕ, zero, suc, _+_, _-_, _≤_, _<_}
+use mathlib.Core.List.{List, [], _∷_, _++_, map, flatMap, List·Memᴰ·head, List·Memᴰ·tail, Memᴰ·append-left, Memᴰ·append-right}
+use Prim.Native.Nat.{ℕ, zero, suc, _+_, _-_, _≤_}
 use native.Mathlib.Nat.{zero-add, suc-add}
 use native.Mathlib.Omega.{arith}
-use lib.ListN.{length, getD, take, drop, length-append, length-drop, take-append-drop}
-use lib.Seq.{slice, take-nil, drop-nil, take-append-le, drop-append-le, take-at, drop-at, getD-take, getD-drop, length-slice}
+use lib.ListN.{length, take, drop, length-append, length-drop, take-append-drop}
+use lib.Seq.{slice, take-nil, drop-nil, take-append-le, drop-append-le, take-at, drop-at}
 use Rattle.lists.specs.Lists.{_∈_, joined}
-use Rattle.lists.proofs.Members.{at-in}
 
 -- what stands behind a front
 pub drop-front : {A : Type 0} {l : List A} (p q : List A) (n : ℕ) → l ≡ p ++ q → length p ≡ n → drop n l ≡ q
@@ -54,10 +53,3 @@ pub slice-in : {z : ℕ} (from end : ℕ) (l : List ℕ) → z ∈ slice from en
 slice-in {z} from end l m =
     let p : z ∈ take end l = rw (take-append-drop from (take end l)) at (Memᴰ·append-right (take from (take end l)) m) in
     rw (take-append-drop end l) at (Memᴰ·append-left (drop end l) p)
-
--- what stands at a place of a part is a member of it
-pub slice-at : (from end k : ℕ) (l : List ℕ) → from ≤ k → k < end → end ≤ length l → getD l k 0 ∈ slice from end l
-slice-at from end k l g h e =
-    let p : from + (k - from) ≡ k = omega arith in
-    let q : getD (slice from end l) (k - from) 0 ≡ getD l k 0 = getD-drop from (take end l) (k - from) 0 ∙ rw p (getD-take end l k 0 h) in
-    Memᴰ·cast (sym q) (at-in 0 (slice from end l) (k - from) (rw (length-slice from end l e) (omega arith)))

@@ -6,11 +6,10 @@ use mathlib.Core.List.{List, [], _∷_, List·Memᴰ·head, List·Memᴰ·tail, 
 use Prim.Native.Nat.{suc, _≤_}
 use native.Mathlib.Omega.{arith}
 use lib.ListN.{length}
-use Rattle.lists.specs.Lists.{_∈_, keep, Distinct}
+use Rattle.lists.specs.Lists.{_∈_, Distinct}
 use Rattle.lists.specs.Order.{Strict, Rising, insert, sort}
 use Rattle.lists.proofs.Tests.{cases, truth}
-use Rattle.lists.proofs.Members.{keep-in, keep-of}
-use Rattle.lists.proofs.Pairwise.{pairwise-imp, pairwise-keep}
+use Rattle.lists.proofs.Pairwise.{pairwise-imp}
 
 module _ {A : Type 0} (less : A → A → Bool) where
   pub rising-one : (x : A) → Rising less (x ∷ [])
@@ -72,13 +71,6 @@ module _ {A : Type 0} (less : A → A → Bool) where
         (λ i. cases (List·Memᴰ·cases-cons (g y (List·Memᴰ·head refl))) sym
         (λ j. absurd (o .irrefl x (o .trans x y x (r .0 y j) (t .0 x i))))) in
         ap₂ _∷_ e (rising-unique l m (r .1) (t .1) (rest-in e r f) (rest-in (sym e) t g))
-
-    -- what a test keeps is sorted alike before and after
-    pub keep-sort : (p : A → Bool) (l : List A) → keep p (sort less l) ≡ sort less (keep p l)
-    keep-sort p l = rising-unique (keep p (sort less l)) (sort less (keep p l))
-        (pairwise-keep (λ x y. less x y ≡ true) p (sort less l) (sort-rising l)) (sort-rising (keep p l))
-        (λ z m. let r = keep-in p (sort less l) m in sort-of (keep-of p (sort-in l (r .0)) (r .1)))
-        (λ z m. let r = keep-in p l (sort-in (keep p l) m) in keep-of p (sort-of (r .0)) (r .1))
 
     -- no element of a rising list occurs twice
     pub rising-distinct : (l : List A) → Rising less l → Distinct l

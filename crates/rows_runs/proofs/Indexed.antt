@@ -7,7 +7,7 @@ use native.Mathlib.Omega.{arith}
 use lib.Dec.{leb}
 use lib.ListN.{length, getD, drop, drop-of-length-le, length-map, List·getD-map}
 use Rattle.lists.specs.Lists.{_∈_, keep}
-use Rattle.lists.proofs.Members.{keep-in, keep-same, keep-map}
+use Rattle.lists.proofs.Members.{keep-same, keep-map}
 use Rattle.cube.specs.declared.Total.{Total}
 use Rattle.cube.specs.Measure.{Row, plus, nothing, sums as measure, totalOf}
 use Rattle.cube.specs.Codes.{Coded, cell, plain}
@@ -21,8 +21,8 @@ use Rattle.rows_order.specs.Index.{key, arranged, Indexed}
 use Rattle.rows_runs.specs.Runs.{Run, runs}
 use Rattle.rows_runs.specs.Totals.{amountAt, amountsAt, runTotal, Summed}
 use Rattle.rows_order.specs.Few.{Ordered}
-use Rattle.rows_order.proofs.Arranged.{alike, arranged-ordered, arranged-in, arranged-of, arranged-below}
-use Rattle.rows_runs.proofs.Runs.{cellOf, runs-whole}
+use Rattle.rows_order.proofs.Arranged.{arranged-ordered, arranged-of, arranged-below}
+use Rattle.rows_runs.proofs.Runs.{cellOf}
 use Rattle.rows.proofs.Flat.{blank, rows-length}
 use Rattle.rows_runs.proofs.Counts.{arranged-summable}
 use Rattle.rows_runs.proofs.Groups.{cells-are, run-rows}
@@ -48,10 +48,7 @@ module _ {n dims set : ℕ} {ws index : List ℕ} (x : Indexed n dims set ws ind
   pub indexed-below : (i : ℕ) → i < n → getD index i 0 < n
   indexed-below i h = rw (x .order) (arranged-below keys n i h)
 
-  -- the index names the rows, and each of them
-  pub indexed-in : {i : ℕ} → i ∈ index → i < n
-  indexed-in m = arranged-in keys n (rw (x .order) at m)
-
+  -- the index names each row
   pub indexed-of : {i : ℕ} → i < n → i ∈ index
   indexed-of h = rw (x .order) (arranged-of keys n h)
 
@@ -67,9 +64,6 @@ module _ {n dims set : ℕ} {ws index : List ℕ} (x : Indexed n dims set ws ind
       ∙ cells-are dims set (cut dims n ws)
 
   module _ {r : Run} (m : r ∈ runs keys index) where
-    run-below : (i : ℕ) → i ∈ r .first ∷ r .more → i < n
-    run-below i k = indexed-in (keep-in (alike keys (cellOf keys r)) index (rw (runs-whole keys index indexed-ordered m) at k) .0)
-
     -- a run has as many rows as fall in its cell
     pub indexed-length : ((y : List ℕ) → y ∈ cut dims n ws → Coded dims y) → suc (length (r .more)) ≡ length (within (plain dims) (cut dims n ws) (cellOf keys r))
     unfolding key
