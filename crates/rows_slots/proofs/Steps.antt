@@ -7,91 +7,113 @@ use native.Mathlib.Numerals.{add-one}
 use native.Mathlib.Omega.{arith}
 use lib.Dec.{eqb}
 use lib.ListN.{length, getD, take, drop, set, drop-of-length-le}
-use lib.Seq.{take-suc-set, take-set-le, drop-cons}
+use lib.Seq.{take-suc-set, take-set-le, drop-cons, drop-length}
 use Rattle.lists.specs.Lists.{only}
-use Rattle.lists.specs.Order.{same}
-use Rattle.lists.proofs.Tests.{cases, truth}
-use Rattle.rows_slots.specs.Slots.{codeIn, marked, isLone, isKept, staying, entry, closes, slotFrom, loneFrom}
+use Rattle.rows_slots.specs.Slots.{marked, isLone, staying, entry, closes, slotFrom, loneFrom}
 
--- ---- the last row of a group
+-- ---- what is written in front, with what is to come, is the whole
 
-pub closes-end : (key : ℕ → List ℕ) (l : List ℕ) (x i : ℕ) → length l ≤ i → true ≡ closes key x (drop i l)
-closes-end key l x i h = rw (drop-of-length-le l {i = i} h) refl
+pub record Front (l : List ℕ) (k : ℕ) (rest all : List ℕ) : Type 0 where
+  pub whole : take k l ++ rest ≡ all
 
-pub closes-next : (key : ℕ → List ℕ) (l : List ℕ) (x i : ℕ) → i < length l → closes key x (drop i l) ≡ not (same (key x) (key (getD l i 0)))
-closes-next key l x i h = rw (drop-cons l i 0 h) refl
+module _ {l : List ℕ} {k : ℕ} where
+  front-more : {v : ℕ} {rest all : List ℕ} → Front l k (v ∷ rest) all → k < length l → Front (set l k v) (k + 1) rest all
+  front-more {v} {rest} f h = record {
+    whole =
+        ap (λ (m : List ℕ). m ++ rest) (ap (λ (z : ℕ). take z (set l k v)) (add-one k) ∙ take-suc-set l k v h)
+        ∙ append-assoc (take k l) (v ∷ []) rest
+        ∙ f .whole;
+  }
 
-pub same-code : (column : List ℕ) (x y : ℕ) → not (same (codeIn column x) (codeIn column y)) ≡ not (eqb (getD column x 0) (getD column y 0))
-same-code column x y = cases (truth (eqb (getD column x 0) (getD column y 0))) (λ t. rw t refl) (λ t. rw t refl)
+  -- what is written where nothing is counted does not matter
+  front-same : (v : ℕ) {rest all : List ℕ} → Front l k rest all → Front (set l k v) k rest all
+  front-same v {rest} f = record { whole = ap (λ (m : List ℕ). m ++ rest) (take-set-le k l k v (omega arith)) ∙ f .whole }
 
-kept-not : (least : ℕ) (f t : Bool) → isKept (not (eqb least 2)) f t ≡ not (isLone least f t)
-kept-not least f t = cases (truth (eqb least 2)) (λ e. rw e refl) (λ e. rw e refl)
+  front-done : {all : List ℕ} → Front l k [] all → take k l ≡ all
+  front-done f = sym (append-nil (take k l)) ∙ f .whole
 
--- ---- a slot written
+module _ (key : ℕ → List ℕ) where
+  -- ---- the last row of a group
 
-module _ (key : ℕ → List ℕ) (least : ℕ) (order : List ℕ) where
-  pub record Packing (slot lone : List ℕ) (len alone : ℕ) (first : Bool) (i : ℕ) : Type 0 where
-    pub kept : take len slot ++ slotFrom key least first (drop i order) ≡ slotFrom key least true order
-    pub left : take alone lone ++ loneFrom key least first (drop i order) ≡ loneFrom key least true order
+  pub closes-end : (l : List ℕ) (x i : ℕ) → length l ≤ i → true ≡ closes key x (drop i l)
+  closes-end l x i h = rw (drop-of-length-le l {i = i} h) refl
 
-  pub packing-none : (slot lone : List ℕ) → Packing slot lone 0 0 true 0
-  packing-none slot lone = record { kept = refl; left = refl }
+  pub closes-next : (l : List ℕ) (x i : ℕ) → i < length l → closes key x (getD l i 0 ∷ []) ≡ closes key x (drop i l)
+  closes-next l x i h = rw (drop-cons l i 0 h) refl
 
-  module _ {slot lone : List ℕ} {len alone : ℕ} {first : Bool} {i : ℕ} (p : Packing slot lone len alone first i) (h : i < length order) (last : Bool)
-      (e : last ≡ closes key (getD order i 0) (drop (i + 1) order)) where
-    abbrev x : ℕ
-    x = getD order i 0
+  -- ---- where all groups are kept, it does not matter where they start, and no row is left out
 
-    kept-step : take len slot ++ entry (isLone least first last) last x (slotFrom key least last (drop (i + 1) order)) ≡ slotFrom key least true order
-    kept-step = rw (e, add-one) (subst (λ (l : List ℕ). take len slot ++ slotFrom key least first l ≡ slotFrom key least true order) (drop-cons order i 0 h) (p .kept))
+  pub slot-all : (least : ℕ) → eqb least 2 ≡ false → (f g : Bool) (l : List ℕ) → slotFrom key least f l ≡ slotFrom key 1 g l
+  slot-all least h f g [] = refl
+  slot-all least h f g (x ∷ l) = rw h (ap (λ (m : List ℕ). marked (closes key x l) x ∷ m) (slot-all least h (closes key x l) (closes key x l) l))
 
-    left-step : take alone lone ++ only (isLone least first last) x (loneFrom key least last (drop (i + 1) order)) ≡ loneFrom key least true order
-    left-step = rw (e, add-one) (subst (λ (l : List ℕ). take alone lone ++ loneFrom key least first l ≡ loneFrom key least true order) (drop-cons order i 0 h) (p .left))
+  pub lone-all : (least : ℕ) → eqb least 2 ≡ false → (f : Bool) (l : List ℕ) → loneFrom key least f l ≡ []
+  lone-all least h f [] = refl
+  lone-all least h f (x ∷ l) = rw h (lone-all least h (closes key x l) l)
 
-    packing-lone : isLone least first last ≡ true → alone < length lone → Packing slot (set lone alone x) len (alone + 1) last (i + 1)
-    packing-lone t k = record {
-      kept = subst (λ (b : Bool). take len slot ++ entry b last x (slotFrom key least last (drop (i + 1) order)) ≡ slotFrom key least true order) t kept-step;
-      left =
-          ap (λ (l : List ℕ). l ++ loneFrom key least last (drop (i + 1) order)) (ap (λ (z : ℕ). take z (set lone alone x)) (add-one alone) ∙ take-suc-set lone alone x k)
-          ∙ append-assoc (take alone lone) (x ∷ []) (loneFrom key least last (drop (i + 1) order))
-          ∙ subst (λ (b : Bool). take alone lone ++ only b x (loneFrom key least last (drop (i + 1) order)) ≡ loneFrom key least true order) t left-step;
-    }
+  module _ (order : List ℕ) where
+    -- ---- a row and the rows behind it
 
-    packing-kept : isLone least first last ≡ false → len < length slot → (v : ℕ) → v ≡ marked last x → Packing (set slot len v) lone (len + 1) alone last (i + 1)
-    packing-kept t k v q = record {
-      kept =
-          ap (λ (l : List ℕ). l ++ slotFrom key least last (drop (i + 1) order)) (ap (λ (z : ℕ). take z (set slot len v)) (add-one len) ∙ take-suc-set slot len v k)
-          ∙ append-assoc (take len slot) (v ∷ []) (slotFrom key least last (drop (i + 1) order))
-          ∙ subst (λ (w : ℕ). take len slot ++ w ∷ slotFrom key least last (drop (i + 1) order) ≡ slotFrom key least true order) (sym q)
-          (subst (λ (b : Bool). take len slot ++ entry b last x (slotFrom key least last (drop (i + 1) order)) ≡ slotFrom key least true order) t kept-step);
-      left = subst (λ (b : Bool). take alone lone ++ only b x (loneFrom key least last (drop (i + 1) order)) ≡ loneFrom key least true order) t left-step;
-    }
+    module _ (least : ℕ) (first last : Bool) (i : ℕ) (h : i < length order) (e : last ≡ closes key (getD order i 0) (drop (i + 1) order)) where
+      slot-step : slotFrom key least first (drop i order) ≡ entry (isLone least first last) last (getD order i 0) (slotFrom key least last (drop (i + 1) order))
+      slot-step = rw (e, add-one, drop-cons order i 0 h) refl
 
-    -- what is written where nothing is counted does not matter
-    both-ways : (t : Bool) → isLone least first last ≡ t → len < length slot → alone < length lone → (v : ℕ) → v ≡ marked last x → Packing (set slot len v) (set lone alone x) (staying (not t) len) (staying t alone) last (i + 1)
-    both-ways true q k l v w =
-        let r = packing-lone q l in
-        record { kept = ap (λ (m : List ℕ). m ++ slotFrom key least last (drop (i + 1) order)) (take-set-le len slot len v (omega arith)) ∙ r .kept; left = r .left }
-    both-ways false q k l v w =
-        let r = packing-kept q k v w in
-        record { kept = r .kept; left = ap (λ (m : List ℕ). m ++ loneFrom key least last (drop (i + 1) order)) (take-set-le alone lone alone x (omega arith)) ∙ r .left }
+      lone-step : loneFrom key least first (drop i order) ≡ only (isLone least first last) (getD order i 0) (loneFrom key least last (drop (i + 1) order))
+      lone-step = rw (e, add-one, drop-cons order i 0 h) refl
 
-    -- the rows left out are those that do not count
-    pub packing-more : len ≤ i → alone ≡ i - len → len < length slot → alone < length lone → {v len' : ℕ} → v ≡ marked last x → len' ≡ staying (isKept (not (eqb least 2)) first last) len
-        → Packing (set slot len v) (set lone alone x) len' (i + 1 - len') last (i + 1)
-    packing-more e f k l {v} {len'} w q =
-        let t = isLone least first last in
-        let n : len' ≡ staying (not t) len = q ∙ ap (λ (b : Bool). staying b len) (kept-not least first last) in
-        subst (λ (z : ℕ). Packing (set slot len v) (set lone alone x) z (i + 1 - z) last (i + 1)) (sym n)
-        (subst (λ (z : ℕ). Packing (set slot len v) (set lone alone x) (staying (not t) len) z last (i + 1)) (left-out t e f) (both-ways t refl k l v w))
-      where
-        left-out : (t : Bool) → len ≤ i → alone ≡ i - len → staying t alone ≡ i + 1 - staying (not t) len
-        left-out true e f = omega (arith, e, f)
-        left-out false e f = omega (arith, e, f)
+    -- ---- all groups
 
-  module _ {slot lone : List ℕ} {len alone : ℕ} {first : Bool} {i : ℕ} (p : Packing slot lone len alone first i) (h : length order ≤ i) where
-    pub packing-slot : take len slot ≡ slotFrom key least true order
-    packing-slot = sym (append-nil (take len slot)) ∙ subst (λ (l : List ℕ). take len slot ++ slotFrom key least first l ≡ slotFrom key least true order) (drop-of-length-le order {i = i} h) (p .kept)
+    abbrev pub Listing : List ℕ → ℕ → Type 0
+    Listing slot i = Front slot i (slotFrom key 1 true (drop i order)) (slotFrom key 1 true order)
 
-    pub packing-left : take alone lone ≡ loneFrom key least true order
-    packing-left = sym (append-nil (take alone lone)) ∙ subst (λ (l : List ℕ). take alone lone ++ loneFrom key least first l ≡ loneFrom key least true order) (drop-of-length-le order {i = i} h) (p .left)
+    pub listing-more : {slot : List ℕ} {i : ℕ} → Listing slot i → i < length order → i < length slot → {last : Bool} → last ≡ closes key (getD order i 0) (drop (i + 1) order)
+        → {v : ℕ} → v ≡ marked last (getD order i 0) → Listing (set slot i v) (i + 1)
+    listing-more {slot} {i} p h k {last} e w =
+        front-more (subst (λ (m : List ℕ). Front slot i m (slotFrom key 1 true order)) (rw (w, slot-all 1 refl true last (drop (i + 1) order)) (slot-step 1 true last i h e)) p) k
+
+    pub listing-done : {slot : List ℕ} → Listing slot (length order) → take (length order) slot ≡ slotFrom key 1 true order
+    listing-done {slot} p = front-done (subst (λ (m : List ℕ). Front slot (length order) (slotFrom key 1 true m) (slotFrom key 1 true order)) (drop-length order) p)
+
+    -- ---- groups of two rows or more
+
+    pub record Packing (slot lone : List ℕ) (len : ℕ) (first : Bool) (i : ℕ) : Type 0 where
+      pub kept : Front slot len (slotFrom key 2 first (drop i order)) (slotFrom key 2 true order)
+      pub left : Front lone (i - len) (loneFrom key 2 first (drop i order)) (loneFrom key 2 true order)
+      pub few : len ≤ i
+
+    pub packing-none : (slot lone : List ℕ) → Packing slot lone 0 true 0
+    packing-none slot lone = record { kept = record { whole = refl }; left = record { whole = refl }; few = omega arith }
+
+    module _ {slot lone : List ℕ} {len : ℕ} {first : Bool} {i : ℕ} (p : Packing slot lone len first i) (h : i < length order) (k : i < length slot) (l : i < length lone)
+        {last : Bool} (e : last ≡ closes key (getD order i 0) (drop (i + 1) order)) {v : ℕ} (w : v ≡ marked last (getD order i 0)) where
+      abbrev x : ℕ
+      x = getD order i 0
+
+      kept-step : (t : Bool) → isLone 2 first last ≡ t → Front slot len (entry t last x (slotFrom key 2 last (drop (i + 1) order))) (slotFrom key 2 true order)
+      kept-step t q = subst (λ (m : List ℕ). Front slot len m (slotFrom key 2 true order)) (slot-step 2 first last i h e ∙ rw q refl) (p .kept)
+
+      left-step : (t : Bool) → isLone 2 first last ≡ t → Front lone (i - len) (only t x (loneFrom key 2 last (drop (i + 1) order))) (loneFrom key 2 true order)
+      left-step t q = subst (λ (m : List ℕ). Front lone (i - len) m (loneFrom key 2 true order)) (lone-step 2 first last i h e ∙ rw q refl) (p .left)
+
+      -- the rows left out are those that do not count
+      more : (t : Bool) → isLone 2 first last ≡ t → Packing (set slot len v) (set lone (i - len) x) (staying (not t) len) last (i + 1)
+      more true q = record {
+        kept = front-same v (kept-step true q);
+        left = subst (λ (z : ℕ). Front (set lone (i - len) x) z (loneFrom key 2 last (drop (i + 1) order)) (loneFrom key 2 true order)) (omega (arith, p .few)) (front-more (left-step true q) (omega (arith, l)));
+        few = omega (arith, p .few);
+      }
+      more false q = record {
+        kept = front-more (subst (λ (z : ℕ). Front slot len (z ∷ slotFrom key 2 last (drop (i + 1) order)) (slotFrom key 2 true order)) (sym w) (kept-step false q)) (omega (arith, p .few, k));
+        left = subst (λ (z : ℕ). Front (set lone (i - len) x) z (loneFrom key 2 last (drop (i + 1) order)) (loneFrom key 2 true order)) (omega (arith, p .few)) (front-same x (left-step false q));
+        few = omega (arith, p .few);
+      }
+
+      pub packing-more : {len' : ℕ} → len' ≡ staying (not (isLone 2 first last)) len → Packing (set slot len v) (set lone (i - len) x) len' last (i + 1)
+      packing-more q = rw q (more (isLone 2 first last) refl)
+
+    module _ {slot lone : List ℕ} {len : ℕ} {first : Bool} (p : Packing slot lone len first (length order)) where
+      pub packing-slot : take len slot ≡ slotFrom key 2 true order
+      packing-slot = front-done (subst (λ (m : List ℕ). Front slot len (slotFrom key 2 first m) (slotFrom key 2 true order)) (drop-length order) (p .kept))
+
+      pub packing-left : take (length order - len) lone ≡ loneFrom key 2 true order
+      packing-left = front-done (subst (λ (m : List ℕ). Front lone (length order - len) (loneFrom key 2 first m) (loneFrom key 2 true order)) (drop-length order) (p .left))
