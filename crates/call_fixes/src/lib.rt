@@ -53,7 +53,7 @@ fn neighbours_fix(
     requires { ⌜ (n * width dims ≡ length (now rows)) × (length (now index) ≡ n) × (n ≤ 1024) × Valid dims (cut dims n (now rows)) ⌝ }
     ensures { λ r. ⌜ r ≡ fixing (plain dims) (cut dims n (now (rows .entry))) set fixed ⌝ }
 {
-    rows_order::order_rows(rows, n, dims, set, index);
+    rows_arrange::order_rows(rows, n, dims, set, index);
     for k in 1..n {
         let i = index[k - 1] as usize;
         let j = index[k] as usize;

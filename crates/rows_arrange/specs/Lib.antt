@@ -1,0 +1,2 @@
+-- Rows arranged by their cells under a set.
+pub mod Arrange
