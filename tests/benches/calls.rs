@@ -2,7 +2,8 @@
 //! `wrong check word` is `build` on the table with another check word: every field walked, every word summed, then stop 11.
 //! The growth of the times: the table of codes below 32 cut to fewer rows, or to fewer dimensions.
 //! The last lines are the check word alone: `check` on files of up to 3.4 MB, of which it walks the first fields only and sums every word, then stop 11.
-//! Best of CUBE_REPEAT repetitions (5 if it is not set), or of as many as 80 ms for each of them allow; the last lines of 200 at least.
+//! Best of CUBE_REPEAT rounds (5 if it is not set), the last lines of 200 at least. A round goes through all calls on all tables of its
+//! part, so that the times of one call lie apart and a slow moment of the machine spoils few of them.
 use calls::calls::{Calls, Stop};
 use calls::compare::subjects;
 use calls::good::Good;
@@ -107,25 +108,6 @@ fn time(times: u32, mut call: impl FnMut()) -> Duration {
     start.elapsed() / times
 }
 
-/// The best time of each of some ways to do a thing, in milliseconds: by turns, in runs of about a millisecond or of one call.
-fn best<T>(ways: usize, repeat: u32, mut run: impl FnMut(usize) -> T) -> Vec<f64> {
-    let mut bests = vec![Duration::MAX; ways];
-    let start = Instant::now();
-    for _ in 0..repeat {
-        for (way, best) in bests.iter_mut().enumerate() {
-            let times = (1_000_000 / best.as_nanos()).clamp(1, 1_000) as u32;
-            let once = || {
-                let _ = black_box(run(way));
-            };
-            *best = time(times, once).min(*best);
-        }
-        if start.elapsed() > repeat * Duration::from_millis(80) {
-            break;
-        }
-    }
-    bests.iter().map(|best| best.as_secs_f64() * 1e3).collect()
-}
-
 /// The subjects return and write the same.
 fn agree(call: usize, inputs: &Inputs, out: &mut [u8]) {
     let (name, stop) = CALLS[call];
@@ -138,20 +120,55 @@ fn agree(call: usize, inputs: &Inputs, out: &mut [u8]) {
     assert!(results.all(|other| other == first), "the results of {name} differ");
 }
 
-fn head(calls: &[usize]) -> String {
-    format!("{:24}", "") + &calls.iter().map(|&call| format!("{:>26}", CALLS[call].0)).collect::<String>()
+/// A line of the output: its table, and the best times of the calls, of the library and of `good`.
+struct Line {
+    name: String,
+    inputs: Inputs,
+    bests: Vec<[Duration; 2]>,
 }
 
-fn line(name: &str, inputs: &Inputs, calls: &[usize], out: &mut [u8], repeat: u32) -> String {
-    let mut line = format!("{name:24}");
-    for &call in calls {
-        agree(call, inputs, out);
-        let subjects = subjects();
-        let ms = best(subjects.len(), repeat, |i| run(subjects[i].1, call, inputs, out));
-        let (library, good) = (ms[0], ms[ms.len() - 1]);
-        line += &format!("{library:>10.4}{good:>9.4}{:>7.2}", library / good);
+impl Line {
+    fn of(name: &str, inputs: Inputs) -> Line {
+        Line { name: name.to_string(), inputs, bests: vec![[Duration::MAX; 2]; CALLS.len()] }
     }
-    line
+
+    /// One round of a call: of each subject one run or as many as take about a millisecond, behind one that is not timed.
+    fn round(&mut self, call: usize, out: &mut [u8]) {
+        for ((_, calls), best) in subjects().into_iter().zip(&mut self.bests[call]) {
+            let mut once = || {
+                let _ = black_box(run(calls, call, &self.inputs, out));
+            };
+            once();
+            let times = (1_000_000 / best.as_nanos()).clamp(1, 1_000) as u32;
+            *best = time(times, once).min(*best);
+        }
+    }
+
+    fn text(&self, calls: &[usize]) -> String {
+        let mut text = format!("{:24}", self.name);
+        for &call in calls {
+            let [library, good] = self.bests[call].map(|best| best.as_secs_f64() * 1e3);
+            text += &format!("{library:>10.4}{good:>9.4}{:>7.2}", library / good);
+        }
+        text
+    }
+}
+
+/// The times of some calls, by parts of the output, on some tables: all subjects answer alike, then come the rounds.
+fn show(lines: &mut [Line], parts: &[&[usize]], out: &mut [u8], rounds: u32) {
+    let calls: Vec<usize> = parts.concat();
+    for line in lines.iter() {
+        calls.iter().for_each(|&call| agree(call, &line.inputs, out));
+    }
+    for _ in 0..rounds {
+        for line in lines.iter_mut() {
+            calls.iter().for_each(|&call| line.round(call, out));
+        }
+    }
+    for part in parts {
+        println!("{:24}{}", "", part.iter().map(|&call| format!("{:>26}", CALLS[call].0)).collect::<String>());
+        lines.iter().for_each(|line| println!("{}", line.text(part)));
+    }
 }
 
 /// The check word byte by byte: each byte is added at its place in its word.
@@ -191,30 +208,22 @@ fn check_word_line(archive: &[u8], turns: u32) -> String {
 }
 
 fn main() {
-    let repeat = std::env::var("CUBE_REPEAT").ok().and_then(|s| s.parse().ok()).unwrap_or(5);
+    let rounds = std::env::var("CUBE_REPEAT").ok().and_then(|s| s.parse().ok()).unwrap_or(5);
     let mut out = vec![0; 256 * (4 + 1_024 * 44)];
     let kinds = kinds(&mut Random::seeded(7));
-    let tables: Vec<_> = kinds.iter().map(|(name, rows)| (name, Inputs::of(rows, &mut out))).collect();
     println!("1,024 rows, D 8: milliseconds of the library and of good, and library / good");
-    for calls in [&[0, 1, 2][..], &[3, 4, 5], &[6, 7], &[8, 9]] {
-        println!("{}", head(calls));
-        for (name, inputs) in &tables {
-            println!("{}", line(name, inputs, calls, &mut out, repeat));
-        }
-    }
+    let mut lines: Vec<_> = kinds.iter().map(|(name, rows)| Line::of(name, Inputs::of(rows, &mut out))).collect();
+    show(&mut lines, &[&[0, 1, 2], &[3, 4, 5], &[6, 7], &[8, 9]], &mut out, rounds);
     let (name, rows) = &kinds[1];
     println!("Growth with rows and with D, {name}: milliseconds of the library and of good, and library / good");
-    for calls in GROWING {
-        println!("{}", head(calls));
-        let by_rows = [64, 128, 256, 512, 1_024].map(|count| (count, 8));
-        for (count, dims) in by_rows.into_iter().chain((1..=8).map(|dims| (1_024, dims))) {
-            let inputs = Inputs::of_part(rows, count, dims, &mut out);
-            println!("{}", line(&format!("{count} rows, D {dims}"), &inputs, calls, &mut out, repeat));
-        }
-    }
+    let by_rows = [64, 128, 256, 512, 1_024].map(|count| (count, 8));
+    let sizes = by_rows.into_iter().chain((1..=8).map(|dims| (1_024, dims)));
+    let of = |(count, dims)| Line::of(&format!("{count} rows, D {dims}"), Inputs::of_part(rows, count, dims, &mut out));
+    let mut lines: Vec<_> = sizes.map(of).collect();
+    show(&mut lines, &GROWING, &mut out, rounds);
     println!("Check word: milliseconds of the library, of good and of a sum byte by byte, library / good and library / bytes");
     let mut random = Random::seeded(8);
     for entries in [20_000, 40_000, 77_272] {
-        println!("{}", check_word_line(&refused_archive(entries, &mut random), repeat.max(200)));
+        println!("{}", check_word_line(&refused_archive(entries, &mut random), rounds.max(200)));
     }
 }
