@@ -1,12 +1,12 @@
 -- Our base entries of rows in a flat list, by their places, and how many sets and bytes each has.
 use mathlib.Core.Path.{_≡_, sym, ap, ap₂, _∙_}
 use mathlib.Core.List.{List, [], _∷_, _++_, map}
-use Prim.Native.Nat.{ℕ, _+_, _*_, _≤_, _<_}
+use Prim.Native.Nat.{ℕ, _+_, _*_, _^_, _≤_, _<_}
 use native.Mathlib.Numerals.{add-one}
 use native.Mathlib.Omega.{arith}
 use lib.ListN.{length, getD, drop, length-drop, length-map, drop-of-length-le, List·getD-map}
 use lib.Seq.{drop-cons}
-use Rattle.lists.proofs.Places.{map-at}
+use Rattle.lists.proofs.Places.{map-at, EachBelow, below-drop}
 use Rattle.fields.specs.Words.{wordBytes, wordsBytes}
 use Rattle.cube.specs.declared.Total.{Total}
 use Rattle.cube.specs.Measure.{Row}
@@ -20,7 +20,7 @@ use Rattle.rows_lists.proofs.Lists.{list-length}
 use Rattle.archive_entries.specs.Layout.{cellBytes, baseBytes, setsIn, based}
 use Rattle.archive_entries.proofs.Lengths.{base-length}
 use Rattle.archive_cells.specs.ListBytes.{listBytes, list-is}
-use Rattle.archive_cells.proofs.Cells.{AreWords, words-drop, cell-words}
+use Rattle.archive_cells.proofs.Cells.{cell-words}
 use Rattle.archive_bases.specs.Listed.{Listed, ourBase, ourBases}
 
 module _ {d n : ℕ} {ws ls : List ℕ} (rows : Listed d n ws ls) where
@@ -58,12 +58,12 @@ module _ {d n : ℕ} {ws ls : List ℕ} (rows : Listed d n ws ls) where
           ∙ ap₂ (λ (ys : List (List ℕ)) (x : List ℕ). listed (plain d) ys x) (sym (rows-codes d n ws)) codes-at
 
       -- the words of a row and its list are its base entry
-      pub base-words : AreWords ws → baseBytes (ourBase d table i) ≡ wordsBytes (wordsOf d ws i) ++ listBytes (getD (listsOf n ls) i [])
+      pub base-words : EachBelow (2 ^ 32) ws → baseBytes (ourBase d table i) ≡ wordsBytes (wordsOf d ws i) ++ listBytes (getD (listsOf n ls) i [])
       unfolding baseBytes
       base-words w =
           let l = ourBase d table i .list in
           let within : width d ≤ length (drop (i * width d) ws) = simp length-drop (omega (arith, row-within (width d) n i h, rows .ready .size)) in
-          let row = ap cellBytes (row-placed h) ∙ cell-words d (drop (i * width d) ws) within (words-drop (i * width d) ws w) in
+          let row = ap cellBytes (row-placed h) ∙ cell-words d (drop (i * width d) ws) within (below-drop (2 ^ 32) (i * width d) ws w) in
           ap (λ (x : List ℕ). x ++ (wordBytes (length l) ++ wordsBytes l)) row
           ∙ ap (λ (x : List ℕ). wordsBytes (wordsOf d ws i) ++ x) (sym (list-is l) ∙ ap listBytes (sym list-at))
 

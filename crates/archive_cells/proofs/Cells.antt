@@ -5,7 +5,9 @@ use Prim.Native.Nat.{ℕ, zero, suc, _+_, _-_, _*_, _%_, _/_, _^_, _≤_, _<_}
 use native.Mathlib.Nat.{zero-add, suc-add, zero-mul, suc-mul}
 use native.Mathlib.Omega.{arith}
 use lib.ListN.{length, getD, take, drop, replicate, length-drop, length-replicate, take-append-drop}
-use lib.Seq.{getD-drop, length-take-le, take-append-add, take-all}
+use lib.Seq.{take-all}
+use Rattle.lists.proofs.Places.{EachBelow, below-drop}
+use Rattle.lists.proofs.Parts.{take-more}
 use Rattle.fields.specs.Words.{wordBytes, wordsBytes}
 use Rattle.fields.specs.WordsLaws.{wordsBytes-append}
 use Rattle.fields_sums.specs.Twos.{sumOf, sumBytes, lowOf, highOf}
@@ -15,19 +17,6 @@ use Rattle.cube.specs.Codes.{ALL}
 use Rattle.rows.specs.Rows.{width, rowOf, rowsOf}
 use Rattle.archive_entries.specs.Layout.{cellBytes}
 use Rattle.archive_entries.proofs.Lengths.{cell-length}
-
--- each number of a list is a word
-abbrev pub AreWords : List ℕ → Type 0
-AreWords ws = (i : ℕ) → getD ws i 0 < 2 ^ 32
-
-pub words-drop : (k : ℕ) (ws : List ℕ) → AreWords ws → AreWords (drop k ws)
-words-drop k ws w i = rw (getD-drop k ws i 0) (w (k + i))
-
-pub words-take : (k : ℕ) (ws : List ℕ) → AreWords ws → AreWords (take k ws)
-words-take zero ws w i = omega arith
-words-take (suc k) [] w i = omega arith
-words-take (suc k) (u ∷ ws) w zero = w 0
-words-take (suc k) (u ∷ ws) w (suc i) = words-take k ws (λ j. w (suc j)) i
 
 -- the bytes of a sum are those of its two words
 sum-bytes : (low high : ℕ) → low < 2 ^ 32 → high < 2 ^ 32 → sumBytes (sumOf low high) ≡ wordBytes low ++ wordBytes high
@@ -43,31 +32,26 @@ front-three (a ∷ []) h = absurd (omega arith)
 front-three (a ∷ b ∷ []) h = absurd (omega arith)
 front-three (a ∷ b ∷ c ∷ l) h = refl
 
--- a front of a list, and what stands behind it
-take-more : (n k : ℕ) (l : List ℕ) → n ≤ length l → take (n + k) l ≡ take n l ++ take k (drop n l)
-take-more n k l h =
-    ap₂ (λ (m : ℕ) (u : List ℕ). take (m + k) u) (sym (length-take-le n l h)) (sym (take-append-drop n l)) ∙ take-append-add (take n l) (drop n l) k
-
 -- the cell of the row that words begin with
-pub cell-words : (d : ℕ) (ws : List ℕ) → width d ≤ length ws → AreWords ws → cellBytes (rowOf d ws) ≡ wordsBytes (take (width d) ws)
+pub cell-words : (d : ℕ) (ws : List ℕ) → width d ≤ length ws → EachBelow (2 ^ 32) ws → cellBytes (rowOf d ws) ≡ wordsBytes (take (width d) ws)
 unfolding cellBytes wordsBytes
 cell-words d ws h w =
     let l = drop d ws in
     let three = front-three l (simp length-drop (omega (arith, h))) in
-    let v = words-drop d ws w in
+    let v = below-drop (2 ^ 32) d ws w in
     ap (λ (k : List ℕ). wordsBytes (take d ws) ++ (k ++ wordBytes (getD l 2 0))) (sum-bytes (getD l 0 0) (getD l 1 0) (v 0) (v 1))
     ∙ ap (λ (k : List ℕ). wordsBytes (take d ws) ++ wordsBytes k) (sym three)
     ∙ sym (wordsBytes-append (take d ws) (take 3 l)) ∙ ap wordsBytes (sym (take-more d 3 ws (omega (arith, h))))
 
 -- the cells of rows, one behind the other
-pub cells-words : (d n : ℕ) (ws : List ℕ) → n * width d ≡ length ws → AreWords ws → flatMap cellBytes (rowsOf d n ws) ≡ wordsBytes ws
+pub cells-words : (d n : ℕ) (ws : List ℕ) → n * width d ≡ length ws → EachBelow (2 ^ 32) ws → flatMap cellBytes (rowsOf d n ws) ≡ wordsBytes ws
 unfolding flatMap rowsOf wordsBytes
 cells-words d zero [] e w = refl
 cells-words d zero (u ∷ ws) e w = absurd (omega (arith, e, zero-mul (width d)))
 cells-words d (suc n) ws e w =
     let more : width d + n * width d ≡ length ws = omega (arith, suc-mul n (width d), e) in
     let here = cell-words d ws (omega (arith, more)) w in
-    let behind = cells-words d n (drop (width d) ws) (simp length-drop (omega (arith, more))) (words-drop (width d) ws w) in
+    let behind = cells-words d n (drop (width d) ws) (simp length-drop (omega (arith, more))) (below-drop (2 ^ 32) (width d) ws w) in
     ap₂ (λ (a b : List ℕ). a ++ b) here behind
     ∙ sym (wordsBytes-append (take (width d) ws) (drop (width d) ws)) ∙ ap wordsBytes (take-append-drop (width d) ws)
 

@@ -5,12 +5,17 @@ use Prim.Native.Nat.{ℕ, zero, suc, _+_, _-_, _≤_}
 use native.Mathlib.Nat.{zero-add, suc-add}
 use native.Mathlib.Omega.{arith}
 use lib.ListN.{length, take, drop, length-append, length-drop, take-append-drop}
-use lib.Seq.{slice, take-nil, drop-nil, take-append-le, drop-append-le, take-at, drop-at}
+use lib.Seq.{slice, length-take-le, take-append-add, take-nil, drop-nil, take-append-le, drop-append-le, take-at, drop-at}
 use Rattle.lists.specs.Lists.{_∈_, joined}
 
 -- what stands behind a front
 pub drop-front : {A : Type 0} {l : List A} (p q : List A) (n : ℕ) → l ≡ p ++ q → length p ≡ n → drop n l ≡ q
 drop-front p q n e h = ap (drop n) e ∙ drop-at p q n h
+
+-- a front, and a front of what stands behind it
+pub take-more : {A : Type 0} (n k : ℕ) (l : List A) → n ≤ length l → take (n + k) l ≡ take n l ++ take k (drop n l)
+take-more n k l h =
+    ap₂ (λ m u. take (m + k) u) (sym (length-take-le n l h)) (sym (take-append-drop n l)) ∙ take-append-add (take n l) (drop n l) k
 
 -- fronts of equal length
 pub front-same : {A : Type 0} (p q l m : List A) → p ++ l ≡ q ++ m → length p ≡ length q → p ≡ q

@@ -7,7 +7,8 @@ use Prim.Native.Nat.{ℕ, _+_, _<_, zero, suc}
 use native.Mathlib.Nat.{zero-add, suc-add}
 use native.Mathlib.Omega.{arith}
 use lib.Dec.{ltb}
-use lib.ListN.{length, getD, getElem?}
+use lib.ListN.{length, getD, getElem?, take, drop}
+use lib.Seq.{getD-drop}
 use borrow.Author.Tests.{ltb-true, ltb-false}
 use Rattle.lists.specs.Lists.{_∈_, Pairwise, Distinct}
 use Rattle.lists.proofs.Tests.{cases, truth}
@@ -65,3 +66,16 @@ pub map-at : {A B : Type 0} (f : A → B) (a : A) (b : B) (l : List A) (k : ℕ)
 map-at f a b [] k h = absurd (omega arith)
 map-at f a b (x ∷ l) zero h = refl
 map-at f a b (x ∷ l) (suc k) h = map-at f a b l k (omega arith)
+
+-- the number at each place of a list, and beyond its end, is below a bound
+abbrev pub EachBelow : ℕ → List ℕ → Type 0
+EachBelow b l = (i : ℕ) → getD l i 0 < b
+
+pub below-drop : (b k : ℕ) (l : List ℕ) → EachBelow b l → EachBelow b (drop k l)
+below-drop b k l h i = rw (getD-drop k l i 0) (h (k + i))
+
+pub below-take : (b k : ℕ) (l : List ℕ) → EachBelow b l → EachBelow b (take k l)
+below-take b zero l h i = omega (arith, h i)
+below-take b (suc k) [] h i = h i
+below-take b (suc k) (x ∷ l) h zero = h 0
+below-take b (suc k) (x ∷ l) h (suc i) = below-take b k l (λ j. h (suc j)) i

@@ -1,11 +1,12 @@
 -- `call_cuboids::put_counted` meets its contract: the count, and the words of the cells straight after it.
 use mathlib.Core.Path.{_≡_, sym, ap, _∙_}
 use mathlib.Core.List.{List, _++_, flatMap}
-use Prim.Native.Nat.{ℕ, _*_}
+use Prim.Native.Nat.{ℕ, _*_, _^_}
 use native.Mathlib.Omega.{arith}
 use denote.Ref.{now}
 use lib.ListN.{length, take, length-take, length-drop}
 use lib.Seq.{length-take-le}
+use Rattle.lists.proofs.Places.{below-take}
 use Rattle.fields.specs.Words.{wordBytes, wordsBytes}
 use Rattle.fields.specs.WordsLaws.{length-wordsBytes}
 use Rattle.fields.specs.WrittenLaws.{wrote-then}
@@ -14,7 +15,7 @@ use Rattle.rows.proofs.Flat.{rows-length}
 use Rattle.rows_ready.proofs.Ready.{rows-front}
 use Rattle.archive_entries.specs.Layout.{cellBytes}
 use Rattle.archive_cells.specs.WritingLaws.{wrote-as}
-use Rattle.archive_cells.proofs.Cells.{words-take, cells-words}
+use Rattle.archive_cells.proofs.Cells.{cells-words}
 use borrow.Author.Needs.{needs}
 use Rattle.call_cuboids.proofs.put_counted.Statement.{statement}
 use Rattle.call_cuboids.proofs.put_counted.Tie as tie
@@ -39,7 +40,7 @@ returns : tie.Need-returns
 returns c =
     let a = c .before .before .before .before .before .before .before .before .before .before .before .args in
     let cells = take (a .n * width (a .dims)) (now (a .cells)) in
-    let words = cells-words (a .dims) (a .n) cells (sym (size (c .before .before .before .before .before .before .before .before .before .before .before))) (words-take (a .n * width (a .dims)) (now (a .cells)) (λ i. omega (arith, c .before .before .before .before .before .before .before .before .before .shared-slice-known .given i))) in
+    let words = cells-words (a .dims) (a .n) cells (sym (size (c .before .before .before .before .before .before .before .before .before .before .before))) (below-take (2 ^ 32) (a .n * width (a .dims)) (now (a .cells)) (λ i. omega (arith, c .before .before .before .before .before .before .before .before .before .shared-slice-known .given i))) in
     let same = sym words ∙ ap (flatMap cellBytes) (rows-front (a .dims) (a .n) (now (a .cells))) in
     rw (rows-length (a .dims) (a .n) (now (a .cells))) (wrote-as (ap (λ (l : List ℕ). wordBytes (a .n) ++ l) same) (wrote-then (c .before .before .before .before .before .before .before .put-word .ensures) (c .before .before .put-words .ensures)))
 

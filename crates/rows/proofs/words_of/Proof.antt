@@ -1,8 +1,9 @@
 -- `rows::words_of` meets its contract: a row's places are within the flat list.
-use mathlib.Core.Path.{_≡_, refl}
-use Prim.Native.Nat.{_+_, _*_, _-_, _≤_}
+use mathlib.Core.Path.{_≡_, ap, _∙_}
+use Prim.Native.Nat.{ℕ, _+_, _*_, _-_, _≤_}
 use native.Mathlib.Omega.{arith}
-use lib.ListN.{length-drop}
+use denote.Ref.{now}
+use lib.ListN.{length, take, drop, length-drop}
 use lib.Seq.{length-take-le}
 use borrow.Author.Needs.{needs}
 use Rattle.rows.specs.Rows.{width}
@@ -31,8 +32,11 @@ part-result-end c = omega (arith, within c)
 returns : tie.Need-returns
 returns c =
     let a = c .before .args in
-    let e : a .row * width (a .dims) + width (a .dims) - a .row * width (a .dims) ≡ width (a .dims) = omega arith in
-    rw e (refl, length-take-le (width (a .dims)) _ (simp length-drop (omega (arith, within (c .before), c .before .pre .0))))
+    let from = a .row * width (a .dims) in
+    let rest = drop from (now (a .rows)) in
+    let size : from + width (a .dims) - from ≡ width (a .dims) = omega arith in
+    let e = ap (λ (k : ℕ). take k rest) size in
+    (e, ap length e ∙ length-take-le (width (a .dims)) rest (simp length-drop (omega (arith, within (c .before), c .before .pre .0))))
 
 pub words-of-spec : {M : Type 1} → statement M
 words-of-spec =
