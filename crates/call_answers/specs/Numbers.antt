@@ -4,6 +4,7 @@
 --   checkedNumber       the base count, plus 2 to the power 32 times the normal count
 --   foundNumber         1 for a cell, 0 for 'no record'
 --   sumLeft, countLeft, entryLeft    what is left in the arrays of one where the sum, the count and the entry's number of a cell are stored
+--   fixedNumber         1 for yes, 0 for no, whether a set fixes a dimension
 use mathlib.Core.List.{List}
 use Prim.Native.Nat.{ℕ, _+_, _*_, _^_}
 use lib.IntN.{ℤ}
@@ -14,6 +15,8 @@ use Rattle.call_answers.specs.declared.Checked.{Checked}
 use Rattle.call_answers.specs.declared.Checked.the-variants as Check
 use Rattle.call_answers.specs.declared.Found.{Found}
 use Rattle.call_answers.specs.declared.Found.the-variants as Find
+use Rattle.call_answers.specs.declared.Fixed.{Fixed}
+use Rattle.call_answers.specs.declared.Fixed.the-variants as Fix
 
 abbrev pub stopNumber : ℕ → ℕ
 stopNumber n = 2 ^ 63 + n
@@ -45,3 +48,8 @@ abbrev pub entryLeft : Found → List ℕ → List ℕ
 entryLeft (Find.Cell sum count entry) l = set l 0 entry
 entryLeft Find.NoRecord l = l
 entryLeft (Find.Stop n) l = l
+
+abbrev pub fixedNumber : Fixed → ℕ
+fixedNumber Fix.Yes = 1
+fixedNumber Fix.No = 0
+fixedNumber (Fix.Stop n) = stopNumber n

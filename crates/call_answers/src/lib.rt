@@ -17,3 +17,10 @@ pub enum Found {
     NoRecord,
     Stop(u32),
 }
+
+// What the question whether a set fixes a dimension answers: yes, no, or a stop's number.
+pub enum Fixed {
+    Yes,
+    No,
+    Stop(u32),
+}

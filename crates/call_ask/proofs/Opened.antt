@@ -13,22 +13,11 @@ use Rattle.archive_entries.specs.Reading.{walkArchive, readArchive, rowsIn, arc
 use Rattle.archive_entries.specs.declared.ArchiveRead.the-variants as Read
 use Rattle.archive_entries.proofs.Accepted.{read-forth, archive-forth}
 use Rattle.fields.specs.Words.{wordsAt}
-use Rattle.rows_ready.specs.Ready.{Ready}
 use Rattle.archive_normals.specs.Grouped.{Grouped}
 use Rattle.archive_judge.proofs.Judged.{sizes-at, read-ready}
 use Rattle.archive_read.proofs.Reading.{read-of}
+use Rattle.call_answers.proofs.Opened.{Opened}
 use Rattle.call_ask.specs.Accepts.{Accepts}
-
-pub record Opened (s : List ℕ) (d n m : ℕ) (ws : List ℕ) : Type 0 where
-  pub are : Bytes s
-  pub held : Held
-  pub read : readArchive s ≡ got held []
-  pub sizes : held .sizes ≡ wordsAt s d 8
-  pub dims : length (held .sizes) ≡ d
-  pub bases : length (held .bases) ≡ n
-  pub cells : length (held .cells) ≡ m
-  pub ready : Ready d n ws
-  pub rows : rowsOf d n ws ≡ rowsIn held
 
 -- the front of the array
 abbrev pub OpenedIn : (s : List ℕ) (d n m : ℕ) (ws : List ℕ) → Type 0

@@ -17,7 +17,7 @@ use Rattle.call_answers.specs.declared.Checked.the-variants as Check
 use Rattle.call_answers.specs.declared.Found.the-variants as Find
 use Rattle.call_answers.specs.Answers.{stop as stopped, bytes}
 use Rattle.call_answers.specs.Calls.{counted, checks, listsCuboid, expands, looksUp}
-use Rattle.call_ask.proofs.Opened.{Opened}
+use Rattle.call_answers.proofs.Opened.{Opened}
 
 -- ---- refused
 

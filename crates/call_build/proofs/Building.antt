@@ -25,7 +25,7 @@ use Rattle.archive_judge.proofs.Judged.{limits-ready}
 use Rattle.call_answers.specs.declared.Written.the-variants.{Stop}
 use Rattle.call_answers.specs.Answers.{stop as stopped, bytes}
 use Rattle.call_answers.specs.Calls.{builds}
-use Rattle.call_build.proofs.Folded.{folded-within}
+use Rattle.call_answers.proofs.Folded.{folded-within}
 
 -- ---- what is written just if there is room for it
 

@@ -1,4 +1,2 @@
 -- Why `build` writes the archive of its table.
-pub mod Made
-pub mod Folded
 pub mod Building

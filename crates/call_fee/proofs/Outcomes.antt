@@ -14,7 +14,7 @@ use Rattle.archive_entries.specs.Reading.{readArchive, archiveAnswer, rowsIn}
 use Rattle.archive_entries.specs.declared.ArchiveRead.the-variants as Read
 use Rattle.archive_entries.proofs.Accepted.{archive-forth}
 use Rattle.call_answers.specs.Answers.{stop as stopped, bytes}
-use Rattle.call_ask.proofs.Opened.{Opened}
+use Rattle.call_answers.proofs.Opened.{Opened}
 use Rattle.call_ask.proofs.Outcomes.{refused}
 use Rattle.fee_list.specs.Listed.{feeBytes}
 use Rattle.call_fee.specs.Fees.{weights, sharesFee}

@@ -1,7 +1,7 @@
 // Whether a set fixes a dimension in an archive.
 // The call answers for whatever bytes it is lent, and writes nothing.
 use archive_entries::ArchiveRead;
-use call_keys::Fixed;
+use call_answers::Fixed;
 ghost use mathlib.Core.Path.{_≡_};
 ghost use Prim.Native.Nat.{_*_, _≤_, _<_};
 ghost use lib.ListN.{length};
@@ -11,9 +11,9 @@ ghost use Rattle.rows_order.specs.Index.{Valid};
 ghost use Rattle.rows.specs.Rows.{width, cut, rowAt};
 ghost use Rattle.archive_entries.specs.Reading.{readArchive};
 ghost use Rattle.archive_read.specs.Sharing.{Shares};
+ghost use Rattle.call_answers.specs.Keys.{tellsFixed};
 ghost use Rattle.call_ask.specs.Accepts.{Accepts};
 ghost use Rattle.call_keys.specs.Laid.{Laid, follows};
-ghost use Rattle.call_keys.specs.Calls.{tellsFixed};
 
 // Whether two rows agree on a set.
 fn agrees(mine: &[u32], other: &[u32], set: u32) -> bool

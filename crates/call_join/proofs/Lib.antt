@@ -1,6 +1,3 @@
--- Two archives into one: the limits, and what the code meets.
-pub mod Limits
+-- Two archives into one: what the code meets.
 pub mod Uniting
 pub mod Outcomes
-pub mod Joins
-pub mod Examples

@@ -25,9 +25,9 @@ use Rattle.rows_ready.specs.Ready.{Ready}
 use Rattle.rows_merge.specs.United.{united}
 use Rattle.call_answers.specs.Answers.{stop}
 use Rattle.call_answers.specs.Calls.{outcome}
-use Rattle.call_ask.proofs.Opened.{Opened}
+use Rattle.call_answers.specs.Joins.{filed, unites, joins}
+use Rattle.call_answers.proofs.Opened.{Opened}
 use Rattle.call_ask.proofs.Outcomes.{refused}
-use Rattle.call_join.specs.Joins.{filed, unites, joins}
 use Rattle.call_join.specs.Stores.{Store}
 
 pub first-refused : (s t : List ℕ) {k : ℕ} → archiveAnswer (readArchive s) ≡ Read.Stop k → joins s t ≡ stop k

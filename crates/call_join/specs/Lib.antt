@@ -1,3 +1,2 @@
--- Two archives into one, and what the code knows of them.
-pub mod Joins
+-- What the code knows of the base rows of an archive.
 pub mod Stores

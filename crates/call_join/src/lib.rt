@@ -12,7 +12,7 @@ ghost use Rattle.cube.specs.Measure.{sums as totals};
 ghost use Rattle.rows.specs.Rows.{rowsOf};
 ghost use Rattle.rows_merge.specs.United.{united};
 ghost use Rattle.call_answers.specs.Answers.{Answered};
-ghost use Rattle.call_join.specs.Joins.{filed, joins};
+ghost use Rattle.call_answers.specs.Joins.{filed, joins};
 ghost use Rattle.call_join.specs.Stores.{Store, Accepted};
 
 // Whether two archives of the same dimensions have the same sizes. The buffers that are lent have them afterwards.

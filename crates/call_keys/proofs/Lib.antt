@@ -2,4 +2,3 @@
 pub mod Listing
 pub mod Bare
 pub mod Outcomes
-pub mod Promises

@@ -1,5 +1,3 @@
--- What the two calls on keys compute, and their answers as numbers.
+-- What inner functions of the calls on keys hand to one another.
 pub mod Laid
 pub mod Bare
-pub mod Calls
-pub mod Numbers

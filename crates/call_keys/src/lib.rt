@@ -11,16 +11,9 @@ ghost use Rattle.archive_entries.specs.Reading.{readArchive};
 ghost use Rattle.archive_read.specs.Sharing.{Shares};
 ghost use Rattle.archive_cells.specs.ListBytes.{listBytes};
 ghost use Rattle.call_answers.specs.Answers.{bytes, Answered};
+ghost use Rattle.call_answers.specs.Keys.{listsKeys};
 ghost use Rattle.call_ask.specs.Accepts.{Accepts};
 ghost use Rattle.call_keys.specs.Bare.{bare, leastBare};
-ghost use Rattle.call_keys.specs.Calls.{listsKeys};
-
-// What the question whether a set fixes a dimension answers: yes, no, or a stop's number.
-pub enum Fixed {
-    Yes,
-    No,
-    Stop(u32),
-}
 
 // Whether no cell of a set is shared.
 pub fn is_bare(dims: usize, used: &[usize], set: u32) -> bool

@@ -22,7 +22,8 @@ use Rattle.call_answers.specs.declared.Found.{Found}
 use Rattle.call_answers.specs.declared.Found.the-variants as Find
 use Rattle.call_answers.specs.Calls.{entriesIn, told, looksUp}
 use Rattle.call_answers.proofs.Entries.{entries-required}
-use Rattle.call_ask.proofs.Opened.{Opened, opened-held}
+use Rattle.call_answers.proofs.Opened.{Opened}
+use Rattle.call_ask.proofs.Opened.{opened-held}
 
 -- the answer of the code, case by case
 abbrev pub foundAs : Look → Found

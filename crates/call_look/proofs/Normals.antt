@@ -24,7 +24,8 @@ use Rattle.call_questions.specs.Questions.{NormalsAt}
 use Rattle.archive_bases.specs.Listed.{ourBases}
 use Rattle.archive_judge.specs.Read.{sections}
 use Rattle.archive_judge.proofs.Judged.{archive-sections}
-use Rattle.call_ask.proofs.Opened.{Opened, opened-bytes, opened-held}
+use Rattle.call_answers.proofs.Opened.{Opened}
+use Rattle.call_ask.proofs.Opened.{opened-bytes, opened-held}
 
 regroup : (h b w n l : List ℕ) → (h ++ (b ++ (w ++ n))) ++ l ≡ h ++ ((b ++ w) ++ (n ++ l))
 regroup h b w n l = append-assoc h (b ++ (w ++ n)) l ∙ ap (λ (x : List ℕ). h ++ x) (ap (λ (x : List ℕ). x ++ l) (sym (append-assoc b w n)) ∙ append-assoc (b ++ w) n l)

@@ -1,17 +1,16 @@
 // The calls for other languages: each answers one number, 2^63 plus a stop's number where it stops.
 use call_answers::Checked;
+use call_answers::Fixed;
 use call_answers::Found;
 use call_answers::Written;
-use call_keys::Fixed;
 ghost use mathlib.Core.Path.{_≡_};
 ghost use lib.ListN.{length};
 ghost use Rattle.call_answers.specs.Answers.{within, answerOf, leftOf};
 ghost use Rattle.call_answers.specs.Calls.{builds, checks, listsCuboid, expands, looksUp};
-ghost use Rattle.call_answers.specs.Numbers.{writtenNumber, checkedNumber, foundNumber, sumLeft, countLeft, entryLeft};
-ghost use Rattle.call_keys.specs.Calls.{listsKeys, tellsFixed};
-ghost use Rattle.call_keys.specs.Numbers.{fixedNumber};
+ghost use Rattle.call_answers.specs.Keys.{listsKeys, tellsFixed};
+ghost use Rattle.call_answers.specs.Joins.{joins};
+ghost use Rattle.call_answers.specs.Numbers.{writtenNumber, checkedNumber, foundNumber, sumLeft, countLeft, entryLeft, fixedNumber};
 ghost use Rattle.call_fee.specs.Fees.{sharesFee};
-ghost use Rattle.call_join.specs.Joins.{joins};
 
 // The number of a call that writes an output.
 fn number(answer: Written) -> u64

@@ -27,17 +27,17 @@ use Rattle.call_cuboids.specs.Cuboids.{cuboidBytes, expansionBytes}
 use Rattle.call_answers.specs.declared.Checked.the-variants as Check
 use Rattle.call_answers.specs.declared.Found.{Found}
 use Rattle.call_answers.specs.declared.Found.the-variants as Find
+use Rattle.call_answers.specs.declared.Fixed.the-variants.{Yes, No, Stop}
 use Rattle.call_answers.specs.Answers.{Outcome, stop as stopped, bytes, within}
+use Rattle.call_answers.specs.Calls.{builds, checks, listsCuboid, expands, entriesIn, told, looksUp}
+use Rattle.call_answers.specs.Keys.{listsKeys, tellsFixed}
+use Rattle.call_answers.specs.Joins.{joins}
 use Rattle.archive_cells.specs.ListBytes.{listBytes}
 use Rattle.cube.specs.Keys.{key, leastKeys, fixes}
-use Rattle.call_keys.specs.declared.Fixed.the-variants.{Yes, No, Stop}
-use Rattle.call_keys.specs.Calls.{listsKeys, tellsFixed}
-use Rattle.call_answers.specs.Calls.{builds, checks, listsCuboid, expands, entriesIn, told, looksUp}
 use Rattle.fee_shares.specs.Shares.{left, shares}
 use Rattle.fee_list.specs.Listed.{feeBytes}
 use Rattle.call_fee.specs.Fees.{weights, sharesFee}
 use Rattle.rows_merge.specs.United.{united}
-use Rattle.call_join.specs.Joins.{joins}
 
 -- what an example says of the bytes: the archive's length and check word, its entries, how long its expansion is, and answers to questions; a refusal is none of these
 pub record Told : Type 0 where

@@ -21,8 +21,8 @@ use Rattle.archive_entries.specs.Layout.{Held, Limits, required}
 use Rattle.archive_entries.specs.Reading.{readArchive, rowsIn}
 use Rattle.call_answers.specs.Answers.{stop, bytes}
 use Rattle.call_answers.specs.Calls.{dims, builds}
-use Rattle.call_join.specs.Joins.{filed, joins, doubled}
-use Rattle.call_join.proofs.Joins as joining
+use Rattle.call_answers.specs.Joins.{filed, joins, doubled}
+use Rattle.call_answers.proofs.Joins as joining
 
 -- A result has two accepted archives.
 pub join-both : (s t : List ℕ) {x : List ℕ} → Bytes s → Bytes t → joins s t ≡ bytes x → (a : Held) × (b : Held) × (readArchive s ≡ got a []) × (readArchive t ≡ got b [])

@@ -18,10 +18,10 @@ use Rattle.cube.proofs.Promises as theory
 use Rattle.archive_entries.specs.Layout.{Held}
 use Rattle.archive_entries.specs.Reading.{readArchive, rowsIn}
 use Rattle.archive_cells.specs.ListBytes.{listBytes}
+use Rattle.call_answers.specs.declared.Fixed.the-variants.{Yes}
 use Rattle.call_answers.specs.Answers.{bytes}
-use Rattle.call_keys.specs.declared.Fixed.the-variants.{Yes}
-use Rattle.call_keys.specs.Calls.{listsKeys, tellsFixed}
-use Rattle.call_keys.proofs.Promises as keyed
+use Rattle.call_answers.specs.Keys.{listsKeys, tellsFixed}
+use Rattle.call_answers.proofs.Keys as keyed
 use Rattle.promises.proofs.Promises.{rows-base}
 
 module _ (s : List ℕ) (a : Held) (b : Bytes s) (e : readArchive s ≡ got a []) where

@@ -1,5 +1,5 @@
 -- The front page: the user's demands 2 and 3 on bytes, and what the change requests ask to be shown. Demand 1 is the contracts of the calls (src/lib.rt of crates call_build, call_ask,
--- call_keys, call_fee and call_join), each an equation with its definition in specs/ of crate call_answers, call_keys, call_fee or call_join. Beside this page: Room.antt (outputs that are always enough), Numbers.antt (the
+-- call_keys, call_fee and call_join), each an equation with its definition in specs/ of crate call_answers or call_fee. Beside this page: Room.antt (outputs that are always enough), Numbers.antt (the
 -- number that another language gets tells a stop from a success), Empty.antt (an archive without base rows), Keys.antt (which codes fix which), Fees.antt (what is written for a fee), Joins.antt (two archives into one),
 -- Examples.antt (the worked examples of document 01).
 -- Pages of other crates: cube, proofs/Promises.antt (the same demands on rows, without bytes); small_model, proofs/Promises.antt (C-23: all the small tables).
@@ -56,7 +56,7 @@ use Rattle.call_answers.specs.declared.Written.{Written}
 use Rattle.call_answers.specs.Answers.{Outcome, bytes, within, answerOf, leftOf, Answered}
 use Rattle.call_answers.specs.Calls.{outcome, archived, builds, counted, checks, cuboidOf, listsCuboid, expanded, expands, entriesIn, told, looksUp}
 use Rattle.call_answers.proofs.Entries.{entries-required}
-use Rattle.call_build.proofs.Folded.{table-rows, folded-within}
+use Rattle.call_answers.proofs.Folded.{table-rows, folded-within}
 use Rattle.promises.specs.Alone.{Alone}
 
 told-none : (r : Answer Total) → told r ≡ Find.NoRecord → r ≡ no-record

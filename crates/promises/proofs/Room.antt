@@ -37,16 +37,16 @@ use Rattle.call_cuboids.specs.Cuboids.{cuboidBytes, expansionBytes}
 use Rattle.call_cuboids.proofs.Lengths.{cuboid-length}
 use Rattle.call_answers.specs.Answers.{Outcome, stop as stopped, bytes, within}
 use Rattle.call_answers.specs.Calls.{builds, dims, listsCuboid, expands}
-use Rattle.call_build.proofs.Folded.{folded-within}
-use Rattle.call_keys.specs.Calls.{listsKeys}
-use Rattle.call_keys.proofs.Promises.{keys-listed, keys-short}
+use Rattle.call_answers.specs.Keys.{listsKeys}
+use Rattle.call_answers.specs.Joins.{joins}
+use Rattle.call_answers.proofs.Keys.{keys-listed, keys-short}
+use Rattle.call_answers.proofs.Folded.{folded-within}
+use Rattle.call_answers.proofs.Joins.{joined-bytes, joined-limits}
 use Rattle.fee_list.specs.Listed.{feeBytes}
 use Rattle.fee_list.proofs.Listed.{fee-length}
 use Rattle.call_fee.specs.Fees.{countIn, weights, sharesFee}
 use Rattle.rows_merge.specs.United.{united}
 use Rattle.rows_merge.proofs.United.{united-few}
-use Rattle.call_join.specs.Joins.{joins}
-use Rattle.call_join.proofs.Joins.{joined-bytes, joined-limits}
 use Rattle.promises.specs.Room.{atLeast1, cuboidRoom, expansionRoom, archiveRoom, keysRoom, feeRoom}
 use Rattle.promises.proofs.Promises.{built}
 

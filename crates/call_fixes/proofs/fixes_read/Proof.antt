@@ -12,9 +12,10 @@ use Rattle.cube.specs.Keys.{fixes, dimension}
 use Rattle.cube.proofs.Keys.{key-fixes}
 use Rattle.rows.specs.Rows.{width, cut}
 use Rattle.archive_read.specs.Sharing.{Sharing}
+use Rattle.call_answers.proofs.Outcomes.{fixes-no-set, fixes-zero, fixes-high, fixes-told}
 use Rattle.call_ask.proofs.Opened.{OpenedIn, opened, opened-small}
 use Rattle.call_keys.proofs.Bare.{bare-key}
-use Rattle.call_keys.proofs.Outcomes.{laid, shared-in, fixes-no-set, fixes-zero, fixes-high, fixes-told}
+use Rattle.call_keys.proofs.Outcomes.{laid, shared-in}
 use borrow.Author.Needs.{needs}
 use Rattle.call_fixes.proofs.fixes_read.Statement.{statement}
 use Rattle.call_fixes.proofs.fixes_read.Tie as tie

@@ -8,12 +8,13 @@ use lib.ListN.{take}
 use Rattle.fields_walk.proofs.Limits.{bytes-of}
 use Rattle.call_answers.specs.Answers.{bytes}
 use Rattle.call_answers.proofs.Answers.{answered-as}
+use Rattle.call_answers.proofs.Outcomes.{keys-bytes}
 use Rattle.archive_cells.specs.ListBytes.{listBytes}
 use Rattle.archive_read.specs.Sharing.{Sharing}
 use Rattle.call_ask.proofs.Opened.{OpenedIn, opened}
 use Rattle.rows.specs.Rows.{width}
 use Rattle.call_keys.proofs.Bare.{least-bare, bare-short}
-use Rattle.call_keys.proofs.Outcomes.{laid, shared-in, keys-bytes}
+use Rattle.call_keys.proofs.Outcomes.{laid, shared-in}
 use borrow.Author.Needs.{needs}
 use Rattle.call_keys.proofs.keys_read.Statement.{statement}
 use Rattle.call_keys.proofs.keys_read.Tie as tie

@@ -1,6 +1,6 @@
 -- `cube_archive::cube_fixes` meets its contract: the call's answer as a number.
 use mathlib.Core.Path.{sym, ap, _∙_}
-use Rattle.call_keys.specs.Numbers.{fixedNumber}
+use Rattle.call_answers.specs.Numbers.{fixedNumber}
 use borrow.Author.Needs.{needs}
 use Rattle.cube_archive.proofs.cube_fixes.Statement.{statement}
 use Rattle.cube_archive.proofs.cube_fixes.Tie as tie

@@ -29,11 +29,11 @@ use Rattle.archive_entries.specs.Layout.{Based, based, Held, Limits, required, 
 use Rattle.archive_entries.specs.Reading.{rowsIn, readArchive}
 use Rattle.archive_entries.proofs.Limits.{limits-table}
 use Rattle.archive_entries.proofs.Accepted.{required-rows, required-sizes, archive-back, archive-forth}
 use Rattle.call_answers.specs.Answers.{Outcome, stop, bytes, refuseUnless}
 use Rattle.call_answers.specs.Calls.{outcome, builds, dims}
-use Rattle.call_build.proofs.Folded.{table-rows, folded-within}
-use Rattle.call_join.specs.Joins.{few, filed, unites, joins, doubled}
-use Rattle.call_join.proofs.Limits.{limits-united, filed-limits}
+use Rattle.call_answers.proofs.Folded.{table-rows, folded-within}
+use Rattle.call_answers.specs.Joins.{few, filed, unites, joins, doubled}
+use Rattle.call_answers.proofs.Limits.{limits-united, filed-limits}
 
 -- what two accepted archives give
 joins-read : (s t : List ℕ) {a b : Held} → readArchive s ≡ got a [] → readArchive t ≡ got b [] → joins s t ≡ unites a b

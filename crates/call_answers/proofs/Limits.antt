@@ -18,8 +18,8 @@ use Rattle.rows_merge.proofs.Merging.{united-merged}
 use Rattle.rows_merge.proofs.United.{united-rising, united-each, united-count}
 use Rattle.archive_entries.specs.Layout.{Fair, Limits, archiveBytes}
 use Rattle.archive_entries.proofs.Limits.{limits-table}
 use Rattle.call_answers.specs.Answers.{stop, bytes}
-use Rattle.call_join.specs.Joins.{few, filed}
+use Rattle.call_answers.specs.Joins.{few, filed}
 
 fair-both : (zs : List ℕ) (r q : Row Total) → r .codes ≡ q .codes → Fair zs r → Fair zs q → Fair zs (asOne sums r q)
 fair-both zs r q e f g = record {

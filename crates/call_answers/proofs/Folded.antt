@@ -22,7 +22,7 @@ use Rattle.fields_walk.proofs.Limits.{below-coded}
 use Rattle.table.specs.Layout.{Records, Reads, TableLimits}
 use Rattle.table.specs.Reading.{baseRows}
 use Rattle.archive_entries.specs.Layout.{Fair, Limits}
-use Rattle.call_build.proofs.Made.{readings-make}
+use Rattle.call_answers.proofs.Made.{readings-make}
 
 count-ones : (rows : List (Row Total)) → ((r : Row Total) → r ∈ rows → r .total .count ≡ 1) → countOf rows ≡ length rows
 count-ones [] h = refl

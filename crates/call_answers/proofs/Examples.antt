@@ -16,8 +16,8 @@ use Rattle.cube.specs.Table.{folded}
 use Rattle.rows_merge.specs.United.{united}
 use Rattle.archive_entries.specs.Layout.{cellBytes, baseBytes, layout, required, archiveBytes}
 use Rattle.archive_entries.specs.Reading.{amount, entries, bases, cell, cells, walkArchive, readArchive}
 use Rattle.call_answers.specs.Answers.{stop, bytes}
-use Rattle.call_join.specs.Joins.{joins}
+use Rattle.call_answers.specs.Joins.{joins}
 
 -- without rows, of one dimension of size z
 abbrev empty : ℕ → List ℕ

@@ -15,10 +15,10 @@ use Rattle.cube.specs.Keys.{leastKeys, fixes, dimension}
 use Rattle.archive_entries.specs.Layout.{Held}
 use Rattle.archive_entries.specs.Reading.{readArchive, rowsIn}
 use Rattle.archive_cells.specs.ListBytes.{listBytes}
 use Rattle.call_answers.specs.Answers.{Outcome, bytes}
 use Rattle.call_answers.specs.Calls.{outcome, dims}
-use Rattle.call_keys.specs.declared.Fixed.{Fixed}
-use Rattle.call_keys.specs.declared.Fixed.the-variants.{Yes, No, Stop}
+use Rattle.call_answers.specs.declared.Fixed.{Fixed}
+use Rattle.call_answers.specs.declared.Fixed.the-variants.{Yes, No, Stop}
 
 abbrev pub keysOf : Held → Outcome
 keysOf a = bytes (listBytes (leastKeys (plain (dims a)) (codesOf (rowsIn a))))

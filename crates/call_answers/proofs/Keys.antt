@@ -1,4 +1,4 @@
--- What the two calls say of any accepted archive (document 02, C-12).
+-- What the two calls on keys say of any accepted archive (document 02, C-12).
 use mathlib.Core.Path.{_≡_, refl, sym, ap, _∙_}
 use mathlib.Core.Logic.{_↔_}
 use mathlib.Core.Bool.{Bool, true, false, false≢true}
@@ -21,9 +21,9 @@ use Rattle.archive_entries.specs.Reading.{readArchive, rowsIn}
 use Rattle.archive_entries.proofs.Accepted.{archive-forth}
 use Rattle.archive_entries.proofs.Limits.{limits-base}
 use Rattle.archive_cells.specs.ListBytes.{listBytes, list-length}
 use Rattle.call_answers.specs.Answers.{bytes}
-use Rattle.call_keys.specs.Calls.{listsKeys, yesIf, tellsFixed}
-use Rattle.call_keys.specs.declared.Fixed.the-variants.{Yes}
+use Rattle.call_answers.specs.Keys.{listsKeys, yesIf, tellsFixed}
+use Rattle.call_answers.specs.declared.Fixed.the-variants.{Yes}
 
 yes-if : (b : Bool) → yesIf b ≡ Yes → b ≡ true
 yes-if true e = refl
