@@ -11,8 +11,8 @@ use Rattle.rows.specs.Rows.{rowsOf}
 use Rattle.archive_entries.specs.Layout.{baseBytes}
 use Rattle.archive_cells.specs.Writing.{Writing}
 use Rattle.archive_cells.specs.WritingLaws.{writing-more, writing-room, writing-done}
-use Rattle.archive_cells.specs.Matched.{Matched, Matching}
-use Rattle.archive_cells.specs.MatchedLaws.{matching-more, matching-off, matching-done}
+use Rattle.archive_compare.specs.Matched.{Matched, Matching}
+use Rattle.archive_compare.specs.MatchedLaws.{matching-more, matching-off, matching-done}
 use Rattle.archive_bases.specs.Listed.{Listed, ourBase, ourBases}
 use Rattle.archive_bases.proofs.Bases.{bases-next, bases-none}
 

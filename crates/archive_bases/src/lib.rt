@@ -7,7 +7,7 @@ ghost use lib.ListN.{length};
 ghost use Rattle.fields.specs.Written.{Wrote};
 ghost use Rattle.rows.specs.Rows.{rowsOf};
 ghost use Rattle.archive_entries.specs.Layout.{baseBytes, setsIn};
-ghost use Rattle.archive_cells.specs.Matched.{Matched};
+ghost use Rattle.archive_compare.specs.Matched.{Matched};
 ghost use Rattle.archive_bases.specs.Listed.{Listed, ourBase, ourBases};
 
 // How many sets the base entries list.
@@ -62,7 +62,7 @@ fn match_base(
 {
     let mine = rows::words_of(rows, n, dims, row);
     let list = rows_lists::list_of(lists, n, row);
-    archive_cells::match_entry(s, at, mine, list)
+    archive_compare::match_entry(s, at, mine, list)
 }
 
 // Whether the bytes s have the base entries from a place on.

@@ -1,4 +1,4 @@
--- Parts written or compared set by set, in a loop over the 256 sets in lattice order, of which those below a bound have a turn.
+-- Parts written set by set, in a loop over the 256 sets in lattice order, of which those below a bound have a turn.
 use mathlib.Core.Path.{_≡_, ap, subst, _∙_}
 use mathlib.Core.List.{List, [], _++_, flatMap}
 use Prim.Native.Nat.{ℕ, _+_, _-_, _≤_, _<_}
@@ -7,27 +7,24 @@ use borrow.Rule.Slice.PartMut.{midOf, putMid}
 use Rattle.lattice.specs.Sets.{sets, setsFrom}
 use Rattle.lattice.proofs.Turns.{from-on, from-off, from-done}
 use Rattle.fields.specs.Written.{Wrote}
-use Rattle.fields_walk.specs.declared.Walk.the-variants.{Stop, At}
 use Rattle.archive_cells.specs.Writing.{Writing}
 use Rattle.archive_cells.specs.WritingLaws.{writing-more, writing-room, writing-done}
-use Rattle.archive_cells.specs.Matched.{Matching, Matched}
-use Rattle.archive_cells.specs.MatchedLaws.{matching-more, matching-off, matching-done}
 
 module _ (f : ℕ → List ℕ) (m : ℕ) where
   -- the parts of the sets from place k on
   unfoldable pub turns : ℕ → List ℕ
   turns k = flatMap f (setsFrom m k)
 
-  turns-none : (k : ℕ) → 256 ≤ k → turns k ≡ []
+  pub turns-none : (k : ℕ) → 256 ≤ k → turns k ≡ []
   unfolding turns flatMap
   turns-none k h = rw (from-done m k h)
 
   module _ {s k : ℕ} (h : k < 256) (e : s ≡ getD (sets 8) k 0) where
-    turns-next : s < m → turns k ≡ f s ++ turns (k + 1)
+    pub turns-next : s < m → turns k ≡ f s ++ turns (k + 1)
     unfolding turns flatMap
     turns-next l = rw (from-on m k h (rw e at l), e)
 
-    turns-past : m ≤ s → turns k ≡ turns (k + 1)
+    pub turns-past : m ≤ s → turns k ≡ turns (k + 1)
     unfolding turns
     turns-past l = ap (flatMap f) (from-off m k h (rw e at l))
 
@@ -51,24 +48,8 @@ module _ (f : ℕ → List ℕ) (m : ℕ) where
       pub write-more : {r : List ℕ} {j : ℕ} → s < m → Wrote (f s) (midOf at (length out - at) out) r j → Writing all (turns (k + 1)) l (putMid at (length out - at) out r) (at + j)
       write-more p = writing-more (f s) (turns (k + 1)) (next p)
 
-    module _ {all b : List ℕ} {at₀ at : ℕ} (w : Matching all (turns k) b at₀ at) where
-      pub match-skip : m ≤ s → Matching all (turns (k + 1)) b at₀ at
-      match-skip p = subst (λ (x : List ℕ). Matching all x b at₀ at) (turns-past p) w
-
-      following : s < m → Matching all (f s ++ turns (k + 1)) b at₀ at
-      following p = subst (λ (x : List ℕ). Matching all x b at₀ at) (turns-next p) w
-
-      pub match-more : {j : ℕ} → s < m → Matched b at (f s) (At j) → Matching all (turns (k + 1)) b at₀ j
-      match-more p = matching-more (f s) (turns (k + 1)) (following p)
-
-      pub match-off : {n : ℕ} → s < m → Matched b at (f s) (Stop n) → Matched b at₀ all (Stop n)
-      match-off p = matching-off (f s) (turns (k + 1)) (following p)
-
   pub turns-over : {k : ℕ} → 256 ≤ k → length (turns k) ≡ 0
   turns-over {k} h = ap length (turns-none k h)
 
   pub write-done : {all l out : List ℕ} {at k : ℕ} → Writing all (turns k) l out at → 256 ≤ k → Wrote all l out at
   write-done {all} {l} {out} {at} {k} w h = writing-done (subst (λ (x : List ℕ). Writing all x l out at) (turns-none k h) w)
-
-  pub match-done : {all b : List ℕ} {at₀ at k : ℕ} → Matching all (turns k) b at₀ at → 256 ≤ k → Matched b at₀ all (At at)
-  match-done {all} {b} {at₀} {at} {k} w h = matching-done (subst (λ (x : List ℕ). Matching all x b at₀ at) (turns-none k h) w)

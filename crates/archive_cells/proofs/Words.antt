@@ -1,4 +1,4 @@
--- Numbers as words, and how a loop writes them or compares with them: those from place i on are left.
+-- Numbers as words, and how a loop writes them: those from place i on are left.
 use mathlib.Core.Path.{_≡_}
 use mathlib.Core.List.{List, []}
 use Prim.Native.Nat.{ℕ, _+_, _-_, _*_, _≤_, _<_}
@@ -8,11 +8,8 @@ use borrow.Rule.Slice.PartMut.{midOf, putMid}
 use Rattle.fields.specs.Words.{wordBytes, wordsBytes}
 use Rattle.fields.specs.WordsLaws.{length-wordsBytes, wordsBytes-on}
 use Rattle.fields.specs.Written.{Wrote}
-use Rattle.fields_walk.specs.declared.Walk.the-variants.{Stop, At}
 use Rattle.archive_cells.specs.Writing.{Writing}
 use Rattle.archive_cells.specs.WritingLaws.{writing-more, writing-room, writing-done}
-use Rattle.archive_cells.specs.Matched.{Matching, Matched}
-use Rattle.archive_cells.specs.MatchedLaws.{matching-more, matching-off, matching-done}
 
 module _ (ws : List ℕ) (i : ℕ) where
   -- the bytes of all, of the one at place i, and of those from a place on
@@ -25,7 +22,7 @@ module _ (ws : List ℕ) (i : ℕ) where
   abbrev from : ℕ → List ℕ
   from k = wordsBytes (drop k ws)
 
-  words-none : length ws ≤ i → from i ≡ []
+  pub words-none : length ws ≤ i → from i ≡ []
   unfolding wordsBytes
   words-none h = rw (drop-of-length-le ws {i = i} h)
 
@@ -40,15 +37,3 @@ module _ (ws : List ℕ) (i : ℕ) where
 
     pub words-done : length ws ≤ i → Wrote all l m at
     words-done h = writing-done (rw (words-none h) at w)
-
-  module _ {s : List ℕ} {at₀ at : ℕ} (w : Matching all (from i) s at₀ at) where
-    -- one more stands there
-    pub words-met : {k : ℕ} → i < length ws → Matched s at here (At k) → Matching all (from (i + 1)) s at₀ k
-    words-met h m = matching-more here (from (i + 1)) (rw (wordsBytes-on ws i h) at w) m
-
-    -- the next does not
-    pub words-off : {n : ℕ} → i < length ws → Matched s at here (Stop n) → Matched s at₀ all (Stop n)
-    words-off h m = matching-off here (from (i + 1)) (rw (wordsBytes-on ws i h) at w) m
-
-    pub words-end : length ws ≤ i → Matched s at₀ all (At at)
-    words-end h = matching-done (rw (words-none h) at w)

@@ -9,7 +9,7 @@ ghost use Rattle.fields.specs.Written.{Wrote};
 ghost use Rattle.rows.specs.Rows.{cut, rowTotal};
 ghost use Rattle.rows_order.specs.Index.{key};
 ghost use Rattle.archive_entries.specs.Layout.{cellBytes};
-ghost use Rattle.archive_cells.specs.Matched.{Matched};
+ghost use Rattle.archive_compare.specs.Matched.{Matched};
 ghost use Rattle.archive_groups.specs.Masks.{masked, Mask};
 ghost use Rattle.archive_groups.specs.Groups.{Groupable, groupBytes};
 

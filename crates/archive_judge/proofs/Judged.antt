@@ -38,7 +38,7 @@ use Rattle.archive_entries.proofs.Limits.{limits-summable, limits-base}
 use Rattle.rows_ready.specs.Ready.{Ready}
 use Rattle.rows_condense.specs.Shared.{normalRows}
 use Rattle.archive_bases.specs.Listed.{ourBases}
-use Rattle.archive_cells.specs.Matched.{Matched}
+use Rattle.archive_compare.specs.Matched.{Matched}
 use Rattle.archive_judge.specs.Read.{Read, sections}
 
 -- the archive of sizes and base rows is the header and what the rows require, and their check word

@@ -9,7 +9,7 @@ ghost use Rattle.cube.specs.Codes.{plain};
 ghost use Rattle.cube.specs.Condensed.{normals};
 ghost use Rattle.rows.specs.Rows.{cut, rowsOf};
 ghost use Rattle.archive_entries.specs.Layout.{archiveBytes};
-ghost use Rattle.archive_cells.specs.Matched.{Matched};
+ghost use Rattle.archive_compare.specs.Matched.{Matched};
 ghost use Rattle.archive_bases.specs.Listed.{Listed};
 ghost use Rattle.archive_normals.specs.Grouped.{Grouped};
 ghost use Rattle.archive_judge.specs.Read.{Read, sections};
@@ -30,7 +30,7 @@ fn match_sections(
     requires { ⌜ cells ≡ length (normals (plain dims) (cut dims n (now rows))) ⌝ }
     ensures { λ r. ⌜ Matched (now (s .entry)) start (sections dims (rowsOf dims n (now (rows .entry)))) r ⌝ }
 {
-    let at = match archive_cells::match_word(s, start, n as u32) {
+    let at = match archive_compare::match_word(s, start, n as u32) {
         Walk::Stop(stop) => return Walk::Stop(stop),
         Walk::At(at) => at,
     };
@@ -38,7 +38,7 @@ fn match_sections(
         Walk::Stop(stop) => return Walk::Stop(stop),
         Walk::At(end) => end,
     };
-    let next = match archive_cells::match_word(s, end, cells as u32) {
+    let next = match archive_compare::match_word(s, end, cells as u32) {
         Walk::Stop(stop) => return Walk::Stop(stop),
         Walk::At(next) => next,
     };

@@ -5,7 +5,7 @@ ghost use lib.ListN.{length};
 ghost use Rattle.lattice.specs.Sets.{full};
 ghost use Rattle.fields.specs.Written.{Wrote};
 ghost use Rattle.rows.specs.Rows.{rowsOf};
-ghost use Rattle.archive_cells.specs.Matched.{Matched};
+ghost use Rattle.archive_compare.specs.Matched.{Matched};
 ghost use Rattle.archive_normals.specs.Grouped.{Grouped};
 ghost use Rattle.archive_normals.specs.Normals.{sharedBytes, commonBytes, blankBytes, normalBytes};
 
@@ -134,7 +134,7 @@ fn match_blank(s: &[u8], at: usize, n: usize, dims: usize) -> Walk
     if n != 0 {
         return Walk::At(at);
     }
-    archive_cells::match_blank(s, at, dims)
+    archive_compare::match_blank(s, at, dims)
 }
 
 // Whether the bytes s have the normal entries from a place on.

@@ -28,7 +28,8 @@ use Rattle.cube.proofs.Questions.{lookup-none}
 use Rattle.rows.specs.Rows.{rowAt}
 use Rattle.rows.proofs.Flat.{blank}
 use Rattle.archive_entries.specs.Places.{rowThere}
-use Rattle.call_questions.specs.Questions.{rowless, First, entryBefore, NormalsAt}
+use Rattle.call_search.specs.Search.{entryBefore}
+use Rattle.call_questions.specs.Questions.{rowless, First, NormalsAt}
 use Rattle.call_questions.proofs.Stored.{held-count, held-there}
 
 -- the member at a place

@@ -19,9 +19,10 @@ use Rattle.rows.proofs.Flat.{rows-length}
 use Rattle.archive_entries.proofs.Limits.{normals-few}
 use Rattle.rows_ready.specs.Ready.{Ready}
 use Rattle.rows_ready.proofs.Ready.{ready-base}
+use Rattle.call_search.specs.Search.{entryBefore}
 use Rattle.call_questions.specs.declared.Look.{Look}
 use Rattle.call_questions.specs.declared.Look.the-variants.{Cell}
-use Rattle.call_questions.specs.Questions.{looked, rowless, First, entryBefore, NormalsAt}
+use Rattle.call_questions.specs.Questions.{looked, rowless, First, NormalsAt}
 use Rattle.call_questions.proofs.Stored.{held-count, held-room, held-within}
 use Rattle.call_questions.proofs.Answers.{answer-none, answer-row, shared-cell, found-here, answer-normal}
 

@@ -5,20 +5,17 @@
 --   looked a                  the enum's case and values for an answer
 --   rowless d n c             the answer of n base rows for a cell that none of them falls in: 'no record', but for all ALL of an empty table
 --   First c xs r              r is the place of the first of the codes xs that fall in cell c, or how many there are
---   entryBefore s at c k      entry k from a place on is listed before cell c
 --   NormalsAt s at n d rows   the bytes s have the n normal entries of base rows from a place on
 use mathlib.Core.Path.{_≡_}
 use mathlib.Core.Bool.{Bool, true, false, _&&_, _||_}
 use mathlib.Core.List.{List, [], _∷_, map, flatMap}
-use Prim.Native.Nat.{ℕ, _+_, _*_, _≤_, _<_}
+use Prim.Native.Nat.{ℕ, _≤_, _<_}
 use lib.Dec.{eqb, ltb}
 use lib.ListN.{length, drop}
-use Rattle.lists.specs.Order.{earlier}
-use Rattle.fields.specs.Words.{wordsAt}
 use Rattle.fields.specs.Opening.{startsWith}
 use Rattle.cube.specs.declared.Total.{Total}
 use Rattle.cube.specs.Measure.{Row}
-use Rattle.cube.specs.Codes.{ALL, falls, keys, plain}
+use Rattle.cube.specs.Codes.{ALL, falls, plain}
 use Rattle.cube.specs.Condensed.{normal, Answer, no-record, found, lookup}
 use Rattle.rows_ready.specs.Blank.{blankRows}
 use Rattle.rows.specs.Rows.{rowAt}
@@ -44,9 +41,6 @@ pub record First (c : List ℕ) (xs : List (List ℕ)) (r : ℕ) : Type 0 where
   pub within : r ≤ length xs
   pub before : (i : ℕ) → i < r → falls c (rowAt xs i) ≡ false
   pub here : r < length xs → falls c (rowAt xs r) ≡ true
-
-abbrev pub entryBefore : List ℕ → ℕ → List ℕ → ℕ → Bool
-entryBefore s at c k = earlier (keys (wordsAt s (length c) (at + k * (4 * length c + 12)))) (keys c)
 
 pub record NormalsAt (s : List ℕ) (at n d : ℕ) (rows : List (Row Total)) : Type 0 where
   pub within : at ≤ length s

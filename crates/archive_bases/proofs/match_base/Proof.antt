@@ -8,7 +8,7 @@ use lib.ListN.{length}
 use Rattle.fields.specs.Words.{wordsBytes}
 use Rattle.rows_lists.proofs.Lists.{list-length}
 use Rattle.archive_cells.specs.ListBytes.{listBytes}
-use Rattle.archive_cells.specs.MatchedLaws.{matched-as}
+use Rattle.archive_compare.specs.MatchedLaws.{matched-as}
 use Rattle.archive_bases.proofs.Bases.{base-words}
 use borrow.Author.Needs.{needs}
 use Rattle.archive_bases.proofs.match_base.Statement.{statement}

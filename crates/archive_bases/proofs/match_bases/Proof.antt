@@ -5,8 +5,8 @@ use native.Mathlib.Omega.{arith}
 use lib.ListN.{drop}
 use Rattle.rows.specs.Rows.{rowsOf}
 use Rattle.archive_entries.specs.Layout.{baseBytes}
-use Rattle.archive_cells.specs.Matched.{Matching}
-use Rattle.archive_cells.specs.MatchedLaws.{matching-none}
+use Rattle.archive_compare.specs.Matched.{Matching}
+use Rattle.archive_compare.specs.MatchedLaws.{matching-none}
 use Rattle.archive_bases.specs.Listed.{ourBases}
 use Rattle.archive_bases.proofs.Loops.{match-more, match-off, match-done}
 use borrow.Author.Needs.{needs}

@@ -14,8 +14,8 @@ use Rattle.fields_sums.specs.Twos.{sumBytes}
 use Rattle.fields.specs.Opening.{startsWith}
 use Rattle.archive_entries.specs.Layout.{cellBytes}
 use Rattle.archive_entries.proofs.Lengths.{cell-length}
-use Rattle.archive_cells.specs.Matched.{Matched}
-use Rattle.archive_cells.specs.MatchedLaws.{matched-on, matched-none, matched-short, matched-told, matched-stop, matched-then}
+use Rattle.archive_compare.specs.Matched.{Matched}
+use Rattle.archive_compare.specs.MatchedLaws.{matched-on, matched-none, matched-short, matched-told, matched-stop, matched-then}
 use Rattle.archive_groups.specs.Masks.{masked}
 use Rattle.archive_groups.proofs.Masks.{length-masked}
 use Rattle.archive_groups.proofs.Shown.{shown-length}

@@ -14,8 +14,8 @@ use Rattle.archive_entries.specs.Layout.{cellBytes}
 use Rattle.rows_slots.specs.Slots.{rowIn}
 use Rattle.rows_slots.specs.Summed.{plusRow}
 use Rattle.rows_slots.proofs.Summing.{rowsFrom, adding-none, adding-bounds, adding-on, adding-end, entry-named}
-use Rattle.archive_cells.specs.Matched.{Matched, Matching}
-use Rattle.archive_cells.specs.MatchedLaws.{matching-none, matching-more, matching-off, matching-done, matched-as, matched-told}
+use Rattle.archive_compare.specs.Matched.{Matched, Matching}
+use Rattle.archive_compare.specs.MatchedLaws.{matching-none, matching-more, matching-off, matching-done, matched-as, matched-told}
 use Rattle.archive_groups.specs.Masks.{masked}
 use Rattle.archive_groups.specs.Groups.{groupBytes}
 use Rattle.archive_groups.proofs.Masks.{masked-key}

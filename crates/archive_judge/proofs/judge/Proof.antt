@@ -4,7 +4,7 @@ use denote.Ref.{now}
 use Rattle.rows_ready.specs.Ready.{Ready}
 use Rattle.rows_ready.proofs.Ready.{ready-base}
 use Rattle.archive_normals.specs.Grouped.{Grouped}
-use Rattle.archive_cells.specs.MatchedLaws.{matched-told}
+use Rattle.archive_compare.specs.MatchedLaws.{matched-told}
 use Rattle.fields_walk.specs.Limits.{Bytes}
 use Rattle.fields_walk.proofs.Limits.{bytes-of}
 use Rattle.archive_judge.proofs.Judged.{read-ready, read-start, other-of, judged-of}

@@ -12,7 +12,7 @@ use Rattle.rows.proofs.Rows.{rows-codes}
 use Rattle.rows.proofs.Flat.{rows-length}
 use Rattle.archive_bases.specs.Listed.{ourBases}
 use Rattle.archive_normals.specs.Normals.{normalBytes}
-use Rattle.archive_cells.specs.MatchedLaws.{matched-told, matched-as, matched-stop, matched-then}
+use Rattle.archive_compare.specs.MatchedLaws.{matched-told, matched-as, matched-stop, matched-then}
 use Rattle.archive_judge.specs.Read.{sections}
 use Rattle.archive_judge.proofs.Parts.{four-parts}
 use borrow.Author.Needs.{needs}

@@ -2,7 +2,7 @@
 use mathlib.Core.Path.{sym}
 use mathlib.Core.List.{[]}
 use denote.Ref.{now}
-use Rattle.archive_cells.specs.MatchedLaws.{matching-none, matching-done, matched-as}
+use Rattle.archive_compare.specs.MatchedLaws.{matching-none, matching-done, matched-as}
 use Rattle.archive_normals.proofs.Sections.{blank-none, blank-one}
 use borrow.Author.Needs.{needs}
 use Rattle.archive_normals.proofs.match_blank.Statement.{statement}

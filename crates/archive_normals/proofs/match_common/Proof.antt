@@ -7,9 +7,10 @@ use lib.Pow.{pow-pos}
 use denote.Ref.{now}
 use Rattle.lattice.specs.Sets.{full}
 use Rattle.rows.specs.Rows.{rowsOf}
-use Rattle.archive_cells.specs.Matched.{Matching}
-use Rattle.archive_cells.specs.MatchedLaws.{matching-none, matched-told}
-use Rattle.archive_cells.proofs.Turns.{turns, match-skip, match-more, match-off, match-done}
+use Rattle.archive_compare.specs.Matched.{Matching}
+use Rattle.archive_compare.specs.MatchedLaws.{matching-none, matched-told}
+use Rattle.archive_cells.proofs.Turns.{turns}
+use Rattle.archive_compare.proofs.Turns.{match-skip, match-more, match-off, match-done}
 use Rattle.archive_normals.specs.Normals.{sharedBytes, commonBytes}
 use Rattle.archive_normals.proofs.Sections.{turns-start}
 use borrow.Author.Needs.{needs}

@@ -4,7 +4,7 @@ use mathlib.Core.List.{_++_}
 use denote.Ref.{now}
 use Rattle.rows.specs.Rows.{rowsOf}
 use Rattle.rows.proofs.Flat.{rows-length}
-use Rattle.archive_cells.specs.MatchedLaws.{matched-told, matched-as, matched-stop, matched-then}
+use Rattle.archive_compare.specs.MatchedLaws.{matched-told, matched-as, matched-stop, matched-then}
 use Rattle.archive_normals.specs.Normals.{commonBytes, blankBytes, normalBytes}
 use Rattle.archive_normals.proofs.Sections.{normal-parts}
 use borrow.Author.Needs.{needs}

@@ -1,5 +1,5 @@
 -- `archive_normals::match_shared` meets its contract: the groups of the set's slot are compared.
-use Rattle.archive_cells.specs.MatchedLaws.{matched-as}
+use Rattle.archive_compare.specs.MatchedLaws.{matched-as}
 use Rattle.archive_normals.proofs.Slotted.{slot-place, slot-groupable, slot-bytes}
 use Rattle.archive_normals.proofs.match_shared.Statement.{statement}
 use Rattle.archive_normals.proofs.match_shared.Tie as tie

@@ -1,4 +1,4 @@
--- `call_questions::cell_before` meets its contract: the sizes decide where they differ, then the sets, then the codes.
+-- `call_search::cell_before` meets its contract: the sizes decide where they differ, then the sets, then the codes.
 use mathlib.Core.Path.{_≡_, sym, ap, ap₂, _∙_}
 use native.Mathlib.Omega.{arith}
 use lib.Dec.{ltb}
@@ -10,8 +10,8 @@ use Rattle.cube.specs.Codes.{set-of, keys}
 use Rattle.cube.proofs.CellOrder.{keys-size, keys-set, keys-codes}
 use Rattle.rows_compare.specs.Compare.{isBefore}
 use Rattle.archive_entries.proofs.After.{earlier-compared}
-use Rattle.call_questions.proofs.cell_before.Statement.{statement}
-use Rattle.call_questions.proofs.cell_before.Tie as tie
+use Rattle.call_search.proofs.cell_before.Statement.{statement}
+use Rattle.call_search.proofs.cell_before.Tie as tie
 
 -- the sizes that are compared
 mine-size : (c : tie.After-size-of-set2) → c .before .size-of-set .result ≡ size (set-of (now (c .before .before .before .before .before .before .args .mine)))

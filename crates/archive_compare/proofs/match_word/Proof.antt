@@ -1,10 +1,10 @@
--- `archive_cells::match_word` meets its contract: there are fewer than four bytes, or the word stands there, or it does not.
+-- `archive_compare::match_word` meets its contract: there are fewer than four bytes, or the word stands there, or it does not.
 use mathlib.Core.Path.{sym, _∙_}
 use native.Mathlib.Omega.{arith}
-use Rattle.archive_cells.specs.MatchedLaws.{matched-on, matched-none, matched-short}
+use Rattle.archive_compare.specs.MatchedLaws.{matched-on, matched-none, matched-short}
 use borrow.Author.Needs.{needs}
-use Rattle.archive_cells.proofs.match_word.Statement.{statement}
-use Rattle.archive_cells.proofs.match_word.Tie as tie
+use Rattle.archive_compare.proofs.match_word.Statement.{statement}
+use Rattle.archive_compare.proofs.match_word.Tie as tie
 
 returns : tie.Need-returns
 returns c = matched-short (c .before .before .pre) (omega (arith, c .if1 .taken))

@@ -1,14 +1,14 @@
--- `archive_cells::match_words` meets its contract. The invariant: the words from place i on are left to compare.
+-- `archive_compare::match_words` meets its contract. The invariant: the words from place i on are left to compare.
 use Prim.Native.Nat.{_-_, _≤_}
 use denote.Ref.{now}
 use lib.ListN.{length, drop}
 use Rattle.fields.specs.Words.{wordsBytes}
-use Rattle.archive_cells.specs.Matched.{Matching}
-use Rattle.archive_cells.specs.MatchedLaws.{matching-none, matched-told}
-use Rattle.archive_cells.proofs.Words.{words-met, words-off, words-end}
+use Rattle.archive_compare.specs.Matched.{Matching}
+use Rattle.archive_compare.specs.MatchedLaws.{matching-none, matched-told}
+use Rattle.archive_compare.proofs.Words.{words-met, words-off, words-end}
 use borrow.Author.Needs.{needs}
-use Rattle.archive_cells.proofs.match_words.Statement.{statement}
-use Rattle.archive_cells.proofs.match_words.Tie as tie
+use Rattle.archive_compare.proofs.match_words.Statement.{statement}
+use Rattle.archive_compare.proofs.match_words.Tie as tie
 
 abbrev Inv-loop : tie.InvT-loop
 Inv-loop s start ws at₀ i₀ i-end at i = (i ≤ length ws) × Matching (wordsBytes ws) (wordsBytes (drop i ws)) s start at

@@ -12,7 +12,7 @@ use Rattle.fields.specs.Opening.{startsWith}
 use Rattle.fields.specs.OpeningLaws.{startsWith-append, starts-length}
 use Rattle.fields_walk.specs.declared.Walk.{Walk}
 use Rattle.fields_walk.specs.declared.Walk.the-variants.{Stop, At}
-use Rattle.archive_cells.specs.Matched.{Matched, Matching}
+use Rattle.archive_compare.specs.Matched.{Matched, Matching}
 
 pub matching-none : (all s : List ℕ) (at : ℕ) → at ≤ length s → Matching all all s at at
 matching-none all s at h = record { done = []; whole = refl; begun = refl; place = sym (add-zero at); within = h }

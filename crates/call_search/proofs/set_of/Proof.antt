@@ -1,4 +1,4 @@
--- `call_questions::set_of` meets its contract: the set in hand is that of the dimensions behind the place, which are fewer than 8 until the last turn.
+-- `call_search::set_of` meets its contract: the set in hand is that of the dimensions behind the place, which are fewer than 8 until the last turn.
 use mathlib.Core.Path.{_≡_, ap, _∙_}
 use Prim.Native.Nat.{ℕ, _≤_, _<_}
 use native.Mathlib.Omega.{arith}
@@ -6,9 +6,9 @@ use borrow.Author.Needs.{needs}
 use denote.Ref.{now}
 use lib.ListN.{length, drop}
 use Rattle.cube.specs.Codes.{set-of}
-use Rattle.call_questions.proofs.CellSet.{set-none, set-small, set-with, set-without}
-use Rattle.call_questions.proofs.set_of.Statement.{statement}
-use Rattle.call_questions.proofs.set_of.Tie as tie
+use Rattle.call_search.proofs.CellSet.{set-none, set-small, set-with, set-without}
+use Rattle.call_search.proofs.set_of.Statement.{statement}
+use Rattle.call_search.proofs.set_of.Tie as tie
 
 abbrev Inv-loop : tie.InvT-loop
 Inv-loop cell set₀ d₀ set d = (d ≤ length cell) × (set ≡ set-of (drop d cell))

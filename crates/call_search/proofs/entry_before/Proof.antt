@@ -1,4 +1,4 @@
--- `call_questions::entry_before` meets its contract: the entry's cell is read, and compared.
+-- `call_search::entry_before` meets its contract: the entry's cell is read, and compared.
 use mathlib.Core.Path.{sym, ap, _∙_}
 use mathlib.Core.List.{List, [], _∷_}
 use Prim.Native.Nat.{ℕ}
@@ -9,8 +9,8 @@ use denote.Ref.{now}
 use Rattle.lists.specs.Order.{earlier}
 use Rattle.cube.specs.Codes.{keys}
 use Rattle.archive_entries.proofs.Front.{front-is, front-length, front-room}
-use Rattle.call_questions.proofs.entry_before.Statement.{statement}
-use Rattle.call_questions.proofs.entry_before.Tie as tie
+use Rattle.call_search.proofs.entry_before.Statement.{statement}
+use Rattle.call_search.proofs.entry_before.Tie as tie
 
 abbrev zeros : List ℕ
 zeros = 0 ∷ 0 ∷ 0 ∷ 0 ∷ 0 ∷ 0 ∷ 0 ∷ 0 ∷ []

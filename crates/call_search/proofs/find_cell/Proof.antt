@@ -1,4 +1,4 @@
--- `call_questions::find_cell` meets its contract: the cell's place lies between `low` and `high`.
+-- `call_search::find_cell` meets its contract: the cell's place lies between `low` and `high`.
 use mathlib.Core.Path.{sym, _∙_}
 use Prim.Native.Nat.{_+_, _-_, _*_, _/_, _≤_}
 use native.Mathlib.Omega.{arith}
@@ -8,9 +8,9 @@ use lib.ListN.{length}
 use Rattle.lists.specs.Search.{Between}
 use Rattle.lists.proofs.Search.{between-all, between-left, between-right, between-done}
 use Rattle.rows.proofs.Rows.{row-within}
-use Rattle.call_questions.specs.Questions.{entryBefore}
-use Rattle.call_questions.proofs.find_cell.Statement.{statement}
-use Rattle.call_questions.proofs.find_cell.Tie as tie
+use Rattle.call_search.specs.Search.{entryBefore}
+use Rattle.call_search.proofs.find_cell.Statement.{statement}
+use Rattle.call_search.proofs.find_cell.Tie as tie
 
 abbrev Inv-loop : tie.InvT-loop
 Inv-loop s at n cell width low₀ high₀ low high = Between (entryBefore s at cell) n low high

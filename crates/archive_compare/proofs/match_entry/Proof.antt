@@ -1,13 +1,13 @@
--- `archive_cells::match_entry` meets its contract: the words of the row, the length of the list, then its sets.
+-- `archive_compare::match_entry` meets its contract: the words of the row, the length of the list, then its sets.
 use mathlib.Core.Path.{sym}
 use denote.Ref.{now}
 use Rattle.fields.specs.Words.{wordsBytes}
 use Rattle.fields_walk.specs.declared.Walk.the-variants.{Stop}
 use Rattle.archive_cells.specs.ListBytes.{list-is}
-use Rattle.archive_cells.specs.MatchedLaws.{matched-as, matched-told, matched-stop, matched-then}
+use Rattle.archive_compare.specs.MatchedLaws.{matched-as, matched-told, matched-stop, matched-then}
 use borrow.Author.Needs.{needs}
-use Rattle.archive_cells.proofs.match_entry.Statement.{statement}
-use Rattle.archive_cells.proofs.match_entry.Tie as tie
+use Rattle.archive_compare.proofs.match_entry.Statement.{statement}
+use Rattle.archive_compare.proofs.match_entry.Tie as tie
 
 returns : tie.Need-returns
 returns c = matched-stop _ (matched-told (c .before .n .given .1) (c .before .before .before .match-words .ensures))

@@ -1,0 +1,3 @@
+-- Bytes compared with what they should be. `MatchedLaws` has what callers use of it.
+pub mod Matched
+pub mod MatchedLaws

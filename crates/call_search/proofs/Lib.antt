@@ -1,0 +1,2 @@
+-- Laws of the set of a cell.
+pub mod CellSet

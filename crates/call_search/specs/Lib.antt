@@ -1,0 +1,2 @@
+-- A cell searched among entries.
+pub mod Search
