@@ -4,7 +4,7 @@ use mathlib.Core.List.{List, [], _∷_, _++_, flatMap}
 use Prim.Native.Nat.{ℕ, zero, suc, _+_, _-_, _*_, _%_, _/_, _^_, _≤_, _<_}
 use native.Mathlib.Nat.{zero-add, suc-add, zero-mul, suc-mul}
 use native.Mathlib.Omega.{arith}
-use lib.ListN.{length, getD, take, drop, replicate, length-drop, length-replicate, take-append-drop}
+use lib.ListN.{length, getD, take, drop, replicate, length-drop, take-append-drop}
 use lib.Seq.{take-all}
 use Rattle.lists.proofs.Places.{EachBelow, below-drop}
 use Rattle.lists.proofs.Parts.{take-more}
@@ -16,7 +16,6 @@ use Rattle.cube.specs.Measure.{nothing}
 use Rattle.cube.specs.Codes.{ALL}
 use Rattle.rows.specs.Rows.{width, rowOf, rowsOf}
 use Rattle.archive_entries.specs.Layout.{cellBytes}
-use Rattle.archive_entries.proofs.Lengths.{cell-length}
 
 -- the bytes of a sum are those of its two words
 sum-bytes : (low high : ℕ) → low < 2 ^ 32 → high < 2 ^ 32 → sumBytes (sumOf low high) ≡ wordBytes low ++ wordBytes high
@@ -76,7 +75,3 @@ blank-words d h =
     let all = take-all (11 - (8 - d)) (drop (8 - d) blank) (simp length-drop (omega arith)) in
     let there : drop (8 - d) blank ≡ replicate d ALL ++ zeros = ap (λ (n : ℕ). drop (8 - d) (replicate n ALL ++ zeros)) whole ∙ drop-alls (8 - d) d zeros in
     ap wordsBytes (all ∙ there) ∙ wordsBytes-append (replicate d ALL) zeros
-
-pub blank-length : (d : ℕ) → d ≤ 8 → length (wordsBytes (end d)) ≡ 4 * d + 12
-blank-length d h =
-    ap length (blank-words d h) ∙ cell-length d (record { codes = replicate d ALL; total = nothing }) (length-replicate d ALL)

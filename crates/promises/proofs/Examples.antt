@@ -26,7 +26,6 @@ use Rattle.archive_entries.specs.Reading.{rising, fair, amount, list, entry, en
 use Rattle.call_cuboids.specs.Cuboids.{cuboidBytes, expansionBytes}
 use Rattle.call_answers.specs.declared.Checked.the-variants as Check
 use Rattle.call_answers.specs.declared.Found.{Found}
-use Rattle.call_answers.specs.declared.Found.the-variants as Find
 use Rattle.call_answers.specs.declared.Fixed.the-variants.{Yes, No, Stop}
 use Rattle.call_answers.specs.Answers.{Outcome, stop as stopped, bytes, within}
 use Rattle.call_answers.specs.Calls.{builds, checks, listsCuboid, expands, entriesIn, told, looksUp}
