@@ -3,16 +3,16 @@ ghost use Rattle.std.specs.Prelude.{◌≡◌, ◌≤◌, ◌<◌, length};
 ghost use mathlib.Core.List.{flat_map};
 ghost use Rattle.fields.specs.Written.{Wrote};
 ghost use Rattle.rows.specs.Rows.{rows_of};
-ghost use Rattle.archive_entries.specs.Layout.{baseBytes, setsIn};
+ghost use Rattle.archive_entries.specs.Layout.{base_bytes, sets_in};
 ghost use Rattle.archive_compare.specs.Matched.{Matched};
-ghost use Rattle.archive_bases.specs.Listed.{Listed, ourBase, ourBases};
+ghost use Rattle.archive_bases.specs.Listed.{Listed, our_base, our_bases};
 
 use fields_walk::Walk;
 
 // How many sets the base entries list.
 pub fn sets_in(rows: &[u32], n: usize, dims: usize, lists: &[u8]) -> usize
     requires { Listed dims n rows.now lists.now }
-    ensures value { result ≡ setsIn (ourBases dims (rows_of dims n rows.now)) }
+    ensures value { result ≡ sets_in (our_bases dims (rows_of dims n rows.now)) }
     ensures upper_bound { result ≤ 71680 }
 {
     let mut all = 0;
@@ -25,8 +25,8 @@ pub fn sets_in(rows: &[u32], n: usize, dims: usize, lists: &[u8]) -> usize
 // Writes the base entry of a row.
 fn put_base(out: &mut [u8], rows: &[u32], n: usize, dims: usize, lists: &[u8], row: usize) -> usize
     requires listed { Listed dims n rows.now lists.now × (row < n) }
-    requires row_in_bounds { length (baseBytes (ourBase dims (rows_of dims n rows.now) row)) ≤ length out.old }
-    ensures { Wrote (baseBytes (ourBase dims (rows_of dims n rows.now) row)) out.old out.new result }
+    requires row_in_bounds { length (base_bytes (our_base dims (rows_of dims n rows.now) row)) ≤ length out.old }
+    ensures { Wrote (base_bytes (our_base dims (rows_of dims n rows.now) row)) out.old out.new result }
 {
     let mine = rows::words_of(rows, n, dims, row);
     let list = rows_lists::list_of(lists, n, row);
@@ -36,8 +36,8 @@ fn put_base(out: &mut [u8], rows: &[u32], n: usize, dims: usize, lists: &[u8], r
 // Writes the base entries.
 pub fn put_bases(out: &mut [u8], rows: &[u32], n: usize, dims: usize, lists: &[u8]) -> usize
     requires listed { Listed dims n rows.now lists.now }
-    requires rows_in_bounds { length (flat_map baseBytes (ourBases dims (rows_of dims n rows.now))) ≤ length out.old }
-    ensures { Wrote (flat_map baseBytes (ourBases dims (rows_of dims n rows.now))) out.old out.new result }
+    requires rows_in_bounds { length (flat_map base_bytes (our_bases dims (rows_of dims n rows.now))) ≤ length out.old }
+    ensures { Wrote (flat_map base_bytes (our_bases dims (rows_of dims n rows.now))) out.old out.new result }
 {
     let mut at = 0;
     for row in 0..n {
@@ -57,7 +57,7 @@ fn match_base(
     row: usize,
 ) -> Walk
     requires { Listed dims n rows.now lists.now × (row < n) × (at ≤ length s.now) }
-    ensures { Matched s.now at (baseBytes (ourBase dims (rows_of dims n rows.now) row)) result }
+    ensures { Matched s.now at (base_bytes (our_base dims (rows_of dims n rows.now) row)) result }
 {
     let mine = rows::words_of(rows, n, dims, row);
     let list = rows_lists::list_of(lists, n, row);
@@ -74,7 +74,7 @@ pub fn match_bases(
     lists: &[u8],
 ) -> Walk
     requires { Listed dims n rows.now lists.now × (start ≤ length s.now) }
-    ensures { Matched s.now start (flat_map baseBytes (ourBases dims (rows_of dims n rows.now))) result }
+    ensures { Matched s.now start (flat_map base_bytes (our_bases dims (rows_of dims n rows.now))) result }
 {
     let mut at = start;
     for row in 0..n {

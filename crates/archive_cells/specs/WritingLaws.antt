@@ -7,8 +7,8 @@ use Rattle.fields.specs.WrittenLaws.{wrote_none, wrote_then}
 use Rattle.archive_cells.specs.Writing.{Writing}
 
 module _ {A : Type 0} where
-  pub writing-none : (all l : List A) → Writing all all l l 0
-  writing-none all l = record { done = []; wrote = wrote_none l; whole = refl }
+  pub writing_none : (all l : List A) → Writing all all l l 0
+  writing_none all l = record { done = []; wrote = wrote_none l; whole = refl }
 
   -- one part more is written over the front of the rest
   pub writing_more : {all l m r : List A} {at k : ℕ} (part left : List A) → Writing all (part ++ left) l m at
@@ -19,12 +19,12 @@ module _ {A : Type 0} where
     whole = append_assoc w.done part left ∙ w.whole;
   }
 
-  pub writing-done : {all l m : List A} {at : ℕ} → Writing all [] l m at → Wrote all l m at
-  writing-done {all} {l} {m} {at} w = let e : w.done ≡ all = sym (append-nil w.done) ∙ w.whole in rw e at w.wrote
+  pub writing_done : {all l m : List A} {at : ℕ} → Writing all [] l m at → Wrote all l m at
+  writing_done {all} {l} {m} {at} w = let e : w.done ≡ all = sym (append-nil w.done) ∙ w.whole in rw e at w.wrote
 
   -- there is room for the part where there is room for all
-  pub writing-room : {all l m : List A} {at : ℕ} (part left : List A) → Writing all (part ++ left) l m at → length all ≤ length l → at + length part ≤ length m
-  writing-room {all} {l} {m} {at} part left w h =
+  pub writing_room : {all l m : List A} {at : ℕ} (part left : List A) → Writing all (part ++ left) l m at → length all ≤ length l → at + length part ≤ length m
+  writing_room {all} {l} {m} {at} part left w h =
       omega (arith, w.wrote.count, w.wrote.same, ap length w.whole, length-append w.done (part ++ left), length-append part left)
 
   -- the same list by another name

@@ -1,17 +1,17 @@
 // Cells and base entries as bytes, written over the front of lent bytes.
 ghost use Rattle.std.specs.Prelude.{◌++◌, ◌+◌, ◌*◌, ◌^◌, ◌≤◌, ◌<◌, length, replicate};
-ghost use Rattle.fields.specs.Words.{wordsBytes};
+ghost use Rattle.fields.specs.Words.{words_bytes};
 ghost use Rattle.fields.specs.Written.{Wrote};
-ghost use Rattle.fields_walk.specs.Fields.{headerBytes};
+ghost use Rattle.fields_walk.specs.Fields.{header_bytes};
 ghost use Rattle.cube.specs.Measure.{nothing};
 ghost use Rattle.cube.specs.Codes.{ALL};
-ghost use Rattle.archive_entries.specs.Layout.{CUBE, cellBytes};
-ghost use Rattle.archive_cells.specs.ListBytes.{listBytes};
+ghost use Rattle.archive_entries.specs.Layout.{CUBE, cell_bytes};
+ghost use Rattle.archive_cells.specs.ListBytes.{list_bytes};
 
 // Writes a list: how many numbers it has, then the numbers.
 pub fn put_list(out: &mut [u8], list: &[u32]) -> usize
     requires { (length list.now < 2 ^ 32) × (4 + 4 * length list.now ≤ length out.old) }
-    ensures { Wrote (listBytes list.now) out.old out.new result }
+    ensures { Wrote (list_bytes list.now) out.old out.new result }
 {
     let at = fields::put_word(out, list.len() as u32);
     at + fields::put_words(&mut out[at..], list)
@@ -20,7 +20,7 @@ pub fn put_list(out: &mut [u8], list: &[u32]) -> usize
 // Writes the front of an archive: the opening, D and the sizes.
 pub fn put_header(out: &mut [u8], sizes: &[u32]) -> usize
     requires { (length sizes.now ≤ 8) × (8 + 4 * length sizes.now ≤ length out.old) }
-    ensures { Wrote (headerBytes CUBE sizes.now) out.old out.new result }
+    ensures { Wrote (header_bytes CUBE sizes.now) out.old out.new result }
 {
     let at = fields::put_opening(out, &archive_entries::CUBE);
     at + put_list(&mut out[at..], sizes)
@@ -29,7 +29,7 @@ pub fn put_header(out: &mut [u8], sizes: &[u32]) -> usize
 // Writes the sets of a list, each as a word.
 fn put_sets(out: &mut [u8], sets: &[u8]) -> usize
     requires { 4 * length sets.now ≤ length out.old }
-    ensures { Wrote (wordsBytes sets.now) out.old out.new result }
+    ensures { Wrote (words_bytes sets.now) out.old out.new result }
 {
     let mut at = 0;
     for i in 0..sets.len() {
@@ -41,7 +41,7 @@ fn put_sets(out: &mut [u8], sets: &[u8]) -> usize
 // Writes a base entry: the words of a row, and its list.
 pub fn put_entry(out: &mut [u8], row: &[u32], list: &[u8]) -> usize
     requires { (length list.now ≤ 70) × (4 * length row.now + 4 + 4 * length list.now ≤ length out.old) }
-    ensures { Wrote (wordsBytes row.now ++ listBytes list.now) out.old out.new result }
+    ensures { Wrote (words_bytes row.now ++ list_bytes list.now) out.old out.new result }
 {
     let mut at = fields::put_words(out, row);
     at += fields::put_word(&mut out[at..], list.len() as u32);
@@ -57,7 +57,7 @@ pub const BLANK: [u32; 11] = [ALL, ALL, ALL, ALL, ALL, ALL, ALL, ALL, 0, 0, 0];
 // Writes the cell of an empty table.
 pub fn put_blank(out: &mut [u8], dims: usize) -> usize
     requires { (dims ≤ 8) × (4 * dims + 12 ≤ length out.old) }
-    ensures { Wrote (cellBytes (record { codes = replicate dims ALL; total = nothing })) out.old out.new result }
+    ensures { Wrote (cell_bytes (record { codes = replicate dims ALL; total = nothing })) out.old out.new result }
 {
     let blank = BLANK;
     let from = 8 - dims;

@@ -5,14 +5,14 @@ use lib.IntN.{ℤ, pos, negsuc, nat_abs, neg_ℤ, ◌*ℤ◌}
 use mir.Syntax.{w64}
 use mir.Val.{SFits}
 use Rattle.cube.specs.Bounds.{most}
-use Rattle.cube.proofs.Sums.{bounded-fits}
+use Rattle.cube.proofs.Sums.{bounded_fits}
 
 abs_neg : (k : ℕ) → nat_abs (neg_ℤ (pos k)) ≤ k
 abs_neg zero = omega arith
 abs_neg (suc k) = omega arith
 
 fits : (n : ℕ) (z : ℤ) → nat_abs z ≤ 2147483648 * n → n ≤ most → SFits w64 z
-fits n z h l = bounded-fits (record { sum = z; count = n }) (record { sum = h; count = l })
+fits n z h l = bounded_fits (record { sum = z; count = n }) (record { sum = h; count = l })
 
 module _ (n : ℕ) (h : n ≤ most) where
   pub least_fits : SFits w64 (negsuc 2147483647 *ℤ pos n)

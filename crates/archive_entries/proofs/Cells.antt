@@ -9,32 +9,32 @@ use Rattle.fields_walk.specs.declared.Walk.{Walk}
 use Rattle.fields_walk.specs.Parsed.{stop, got, many}
 use Rattle.fields_walk.specs.Fields.{room, word}
 use Rattle.fields_walk.specs.Walked.{Walked}
-use Rattle.fields_walk.proofs.Steps.{then-on, then-off, through, walked_as}
+use Rattle.fields_walk.proofs.Steps.{then_on, then_off, through, walked_as}
 use Rattle.fields_walk.proofs.Fields.{word-at-place, word-rest, word_on, word-off}
 use Rattle.cube.specs.declared.Total.{Total}
 use Rattle.cube.specs.Measure.{Row}
 use Rattle.archive_entries.specs.Reading.{cell, cells}
 use Rattle.fields_walk.proofs.Many.{many-length}
-use Rattle.fields_walk.proofs.Any.{Any, any-as, any_none, any-then, any_word, any_sum, any-many, any-walked}
+use Rattle.fields_walk.proofs.Any.{Any, any_as, any_none, any_then, any_word, any_sum, any_many, any_walked}
 
 -- a normal entry is so many bytes of any value
-any-cell : (d : ℕ) → Any (cell d) (4 * d + 12)
+any_cell : (d : ℕ) → Any (cell d) (4 * d + 12)
 unfolding cell
-any-cell d =
+any_cell d =
     let e : d * 4 + (8 + (4 + 0)) ≡ 4 * d + 12 = omega arith in
-    any-as e (any-then (any-many d any_word) (λ x. any-then any_sum (λ z. any-then any_word (λ n. any_none _))))
+    any_as e (any_then (any_many d any_word) (λ x. any_then any_sum (λ z. any_then any_word (λ n. any_none _))))
 
 module _ (s : List ℕ) (d at : ℕ) where
   pub cells-off : {n : ℕ} → room 4 (drop at s) ≡ stop n → cells d (drop at s) ≡ stop n
   unfolding cells
-  cells-off e = then-off (λ n. many n (cell d)) (word-off (drop at s) e)
+  cells-off e = then_off (λ n. many n (cell d)) (word-off (drop at s) e)
 
-  pub cells-on : {n : ℕ} {rest : List ℕ} {u : Unit {0}} {r : Walk} → room 4 (drop at s) ≡ got u rest → n ≡ word_at s at → Walked s (room (n * (4 * d + 12)) rest) r
+  pub cells_on : {n : ℕ} {rest : List ℕ} {u : Unit {0}} {r : Walk} → room 4 (drop at s) ≡ got u rest → n ≡ word_at s at → Walked s (room (n * (4 * d + 12)) rest) r
       → Walked s (cells d (drop at s)) r
   unfolding cells
-  cells-on {n} {rest} e f h =
+  cells_on {n} {rest} e f h =
       let w : word_at (drop at s) 0 ≡ n = word-at-place s at ∙ sym f in
-      walked_as (then-on (λ n. many n (cell d)) (word_on (drop at s) e) ∙ ap (λ (k : ℕ). many k (cell d) rest) w) (any-walked (any-many n (any-cell d)) h)
+      walked_as (then_on (λ n. many n (cell d)) (word_on (drop at s) e) ∙ ap (λ (k : ℕ). many k (cell d) rest) w) (any_walked (any_many n (any_cell d)) h)
 
 pub cells-read : (s : List ℕ) (d at : ℕ) {cs : List (Row Total)} {rest : List ℕ} → at ≤ length s → cells d (drop at s) ≡ got cs rest
     → (at + 4 ≤ length s) × (length cs ≡ word_at s at)

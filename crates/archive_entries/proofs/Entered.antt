@@ -10,51 +10,51 @@ use Rattle.lists.specs.Lists.{◌∈◌}
 use Rattle.lists.specs.Order.{Rising, earlier}
 use Rattle.lists.proofs.Tests.{cases}
 use Rattle.lists.proofs.Order.{by_codes}
-use Rattle.lists.proofs.Sorted.{rising-one, rising-cons}
+use Rattle.lists.proofs.Sorted.{rising-one, rising_cons}
 use Rattle.cube.specs.declared.Total.{Total}
 use Rattle.cube.specs.Measure.{Row, codes_of}
-use Rattle.cube.specs.Bounds.{most, canMake, count_of}
+use Rattle.cube.specs.Bounds.{most, can_make, count_of}
 use Rattle.archive_entries.specs.Layout.{Based, Held, Fair, Limits}
-use Rattle.archive_entries.specs.Reading.{rowsIn}
-use Rattle.archive_entries.proofs.Fair.{fair-true}
+use Rattle.archive_entries.specs.Reading.{rows_in}
+use Rattle.archive_entries.proofs.Fair.{fair_true}
 use Rattle.archive_entries.proofs.Written.{Enters, Entered}
 use Rattle.archive_entries.proofs.Walkable.{Walkable}
 
 module _ (zs : List ℕ) where
   -- what the test of a sum and a count said
-  enters-fair : {x : List ℕ} {before : ℕ} {b : Based} → Enters zs x before b
-      → (1 ≤ b.row.total.count) × (canMake b.row.total.count b.row.total.sum ≡ true) × (before + b.row.total.count ≤ most)
-  enters-fair {x} {before} {b} e = fair-true before b.row.total.sum b.row.total.count e.fits
+  enters_fair : {x : List ℕ} {before : ℕ} {b : Based} → Enters zs x before b
+      → (1 ≤ b.row.total.count) × (can_make b.row.total.count b.row.total.sum ≡ true) × (before + b.row.total.count ≤ most)
+  enters_fair {x} {before} {b} e = fair_true before b.row.total.sum b.row.total.count e.fits
 
   -- each came behind some codes and some total count
-  pub entered-each : (x : List ℕ) (before : ℕ) {b : Based} (bs : List Based) → Entered zs x before bs → b ∈ bs → (y : List ℕ) × (n : ℕ) × Enters zs y n b
-  entered-each x before [] e m = absurd (Memᴰ.not-nil m)
-  entered-each x before (c ∷ bs) e m = cases (Memᴰ.cases_cons m)
+  pub entered_each : (x : List ℕ) (before : ℕ) {b : Based} (bs : List Based) → Entered zs x before bs → b ∈ bs → (y : List ℕ) × (n : ℕ) × Enters zs y n b
+  entered_each x before [] e m = absurd (Memᴰ.not-nil m)
+  entered_each x before (c ∷ bs) e m = cases (Memᴰ.cases_cons m)
       (λ q. (x, before, subst (Enters zs x before) (sym q) e.0))
-      (entered-each c.row.codes (before + c.row.total.count) bs e.1)
+      (entered_each c.row.codes (before + c.row.total.count) bs e.1)
 
   -- the codes before the first, and those of all
-  entered-rising : (x : List ℕ) (before : ℕ) (bs : List Based) → Entered zs x before bs → Rising earlier (x ∷ codes_of (map (λ b. b.row) bs))
-  entered-rising x before [] e = rising-one earlier x
-  entered-rising x before (c ∷ bs) e = rising-cons earlier by_codes x c.row.codes (codes_of (map (λ b. b.row) bs)) e.0.after
-      (entered-rising c.row.codes (before + c.row.total.count) bs e.1)
+  entered_rising : (x : List ℕ) (before : ℕ) (bs : List Based) → Entered zs x before bs → Rising earlier (x ∷ codes_of (map (λ b. b.row) bs))
+  entered_rising x before [] e = rising-one earlier x
+  entered_rising x before (c ∷ bs) e = rising_cons earlier by_codes x c.row.codes (codes_of (map (λ b. b.row) bs)) e.0.after
+      (entered_rising c.row.codes (before + c.row.total.count) bs e.1)
 
-  entered-count : (x : List ℕ) (before : ℕ) (bs : List Based) → before ≤ most → Entered zs x before bs → before + count_of (map (λ b. b.row) bs) ≤ most
-  entered-count x before [] h e = omega (arith, h)
-  entered-count x before (c ∷ bs) h e = omega (arith, entered-count c.row.codes (before + c.row.total.count) bs (enters-fair e.0).2 e.1)
+  entered_count : (x : List ℕ) (before : ℕ) (bs : List Based) → before ≤ most → Entered zs x before bs → before + count_of (map (λ b. b.row) bs) ≤ most
+  entered_count x before [] h e = omega (arith, h)
+  entered_count x before (c ∷ bs) h e = omega (arith, entered_count c.row.codes (before + c.row.total.count) bs (enters_fair e.0).2 e.1)
 
-  entered-fair : (x : List ℕ) (before : ℕ) {r : Row Total} (bs : List Based) → Entered zs x before bs → r ∈ map (λ b. b.row) bs → Fair zs r
-  entered-fair x before bs e m =
+  entered_fair : (x : List ℕ) (before : ℕ) {r : Row Total} (bs : List Based) → Entered zs x before bs → r ∈ map (λ b. b.row) bs → Fair zs r
+  entered_fair x before bs e m =
       let b = Memᴰ.of_map (λ b. b.row) bs m in
-      let t = (entered-each x before bs e b.1).2 in
-      let f = enters-fair t in
+      let t = (entered_each x before bs e b.1).2 in
+      let f = enters_fair t in
       subst (Fair zs) b.2 (record { below = t.below; counted = f.0; made = f.1 })
 
-pub walkable-limits : (a : Held) → Walkable a → Limits a.sizes (rowsIn a)
-walkable-limits a w = record {
+pub walkable_limits : (a : Held) → Walkable a → Limits a.sizes (rows_in a)
+walkable_limits a w = record {
   sized = w.sized;
   few = omega (arith, w.few, length-map a.bases (λ b. b.row));
-  rising = (entered-rising a.sizes [] 0 a.bases w.entered).1;
-  each = λ r m. entered-fair a.sizes [] 0 a.bases w.entered m;
-  counts = omega (arith, entered-count a.sizes [] 0 a.bases (omega arith) w.entered);
+  rising = (entered_rising a.sizes [] 0 a.bases w.entered).1;
+  each = λ r m. entered_fair a.sizes [] 0 a.bases w.entered m;
+  counts = omega (arith, entered_count a.sizes [] 0 a.bases (omega arith) w.entered);
 }

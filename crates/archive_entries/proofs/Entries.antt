@@ -4,14 +4,14 @@ use mathlib.Core.List.{List, []}
 use Prim.Native.Nat.{ℕ, zero, suc, ◌+◌, ◌-◌, ◌*◌, ◌≤◌, ◌<◌}
 use native.Mathlib.Omega.{arith}
 use lib.ListN.{length, drop}
-use Rattle.fields.specs.Words.{word_at, wordsAt}
+use Rattle.fields.specs.Words.{word_at, words_at}
 use Rattle.fields_walk.specs.declared.Walk.{Walk}
 use Rattle.fields_walk.specs.declared.Walk.TheVariants.{At}
 use Rattle.fields_walk.specs.Parsed.{Parsed, stop, got, and_then, consed}
 use Rattle.fields_walk.specs.Fields.{field}
 use Rattle.fields_walk.specs.Walked.{Says, Walked}
-use Rattle.fields_walk.proofs.Steps.{then-on, then-off, through, walked_as, walked-map, cons-forth}
-use Rattle.fields_walk.proofs.Loops.{Follows, step-on, step-off, step-done}
+use Rattle.fields_walk.proofs.Steps.{then_on, then_off, through, walked_as, walked-map, cons_forth}
+use Rattle.fields_walk.proofs.Loops.{Follows, step_on, step-off, step-done}
 use Rattle.fields_walk.proofs.Fields.{word-rest, field-got}
 use Rattle.cube.specs.declared.Total.{Total}
 use Rattle.cube.specs.Measure.{Row}
@@ -33,18 +33,18 @@ module _ (zs before : List ℕ) (total : ℕ) (l : List ℕ) where
 
   pub entry-off : {n : ℕ} → rising zs before l ≡ stop n → entry zs before total l ≡ stop n
   unfolding entry
-  entry-off e = then-off counted e
+  entry-off e = then_off counted e
 
   module _ {x m : List ℕ} (e : rising zs before l ≡ got x m) where
     entry-codes : entry zs before total l ≡ counted x m
     unfolding entry
-    entry-codes = then-on counted e
+    entry-codes = then_on counted e
 
     pub entry-ended : {n : ℕ} → amount total m ≡ stop n → entry zs before total l ≡ stop n
-    entry-ended f = entry-codes ∙ then-off (listed x) f
+    entry-ended f = entry-codes ∙ then_off (listed x) f
 
-    pub entry-on : {t : Total} {k s : List ℕ} {r : Walk} → amount total m ≡ got t k → Walked s (list k) r → Walked s (entry zs before total l) r
-    entry-on {t} f h = walked_as (entry-codes ∙ then-on (listed x) f) (walked-map (made x t) h)
+    pub entry_on : {t : Total} {k s : List ℕ} {r : Walk} → amount total m ≡ got t k → Walked s (list k) r → Walked s (entry zs before total l) r
+    entry_on {t} f h = walked_as (entry-codes ∙ then_on (listed x) f) (walked-map (made x t) h)
 
 -- ---- the loop over entries
 
@@ -57,11 +57,11 @@ module _ {s : List ℕ} (zs before : List ℕ) (total at i n : ℕ) {whole : Par
   left h = let e : n - i ≡ suc (n - (i + 1)) = omega arith in ap (λ (k : ℕ). entries zs k before total (drop at s)) e
 
   -- the next entry comes behind the codes of this one, with its count in the total
-  pub entries-on : {e : Based} {w : ℕ} {rest : List ℕ} → i < n → at ≤ length s → entry zs before total (drop at s) ≡ got e rest → w ≡ word_at s (at + 4 * length zs + 8)
-      → Follows s (entries zs (n - (i + 1)) (wordsAt s (length zs) at) (total + w) rest) whole
-  entries-on {e} {w} {rest} h l f g =
+  pub entries_on : {e : Based} {w : ℕ} {rest : List ℕ} → i < n → at ≤ length s → entry zs before total (drop at s) ≡ got e rest → w ≡ word_at s (at + 4 * length zs + 8)
+      → Follows s (entries zs (n - (i + 1)) (words_at s (length zs) at) (total + w) rest) whole
+  entries_on {e} {w} {rest} h l f g =
       let r = (entry_read s zs before total at l f).row in
-      rw g (subst (λ (x : Row Total). Follows s (entries zs (n - (i + 1)) x.codes (total + x.total.count) rest) whole) r (step-on v more (left h) f))
+      rw g (subst (λ (x : Row Total). Follows s (entries zs (n - (i + 1)) x.codes (total + x.total.count) rest) whole) r (step_on v more (left h) f))
 
   pub entries-off : {k : ℕ} → i < n → entry zs before total (drop at s) ≡ stop k → whole ≡ stop k
   entries-off h e = step-off v more (left h) e
@@ -75,18 +75,18 @@ module _ {s : List ℕ} (zs before : List ℕ) (total at i n : ℕ) {whole : Par
 module _ (zs l : List ℕ) where
   pub bases-off : {n : ℕ} → field 0 1025 5 l ≡ stop n → bases zs l ≡ stop n
   unfolding bases
-  bases-off e = then-off (λ n. entries zs n [] 0) e
+  bases-off e = then_off (λ n. entries zs n [] 0) e
 
-  pub bases-on : {n : ℕ} {rest : List ℕ} → field 0 1025 5 l ≡ got n rest → bases zs l ≡ entries zs n [] 0 rest
+  pub bases_on : {n : ℕ} {rest : List ℕ} → field 0 1025 5 l ≡ got n rest → bases zs l ≡ entries zs n [] 0 rest
   unfolding bases
-  bases-on e = then-on (λ n. entries zs n [] 0) e
+  bases_on e = then_on (λ n. entries zs n [] 0) e
 
 -- as many entries were read as there are
 pub entries-length : (zs : List ℕ) (n : ℕ) (before : List ℕ) (total : ℕ) (l : List ℕ) {es : List Based} {rest : List ℕ} → entries zs n before total l ≡ got es rest → length es ≡ n
 unfolding entries
 entries-length zs zero before total l {es} e = let f : es ≡ [] = cc in ap length f
 entries-length zs (suc n) before total l e =
-    let t = cons-forth (λ e. entries zs n e.row.codes (total + e.row.total.count)) (entry zs before total l) e in
+    let t = cons_forth (λ e. entries zs n e.row.codes (total + e.row.total.count)) (entry zs before total l) e in
     ap length t.5 ∙ ap suc (entries-length zs n t.0.row.codes (total + t.0.row.total.count) t.2 t.4)
 
 -- the base count at a place, and the entries behind it

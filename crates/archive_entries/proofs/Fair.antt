@@ -6,17 +6,17 @@ use lib.Dec.{leb}
 use lib.IntN.{ℤ}
 use borrow.Author.Tests.{le-leb, leb-true}
 use Rattle.lists.proofs.Tests.{both, both_of}
-use Rattle.cube.specs.Bounds.{most, canMake}
+use Rattle.cube.specs.Bounds.{most, can_make}
 use Rattle.archive_entries.specs.Reading.{fair}
 
 module _ (total : ℕ) (z : ℤ) (n : ℕ) where
-  pub fair-true : fair total z n ≡ true → (1 ≤ n) × (canMake n z ≡ true) × (total + n ≤ most)
+  pub fair_true : fair total z n ≡ true → (1 ≤ n) × (can_make n z ≡ true) × (total + n ≤ most)
   unfolding fair
-  fair-true e =
-      let p = both (leb 1 n) (canMake n z && leb (total + n) most) e in
-      let q = both (canMake n z) (leb (total + n) most) p.1 in
+  fair_true e =
+      let p = both (leb 1 n) (can_make n z && leb (total + n) most) e in
+      let q = both (can_make n z) (leb (total + n) most) p.1 in
       (leb-true 1 n p.0, q.0, leb-true (total + n) most q.1)
 
-  pub fair-of : 1 ≤ n → canMake n z ≡ true → total + n ≤ most → fair total z n ≡ true
+  pub fair_of : 1 ≤ n → can_make n z ≡ true → total + n ≤ most → fair total z n ≡ true
   unfolding fair
-  fair-of h e l = both_of (le-leb 1 n h) (both_of e (le-leb (total + n) most l))
+  fair_of h e l = both_of (le-leb 1 n h) (both_of e (le-leb (total + n) most l))

@@ -11,7 +11,7 @@ use Rattle.fields_walk.proofs.Steps.{through}
 use Rattle.rows.specs.Rows.{rows_of}
 use Rattle.archive_entries.specs.declared.ArchiveRead.TheVariants as Answer
 use Rattle.archive_entries.specs.Layout.{CUBE, Based, Held}
-use Rattle.archive_entries.specs.Reading.{entries, bases, cells, walkArchive, rowsIn, archiveAnswer, Stored}
+use Rattle.archive_entries.specs.Reading.{entries, bases, cells, walk_archive, rows_in, archive_answer, Stored}
 use Rattle.fields_walk.proofs.Places.{header_read}
 use Rattle.archive_entries.proofs.Entries.{bases-read}
 use Rattle.archive_entries.proofs.Walking.{closed, celled, based}
@@ -19,7 +19,7 @@ use Rattle.archive_entries.proofs.Walking.{closed, celled, based}
 pub record Accepted (s : List ℕ) (d n : ℕ) : Type 0 where
   pub held : Held
   pub rest : List ℕ
-  pub walked : walkArchive s ≡ got held rest
+  pub walked : walk_archive s ≡ got held rest
   pub dims : length held.sizes ≡ d
   pub count : length held.bases ≡ n
   pub few : d ≤ 8
@@ -29,11 +29,11 @@ pub record Accepted (s : List ℕ) (d n : ℕ) : Type 0 where
   pub read : entries held.sizes n [] 0 (drop (12 + 4 * d) s) ≡ got held.bases end
 
 -- the answer's numbers are those of what was read
-told : (p : Parsed Held) {d n m : ℕ} → archiveAnswer p ≡ Answer.Entries d n m → (a : Held) × (rest : List ℕ) × (p ≡ got a rest) × (length a.sizes ≡ d) × (length a.bases ≡ n)
+told : (p : Parsed Held) {d n m : ℕ} → archive_answer p ≡ Answer.Entries d n m → (a : Held) × (rest : List ℕ) × (p ≡ got a rest) × (length a.sizes ≡ d) × (length a.bases ≡ n)
 told (stop k) e = let z : false ≡ true = cc in absurd (false≢true z)
 told (got a rest) e = (a, rest, refl, cc, cc)
 
-from : (s : List ℕ) (a : Held) {l end rest : List ℕ} → walkArchive s ≡ got a rest → header CUBE s ≡ got a.sizes l → bases a.sizes l ≡ got a.bases end
+from : (s : List ℕ) (a : Held) {l end rest : List ℕ} → walk_archive s ≡ got a rest → header CUBE s ≡ got a.sizes l → bases a.sizes l ≡ got a.bases end
     → Accepted s (length a.sizes) (length a.bases)
 from s a {l} {end} {rest} w e f =
     let h = header_read s CUBE e in
@@ -54,9 +54,9 @@ from s a {l} {end} {rest} w e f =
     }
 
 -- what was read came through the header and the base entries
-pub parts : (s : List ℕ) {a : Held} {rest : List ℕ} → walkArchive s ≡ got a rest
+pub parts : (s : List ℕ) {a : Held} {rest : List ℕ} → walk_archive s ≡ got a rest
     → (l : List ℕ) × (end : List ℕ) × (header CUBE s ≡ got a.sizes l) × (bases a.sizes l ≡ got a.bases end)
-unfolding walkArchive
+unfolding walk_archive
 parts s {a} {rest} w =
     let t = through (header CUBE s) (based s) w in
     let u = through (bases t.0 t.1) (celled s t.0) t.3 in
@@ -67,17 +67,17 @@ parts s {a} {rest} w =
     let q : u.0 ≡ a.bases = ap (λ b. b.bases) e in
     (t.1, u.1, t.2 ∙ ap (λ (y : List ℕ). got y t.1) p, ap (λ (y : List ℕ). bases y t.1) (sym p) ∙ u.2 ∙ ap (λ (y : List Based). got y u.1) q)
 
-pub accepted : (s : List ℕ) (d n : ℕ) {m : ℕ} → archiveAnswer (walkArchive s) ≡ Answer.Entries d n m → Accepted s d n
+pub accepted : (s : List ℕ) (d n : ℕ) {m : ℕ} → archive_answer (walk_archive s) ≡ Answer.Entries d n m → Accepted s d n
 accepted s d n e =
-    let t = told (walkArchive s) e in
+    let t = told (walk_archive s) e in
     let p = parts s t.2 in
     subst (Accepted s d) t.4 (subst (λ (k : ℕ). Accepted s k (length t.0.bases)) t.3 (from s t.0 t.2 p.2 p.3))
 
 -- rows that are the archive's are stored
-pub accepted-stored : (s : List ℕ) (d n : ℕ) (a : Accepted s d n) (ws : List ℕ) → rows_of d n ws ≡ rowsIn a.held → Stored (walkArchive s) ws
-accepted-stored s d n a ws e = rw (a.walked, a.dims, a.count) e
+pub accepted_stored : (s : List ℕ) (d n : ℕ) (a : Accepted s d n) (ws : List ℕ) → rows_of d n ws ≡ rows_in a.held → Stored (walk_archive s) ws
+accepted_stored s d n a ws e = rw (a.walked, a.dims, a.count) e
 
 -- nothing is asked of the words where the walk stopped
-pub stopped-stored : (p : Parsed Held) {n : ℕ} (ws : List ℕ) → archiveAnswer p ≡ Answer.Stop n → Stored p ws
-stopped-stored (stop n) ws e = tt
-stopped-stored (got a rest) ws e = let z : false ≡ true = cc in absurd (false≢true z)
+pub stopped_stored : (p : Parsed Held) {n : ℕ} (ws : List ℕ) → archive_answer p ≡ Answer.Stop n → Stored p ws
+stopped_stored (stop n) ws e = tt
+stopped_stored (got a rest) ws e = let z : false ≡ true = cc in absurd (false≢true z)

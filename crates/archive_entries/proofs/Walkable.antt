@@ -6,16 +6,16 @@ use native.Mathlib.Omega.{arith}
 use lib.ListN.{length}
 use Rattle.lists.specs.Lists.{◌∈◌}
 use Rattle.fields_walk.specs.Parsed.{Parsed, got, and_then}
-use Rattle.fields_walk.specs.Fields.{header, headerBytes}
+use Rattle.fields_walk.specs.Fields.{header, header_bytes}
 use Rattle.fields_walk.specs.Limits.{Sized, Bytes}
-use Rattle.fields_walk.proofs.Steps.{then-made}
-use Rattle.fields_walk.proofs.Codec.{Codec, codec-as, pair, codec-pair}
-use Rattle.fields_walk.proofs.Ends.{header-codec, sizes-words, closing, closed, closed-back, closed-forth}
+use Rattle.fields_walk.proofs.Steps.{then_made}
+use Rattle.fields_walk.proofs.Codec.{Codec, codec_as, pair, codec_pair}
+use Rattle.fields_walk.proofs.Ends.{header_codec, sizes-words, closing, closed, closed-back, closed_forth}
 use Rattle.cube.specs.declared.Total.{Total}
 use Rattle.cube.specs.Measure.{Row}
-use Rattle.archive_entries.specs.Layout.{CUBE, Based, Held, baseBytes, cellBytes, section, layout}
-use Rattle.archive_entries.specs.Reading.{bases, cells, walkArchive}
-use Rattle.archive_entries.proofs.Written.{Words, Wide, Entered, bases-codec, cells-codec}
+use Rattle.archive_entries.specs.Layout.{CUBE, Based, Held, base_bytes, cell_bytes, section, layout}
+use Rattle.archive_entries.specs.Reading.{bases, cells, walk_archive}
+use Rattle.archive_entries.proofs.Written.{Words, Wide, Entered, bases_codec, cells_codec}
 
 pub record Walkable (a : Held) : Type 0 where
   pub sized : Sized a.sizes
@@ -34,28 +34,28 @@ sections zs = pair (λ bs cs. (bs, cs)) (bases zs) (λ bs. cells (length zs))
 abbrev body : List ℕ → Parsed Held
 body = pair held (header CUBE) sections
 
-abbrev bodyBytes : Held → List ℕ
-bodyBytes a = headerBytes CUBE a.sizes ++ (section baseBytes a.bases ++ section cellBytes a.cells)
+abbrev body_bytes : Held → List ℕ
+body_bytes a = header_bytes CUBE a.sizes ++ (section base_bytes a.bases ++ section cell_bytes a.cells)
 
-body-codec : Codec body bodyBytes Walkable
-body-codec =
-    codec-as (λ a. (
+body_codec : Codec body body_bytes Walkable
+body_codec =
+    codec_as (λ a. (
       λ p. record { sized = p.0; few = omega (arith, p.1.0.0.1); entered = p.1.0.1; count = p.1.1.0; each = p.1.1.1 },
       λ w. (w.sized, (((omega arith, omega (arith, w.few)), w.entered), (w.count, w.each))),
     ))
-    (codec-pair held (λ a. a.sizes) (λ a. (a.bases, a.cells)) (λ a. refl) (λ zs p. refl) (λ zs p. refl) (header-codec CUBE refl)
-    (λ zs s. codec-pair (λ bs cs. (bs, cs)) (λ p. p.0) (λ p. p.1) (λ p. refl) (λ bs cs. refl) (λ bs cs. refl) (bases-codec zs (sizes-words s)) (λ bs e. cells-codec (length zs))))
+    (codec_pair held (λ a. a.sizes) (λ a. (a.bases, a.cells)) (λ a. refl) (λ zs p. refl) (λ zs p. refl) (header_codec CUBE refl)
+    (λ zs s. codec_pair (λ bs cs. (bs, cs)) (λ p. p.0) (λ p. p.1) (λ p. refl) (λ bs cs. refl) (λ bs cs. refl) (bases_codec zs (sizes-words s)) (λ bs e. cells_codec (length zs))))
 
-walk-as : (s : List ℕ) → walkArchive s ≡ closed body s
-unfolding walkArchive
-walk-as s =
-    (λ i. and_then (header CUBE s) (λ zs l. then-made (λ bs cs. (bs, cs)) (bases zs l) (λ bs. cells (length zs)) (λ p. closing s (held zs p)) i))
-    ∙ then-made held (header CUBE s) sections (closing s)
+walk_as : (s : List ℕ) → walk_archive s ≡ closed body s
+unfolding walk_archive
+walk_as s =
+    (λ i. and_then (header CUBE s) (λ zs l. then_made (λ bs cs. (bs, cs)) (bases zs l) (λ bs. cells (length zs)) (λ p. closing s (held zs p)) i))
+    ∙ then_made held (header CUBE s) sections (closing s)
 
-pub walk-forth : (s : List ℕ) (a : Held) (rest : List ℕ) → Bytes s → walkArchive s ≡ got a rest → Walkable a × (s ≡ layout a) × (rest ≡ [])
+pub walk_forth : (s : List ℕ) (a : Held) (rest : List ℕ) → Bytes s → walk_archive s ≡ got a rest → Walkable a × (s ≡ layout a) × (rest ≡ [])
 unfolding layout
-walk-forth s a rest b e = closed-forth body-codec s a rest b (sym (walk-as s) ∙ e)
+walk_forth s a rest b e = closed_forth body_codec s a rest b (sym (walk_as s) ∙ e)
 
-pub walk-back : (a : Held) → Walkable a → walkArchive (layout a) ≡ got a []
+pub walk_back : (a : Held) → Walkable a → walk_archive (layout a) ≡ got a []
 unfolding layout
-walk-back a w = walk-as (layout a) ∙ closed-back body-codec a w
+walk_back a w = walk_as (layout a) ∙ closed-back body_codec a w

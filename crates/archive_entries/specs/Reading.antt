@@ -7,33 +7,33 @@
 --   entry, entries      a base entry, and n of them: each is told the codes before it and the total count before it
 --   bases zs            the base count (5) and the base entries
 --   cell d, cells d     a normal entry, and the normal count with the normal entries: fields of any value
---   walkArchive s       what the fields of s hold, or the first of the stops 1 to 11
+--   walk_archive s       what the fields of s hold, or the first of the stops 1 to 11
 --   ArchiveRead         what the walk over an archive answers: the enum of src/lib.rt
---   archiveAnswer p     the answer's number and values for what was read: the stop's number, or D, the base count and the normal count
+--   archive_answer p     the answer's number and values for what was read: the stop's number, or D, the base count and the normal count
 --   Stored p ws         the words ws have the base rows that were read
 --   judged s a rest     stop 12, unless s is the archive that the sizes and base rows of a require
---   readArchive s       the sizes and base rows of s, or the first stop: 12 if the entries are not what the base rows require
+--   read_archive s       the sizes and base rows of s, or the first stop: 12 if the entries are not what the base rows require
 use Rattle.std.specs.Prelude.{◌≡◌, Bool, ◌&&◌, List, [], map, ℕ, zero, suc, ◌+◌, leb, ℤ, length}
 use Rattle.lists.specs.Order.{earlier, same}
-use Rattle.fields_walk.specs.Parsed.{Parsed, stop, got, and_then, stopUnless, consed, many}
+use Rattle.fields_walk.specs.Parsed.{Parsed, stop, got, and_then, stop_unless, consed, many}
 use Rattle.fields_walk.specs.Fields.{word, sum, field, codes, header, close}
 use Rattle.cube.specs.declared.Total.{Total}
 use Rattle.cube.specs.Measure.{Row}
-use Rattle.cube.specs.Bounds.{most, canMake}
+use Rattle.cube.specs.Bounds.{most, can_make}
 use Rattle.rows.specs.Rows.{rows_of}
 use Rattle.archive_entries.specs.declared.ArchiveRead.{ArchiveRead}
 use Rattle.archive_entries.specs.declared.ArchiveRead.TheVariants as Answer
-use Rattle.archive_entries.specs.Layout.{CUBE, Based, Held, archiveBytes}
+use Rattle.archive_entries.specs.Layout.{CUBE, Based, Held, archive_bytes}
 
 unfoldable pub rising : List ℕ → List ℕ → List ℕ → Parsed (List ℕ)
-rising zs before l = and_then (codes zs l) (λ x rest. stopUnless (earlier before x) 7 (got x rest))
+rising zs before l = and_then (codes zs l) (λ x rest. stop_unless (earlier before x) 7 (got x rest))
 
 unfoldable pub fair : ℕ → ℤ → ℕ → Bool
-fair total z n = leb 1 n && (canMake n z && leb (total + n) most)
+fair total z n = leb 1 n && (can_make n z && leb (total + n) most)
 
 unfoldable pub amount : ℕ → List ℕ → Parsed Total
 amount total l =
-    and_then (sum l) (λ z rest. and_then (word rest) (λ n rest'. stopUnless (fair total z n) 8 (got (record { sum = z; count = n }) rest')))
+    and_then (sum l) (λ z rest. and_then (word rest) (λ n rest'. stop_unless (fair total z n) 8 (got (record { sum = z; count = n }) rest')))
 
 unfoldable pub list : List ℕ → Parsed (List ℕ)
 list l = and_then (field 0 71 9 l) (λ n. many n word)
@@ -58,25 +58,25 @@ cell d l =
 unfoldable pub cells : ℕ → List ℕ → Parsed (List (Row Total))
 cells d l = and_then (word l) (λ n. many n (cell d))
 
-unfoldable pub walkArchive : List ℕ → Parsed Held
-walkArchive s =
+unfoldable pub walk_archive : List ℕ → Parsed Held
+walk_archive s =
     and_then (header CUBE s) (λ zs l. and_then (bases zs l) (λ bs l. and_then (cells (length zs) l) (λ cs l.
     and_then (close s l) (λ u rest. got (record { sizes = zs; bases = bs; cells = cs }) rest))))
 
 -- the base rows that an archive's fields hold
-abbrev pub rowsIn : Held → List (Row Total)
-rowsIn a = map (λ b. b.row) a.bases
+abbrev pub rows_in : Held → List (Row Total)
+rows_in a = map (λ b. b.row) a.bases
 
-abbrev pub archiveAnswer : Parsed Held → ArchiveRead
-archiveAnswer (stop n) = Answer.Stop n
-archiveAnswer (got a rest) = Answer.Entries (length a.sizes) (length a.bases) (length a.cells)
+abbrev pub archive_answer : Parsed Held → ArchiveRead
+archive_answer (stop n) = Answer.Stop n
+archive_answer (got a rest) = Answer.Entries (length a.sizes) (length a.bases) (length a.cells)
 
 abbrev pub Stored : Parsed Held → List ℕ → Type 0
 Stored (stop n) ws = Unit {0}
-Stored (got a rest) ws = rows_of (length a.sizes) (length a.bases) ws ≡ rowsIn a
+Stored (got a rest) ws = rows_of (length a.sizes) (length a.bases) ws ≡ rows_in a
 
 abbrev pub judged : List ℕ → Held → List ℕ → Parsed Held
-judged s a rest = stopUnless (same s (archiveBytes a.sizes (rowsIn a))) 12 (got a rest)
+judged s a rest = stop_unless (same s (archive_bytes a.sizes (rows_in a))) 12 (got a rest)
 
-unfoldable pub readArchive : List ℕ → Parsed Held
-readArchive s = and_then (walkArchive s) (judged s)
+unfoldable pub read_archive : List ℕ → Parsed Held
+read_archive s = and_then (walk_archive s) (judged s)

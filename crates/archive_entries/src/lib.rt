@@ -1,12 +1,12 @@
 // An archive's sections read from their bytes: the fields from the left, and at each its stops in document 01's order (1 to 11), then the base rows.
 ghost use Rattle.std.specs.Prelude.{◌⊎◌, ◌≡◌, [], ◌∷◌, ◌++◌, ℕ, ◌+◌, ◌*◌, ◌≤◌, ◌<◌, length, drop};
 ghost use Rattle.lists.specs.Order.{earlier};
-ghost use Rattle.fields.specs.Words.{wordsAt};
+ghost use Rattle.fields.specs.Words.{words_at};
 ghost use Rattle.fields_walk.specs.Walked.{Walked};
-ghost use Rattle.cube.specs.Bounds.{most, canMake};
+ghost use Rattle.cube.specs.Bounds.{most, can_make};
 ghost use Rattle.rows.specs.Rows.{width, rows_of};
-ghost use Rattle.archive_entries.specs.Places.{rowThere};
-ghost use Rattle.archive_entries.specs.Reading.{rising, amount, list, entry, entries, bases, cells, walkArchive, archiveAnswer, Stored};
+ghost use Rattle.archive_entries.specs.Places.{row_there};
+ghost use Rattle.archive_entries.specs.Reading.{rising, amount, list, entry, entries, bases, cells, walk_archive, archive_answer, Stored};
 
 use fields_walk::Walk;
 use rows_compare::Order;
@@ -24,7 +24,7 @@ pub enum ArchiveRead {
 // Whether so many readings can make the sum.
 fn can_make(count: u32, sum: i64) -> bool
     requires { count ≤ most }
-    ensures { result ≡ canMake count sum }
+    ensures { result ≡ can_make count sum }
 {
     let n = count as i64;
     let low = -2147483648 * n;
@@ -35,7 +35,7 @@ fn can_make(count: u32, sum: i64) -> bool
 // Whether the n codes at q come strictly after the n codes at p: 255 is the set of all dimensions.
 fn is_after(s: &[u8], n: usize, p: usize, q: usize) -> bool
     requires { (n ≤ 8) × (p + 4 * n ≤ length s.now) × (q + 4 * n ≤ length s.now) }
-    ensures { result ≡ earlier (wordsAt s.now n p) (wordsAt s.now n q) }
+    ensures { result ≡ earlier (words_at s.now n p) (words_at s.now n q) }
 {
     let mut before = [0u32; 8];
     let mut mine = [0u32; 8];
@@ -52,7 +52,7 @@ fn is_after(s: &[u8], n: usize, p: usize, q: usize) -> bool
 fn check_rising(s: &[u8], sizes: &[u32], n: usize, p: usize, at: usize) -> Walk
     requires in_bounds { (1 ≤ length sizes.now) × (length sizes.now ≤ 8) × (at ≤ length s.now) }
     requires n_in_bounds { (p + 4 * n ≤ length s.now) × ((n ≡ 0) ⊎ (n ≡ length sizes.now)) }
-    ensures { Walked s.now (rising sizes.now (wordsAt s.now n p) (drop at s.now)) result }
+    ensures { Walked s.now (rising sizes.now (words_at s.now n p) (drop at s.now)) result }
 {
     match fields_walk::check_codes(s, sizes, at) {
         Walk::Stop(k) => Walk::Stop(k),
@@ -111,7 +111,7 @@ fn check_list(s: &[u8], at: usize) -> Walk
 fn check_entry(s: &[u8], sizes: &[u32], n: usize, p: usize, total: u32, at: usize) -> Walk
     requires in_bounds { (1 ≤ length sizes.now) × (length sizes.now ≤ 8) × (at ≤ length s.now) × (total ≤ most) }
     requires n_in_bounds { (p + 4 * n ≤ length s.now) × ((n ≡ 0) ⊎ (n ≡ length sizes.now)) }
-    ensures { Walked s.now (entry sizes.now (wordsAt s.now n p) total (drop at s.now)) result }
+    ensures { Walked s.now (entry sizes.now (words_at s.now n p) total (drop at s.now)) result }
 {
     match check_rising(s, sizes, n, p, at) {
         Walk::Stop(k) => Walk::Stop(k),
@@ -176,7 +176,7 @@ pub fn check_cells(s: &[u8], dims: usize, at: usize) -> Walk
 // The row of the base entry at a place, stored as row i: its words are those of the file.
 fn store_row(s: &[u8], dims: usize, at: usize, i: usize, rows: &mut [u32])
     requires { (at + 4 * width dims ≤ length s.now) × (i * width dims + width dims ≤ length rows.old) }
-    ensures { rows_of dims (i + 1) rows.new ≡ rows_of dims i rows.old ++ rowThere s.now dims at ∷ [] }
+    ensures { rows_of dims (i + 1) rows.new ≡ rows_of dims i rows.old ++ row_there s.now dims at ∷ [] }
 {
     let width = dims + rows::TOTAL_WORDS;
     let from = i * width;
@@ -186,9 +186,9 @@ fn store_row(s: &[u8], dims: usize, at: usize, i: usize, rows: &mut [u32])
 
 // The base rows of an archive whose fields are right.
 pub fn store_rows(s: &[u8], dims: u32, bases: u32, rows: &mut [u32])
-    requires by_index { (n : ℕ) × (archiveAnswer (walkArchive s.now) ≡ ArchiveRead.Entries dims bases n) }
+    requires by_index { (n : ℕ) × (archive_answer (walk_archive s.now) ≡ ArchiveRead.Entries dims bases n) }
     requires in_bounds { 11264 ≤ length rows.old }
-    ensures { Stored (walkArchive s.now) rows.new }
+    ensures { Stored (walk_archive s.now) rows.new }
 {
     let d = dims as usize;
     let count = bases as usize;

@@ -13,34 +13,34 @@ use Rattle.cube.specs.Codes.{ALL, Coded, shown, cell}
 use Rattle.rows.specs.Rows.{cut, row_at}
 use Rattle.rows.proofs.Rows.{cut-length}
 use Rattle.rows_order.specs.Index.{key, Valid}
-use Rattle.archive_groups.specs.Masks.{missingOf, Mask, masked}
+use Rattle.archive_groups.specs.Masks.{missing_of, Mask, masked}
 
 pub length-masked : (m x : List ℕ) → length (masked m x) ≡ length x
 length-masked m [] = refl
 length-masked m (a ∷ x) = ap suc (length-masked (drop 1 m) x)
 
-or-shown : (k a : ℕ) → a < ALL → bit_or a (shown k 0) ≡ shown k a
-or-shown zero a h =
+or_shown : (k a : ℕ) → a < ALL → bit_or a (shown k 0) ≡ shown k a
+or_shown zero a h =
     let low : bit_and a ALL ≡ a = and_mask a 16 ∙ mod-eq_of_lt (omega (arith, h)) in
     omega (arith, or_add_and a ALL, low)
-or-shown (suc k) a h = or_zero_r a
+or_shown (suc k) a h = or_zero_r a
 
-missing-first : (s : ℕ) → missingOf s 0 ≡ shown (s % 2) 0
-unfolding missingOf
-missing-first s = ap (λ (t : ℕ). shown (t % 2) 0) (div-one s)
+missing_first : (s : ℕ) → missing_of s 0 ≡ shown (s % 2) 0
+unfolding missing_of
+missing_first s = ap (λ (t : ℕ). shown (t % 2) 0) (div-one s)
 
-missing-half : (s d : ℕ) → missingOf s (1 + d) ≡ missingOf (s / 2) d
-unfolding missingOf
-missing-half s d = rw (shr-shr s 1 d)
+missing_half : (s d : ℕ) → missing_of s (1 + d) ≡ missing_of (s / 2) d
+unfolding missing_of
+missing_half s d = rw (shr-shr s 1 d)
 
-masked-is : (d s : ℕ) (m x : List ℕ) → Coded d x → ((k : ℕ) → k < d → get_or m k 0 ≡ missingOf s k) → masked m x ≡ cell s x
-masked-is zero s m [] v h = refl
-masked-is (suc d) s m (a ∷ x) v h =
-    ap₂ ◌∷◌ (ap (bit_or a) (h 0 (omega arith) ∙ missing-first s) ∙ or-shown (s % 2) a v.0)
-    (masked-is d (s / 2) (drop 1 m) x v.1 (λ k l. get_or-drop 1 m k 0 ∙ h (1 + k) (omega (arith, l)) ∙ missing-half s k))
+masked_is : (d s : ℕ) (m x : List ℕ) → Coded d x → ((k : ℕ) → k < d → get_or m k 0 ≡ missing_of s k) → masked m x ≡ cell s x
+masked_is zero s m [] v h = refl
+masked_is (suc d) s m (a ∷ x) v h =
+    ap₂ ◌∷◌ (ap (bit_or a) (h 0 (omega arith) ∙ missing_first s) ∙ or_shown (s % 2) a v.0)
+    (masked_is d (s / 2) (drop 1 m) x v.1 (λ k l. get_or-drop 1 m k 0 ∙ h (1 + k) (omega (arith, l)) ∙ missing_half s k))
 
 pub masked-cell : (d s : ℕ) (m x : List ℕ) → d ≤ 8 → Coded d x → Mask s m → masked m x ≡ cell s x
-masked-cell d s m x few v h = masked-is d s m x v (λ k l. h k (omega (arith, l, few)))
+masked-cell d s m x few v h = masked_is d s m x v (λ k l. h k (omega (arith, l, few)))
 
 -- the row at place r among n rows
 pub masked-key : (d n s r : ℕ) (ws m : List ℕ) → d ≤ 8 → Valid d (cut d n ws) → Mask s m → r < n → masked m (row_at (cut d n ws) r) ≡ key s (cut d n ws) r

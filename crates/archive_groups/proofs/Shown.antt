@@ -8,22 +8,22 @@ use native.Mathlib.Numerals.{add-one}
 use lib.Bits.{bit_or}
 use lib.ListN.{length, get_or, drop, drop_of_length-le}
 use lib.Seq.{drop-cons, drop-drop, get_or-drop}
-use Rattle.fields.specs.Words.{word_bytes, wordsBytes}
-use Rattle.fields.specs.WordsLaws.{length-wordsBytes}
+use Rattle.fields.specs.Words.{word_bytes, words_bytes}
+use Rattle.fields.specs.WordsLaws.{length_words_bytes}
 use Rattle.fields.specs.Opening.{starts_with}
 use Rattle.fields.specs.OpeningLaws.{starts_with_append}
 use Rattle.archive_groups.specs.Masks.{masked}
 use Rattle.archive_groups.proofs.Masks.{length-masked}
 
 module _ (missing mine : List ℕ) where
-  pub shown-length : length (wordsBytes (masked missing mine)) ≡ 4 * length mine
-  shown-length = length-wordsBytes (masked missing mine) ∙ ap (λ (n : ℕ). 4 * n) (length-masked missing mine)
+  pub shown-length : length (words_bytes (masked missing mine)) ≡ 4 * length mine
+  shown-length = length_words_bytes (masked missing mine) ∙ ap (λ (n : ℕ). 4 * n) (length-masked missing mine)
 
-  unfoldable pub shownFrom : ℕ → List ℕ
-  shownFrom d = wordsBytes (masked (drop d missing) (drop d mine))
+  unfoldable pub shown_from : ℕ → List ℕ
+  shown_from d = words_bytes (masked (drop d missing) (drop d mine))
 
-  pub shown-all : shownFrom 0 ≡ wordsBytes (masked missing mine)
-  unfolding shownFrom
+  pub shown-all : shown_from 0 ≡ words_bytes (masked missing mine)
+  unfolding shown_from
   shown-all = refl
 
   -- the word of dimension d
@@ -31,13 +31,13 @@ module _ (missing mine : List ℕ) where
   word_of d = word_bytes (bit_or (get_or mine d 0) (get_or missing d 0))
 
   module _ (d : ℕ) (h : d < length mine) where
-    pub shown-on : shownFrom d ≡ word_of d ++ shownFrom (d + 1)
-    unfolding shownFrom wordsBytes
-    shown-on = rw (← drop-drop 1 d missing, add-one, drop-cons mine d 0 h, get_or-drop d missing 0 0, add-zero d)
+    pub shown_on : shown_from d ≡ word_of d ++ shown_from (d + 1)
+    unfolding shown_from words_bytes
+    shown_on = rw (← drop-drop 1 d missing, add-one, drop-cons mine d 0 h, get_or-drop d missing 0 0, add-zero d)
 
-    pub shown-compared : (s : List ℕ) (at : ℕ) → starts_with (drop at s) (shownFrom d) ≡ starts_with (drop at s) (word_of d) && starts_with (drop (at + 4) s) (shownFrom (d + 1))
-    shown-compared s at = rw (shown-on, starts_with_append (drop at s) (word_of d) (shownFrom (d + 1)), drop-drop 4 at s)
+    pub shown-compared : (s : List ℕ) (at : ℕ) → starts_with (drop at s) (shown_from d) ≡ starts_with (drop at s) (word_of d) && starts_with (drop (at + 4) s) (shown_from (d + 1))
+    shown-compared s at = rw (shown_on, starts_with_append (drop at s) (word_of d) (shown_from (d + 1)), drop-drop 4 at s)
 
-  pub shown-none : {d : ℕ} → length mine ≤ d → shownFrom d ≡ []
-  unfolding shownFrom wordsBytes
+  pub shown-none : {d : ℕ} → length mine ≤ d → shown_from d ≡ []
+  unfolding shown_from words_bytes
   shown-none {d} h = rw (drop_of_length-le mine {i = d} h)

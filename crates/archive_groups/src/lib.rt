@@ -1,14 +1,14 @@
 // The groups of a slot as cells with their totals: written over the front of lent bytes, and compared with given ones.
 ghost use Rattle.std.specs.Prelude.{◌≡◌, ◌+◌, ◌*◌, ◌≤◌, length, drop};
-ghost use Rattle.fields.specs.Words.{wordsBytes};
+ghost use Rattle.fields.specs.Words.{words_bytes};
 ghost use Rattle.fields.specs.Opening.{starts_with};
 ghost use Rattle.fields.specs.Written.{Wrote};
-ghost use Rattle.rows.specs.Rows.{cut, rowTotal};
+ghost use Rattle.rows.specs.Rows.{cut, row_total};
 ghost use Rattle.rows_order.specs.Index.{key};
-ghost use Rattle.archive_entries.specs.Layout.{cellBytes};
+ghost use Rattle.archive_entries.specs.Layout.{cell_bytes};
 ghost use Rattle.archive_compare.specs.Matched.{Matched};
 ghost use Rattle.archive_groups.specs.Masks.{masked, Mask};
-ghost use Rattle.archive_groups.specs.Groups.{Groupable, groupBytes};
+ghost use Rattle.archive_groups.specs.Groups.{Groupable, group_bytes};
 
 use fields_walk::Walk;
 
@@ -26,7 +26,7 @@ fn mask_of(set: u32) -> [u32; 8]
 // Writes the codes of a row under a mask.
 fn put_shown(out: &mut [u8], mine: &[u32], missing: &[u32; 8]) -> usize
     requires { (length mine.now ≤ 8) × (4 * length mine.now ≤ length out.old) }
-    ensures { Wrote (wordsBytes (masked missing.now mine.now)) out.old out.new result }
+    ensures { Wrote (words_bytes (masked missing.now mine.now)) out.old out.new result }
 {
     let mut at = 0;
     for d in 0..mine.len() {
@@ -39,7 +39,7 @@ fn put_shown(out: &mut [u8], mine: &[u32], missing: &[u32; 8]) -> usize
 // Writes the codes of a row under a mask, with a total.
 fn put_group(out: &mut [u8], mine: &[u32], missing: &[u32; 8], total: cube::Total) -> usize
     requires { (length mine.now ≤ 8) × (4 * length mine.now + 12 ≤ length out.old) }
-    ensures { Wrote (cellBytes (record { codes = masked missing.now mine.now; total = total })) out.old out.new result }
+    ensures { Wrote (cell_bytes (record { codes = masked missing.now mine.now; total = total })) out.old out.new result }
 {
     let mut at = put_shown(out, mine, missing);
     let sum = total.sum;
@@ -57,8 +57,8 @@ pub fn put_groups(
     slot: &[u16],
 ) -> usize
     requires groupable { Groupable dims n rows.now slot.now }
-    requires slot_in_bounds { length (groupBytes (rowTotal dims n rows.now) (key set (cut dims n rows.now)) slot.now) ≤ length out.old }
-    ensures { Wrote (groupBytes (rowTotal dims n rows.now) (key set (cut dims n rows.now)) slot.now) out.old out.new result }
+    requires slot_in_bounds { length (group_bytes (row_total dims n rows.now) (key set (cut dims n rows.now)) slot.now) ≤ length out.old }
+    ensures { Wrote (group_bytes (row_total dims n rows.now) (key set (cut dims n rows.now)) slot.now) out.old out.new result }
 {
     let missing = mask_of(set);
     let mut at = 0;
@@ -80,7 +80,7 @@ pub fn put_groups(
 // Whether the codes of a row under a mask stand at a byte offset. No difference ends the loop, so that several codes are compared at once.
 fn shown_is(s: &[u8], start: usize, mine: &[u32], missing: &[u32; 8]) -> bool
     requires { (length mine.now ≤ 8) × (start + 4 * length mine.now ≤ length s.now) }
-    ensures { result ≡ starts_with (drop start s.now) (wordsBytes (masked missing.now mine.now)) }
+    ensures { result ≡ starts_with (drop start s.now) (words_bytes (masked missing.now mine.now)) }
 {
     let mut at = start;
     let mut same = true;
@@ -95,7 +95,7 @@ fn shown_is(s: &[u8], start: usize, mine: &[u32], missing: &[u32; 8]) -> bool
 // Whether the bytes s have the codes of a row under a mask, with a total, from a place on.
 fn match_group(s: &[u8], start: usize, mine: &[u32], missing: &[u32; 8], total: cube::Total) -> Walk
     requires { (length mine.now ≤ 8) × (start ≤ length s.now) }
-    ensures { Matched s.now start (cellBytes (record { codes = masked missing.now mine.now; total = total })) result }
+    ensures { Matched s.now start (cell_bytes (record { codes = masked missing.now mine.now; total = total })) result }
 {
     let size = 4 * mine.len();
     if s.len() - start < size + 12 {
@@ -127,7 +127,7 @@ pub fn match_groups(
     slot: &[u16],
 ) -> Walk
     requires { Groupable dims n rows.now slot.now × (start ≤ length s.now) }
-    ensures { Matched s.now start (groupBytes (rowTotal dims n rows.now) (key set (cut dims n rows.now)) slot.now) result }
+    ensures { Matched s.now start (group_bytes (row_total dims n rows.now) (key set (cut dims n rows.now)) slot.now) result }
 {
     let missing = mask_of(set);
     let mut at = start;

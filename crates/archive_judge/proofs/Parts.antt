@@ -12,10 +12,10 @@ use Rattle.cube.specs.Condensed.{normals}
 use Rattle.rows.specs.Rows.{cut, rows_of}
 use Rattle.rows.proofs.Rows.{rows-codes}
 use Rattle.rows.proofs.Flat.{rows-length}
-use Rattle.archive_entries.specs.Layout.{baseBytes, based}
-use Rattle.rows_condense.specs.Shared.{normalRows}
-use Rattle.archive_bases.specs.Listed.{ourBases}
-use Rattle.archive_normals.specs.Normals.{normalBytes}
+use Rattle.archive_entries.specs.Layout.{base_bytes, based}
+use Rattle.rows_condense.specs.Shared.{normal_rows}
+use Rattle.archive_bases.specs.Listed.{our_bases}
+use Rattle.archive_normals.specs.Normals.{normal_bytes}
 use Rattle.archive_judge.specs.Read.{sections}
 
 -- the four parts, with the counts that the code has
@@ -24,10 +24,10 @@ module _ (d n : ℕ) (ws : List ℕ) where
   table = rows_of d n ws
 
   pub four-parts : {cells : ℕ} → cells ≡ length (normals (plain d) (cut d n ws))
-      → (word_bytes n ++ flat_map baseBytes (ourBases d table)) ++ (word_bytes cells ++ normalBytes d table) ≡ sections d table
-  unfolding sections ourBases normalRows normalBytes
+      → (word_bytes n ++ flat_map base_bytes (our_bases d table)) ++ (word_bytes cells ++ normal_bytes d table) ≡ sections d table
+  unfolding sections our_bases normal_rows normal_bytes
   four-parts {cells} e =
-      let b : n ≡ length (ourBases d table) = sym (length-map table (based d table) ∙ rows-length d n ws) in
-      let c : cells ≡ length (normalRows d table) =
+      let b : n ≡ length (our_bases d table) = sym (length-map table (based d table) ∙ rows-length d n ws) in
+      let c : cells ≡ length (normal_rows d table) =
       e ∙ ap (λ (xs : List (List ℕ)). length (normals (plain d) xs)) (sym (rows-codes d n ws)) ∙ sym (length-map (normals (plain d) (codes_of table)) (filled (plain d) measure table)) in
-      ap₂ (λ (p q : ℕ). (word_bytes p ++ flat_map baseBytes (ourBases d table)) ++ (word_bytes q ++ normalBytes d table)) b c
+      ap₂ (λ (p q : ℕ). (word_bytes p ++ flat_map base_bytes (our_bases d table)) ++ (word_bytes q ++ normal_bytes d table)) b c

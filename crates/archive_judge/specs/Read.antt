@@ -7,17 +7,17 @@ use Rattle.fields_walk.specs.Parsed.{got}
 use Rattle.cube.specs.declared.Total.{Total}
 use Rattle.cube.specs.Measure.{Row}
 use Rattle.rows.specs.Rows.{width, rows_of}
-use Rattle.archive_entries.specs.Layout.{Held, section, baseBytes, cellBytes}
-use Rattle.archive_entries.specs.Reading.{walkArchive, rowsIn}
-use Rattle.rows_condense.specs.Shared.{normalRows}
-use Rattle.archive_bases.specs.Listed.{ourBases}
+use Rattle.archive_entries.specs.Layout.{Held, section, base_bytes, cell_bytes}
+use Rattle.archive_entries.specs.Reading.{walk_archive, rows_in}
+use Rattle.rows_condense.specs.Shared.{normal_rows}
+use Rattle.archive_bases.specs.Listed.{our_bases}
 
 pub record Read (s : List ℕ) (d n : ℕ) (ws : List ℕ) : Type 0 where
   pub held : Held
-  pub walked : walkArchive s ≡ got held []
+  pub walked : walk_archive s ≡ got held []
   pub dims : length held.sizes ≡ d
   pub size : n * width d ≡ length ws
-  pub rows : rows_of d n ws ≡ rowsIn held
+  pub rows : rows_of d n ws ≡ rows_in held
 
 unfoldable pub sections : ℕ → List (Row Total) → List ℕ
-sections d rows = section baseBytes (ourBases d rows) ++ section cellBytes (normalRows d rows)
+sections d rows = section base_bytes (our_bases d rows) ++ section cell_bytes (normal_rows d rows)

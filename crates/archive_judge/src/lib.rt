@@ -1,11 +1,11 @@
 // An archive judged by its base rows: whether its lists, its normal count and its normal entries are what they require (stop 12).
 ghost use Rattle.std.specs.Prelude.{◌≡◌, ◌*◌, ◌≤◌, length};
 ghost use Rattle.lists.specs.Order.{same};
-ghost use Rattle.fields.specs.Words.{wordsAt};
+ghost use Rattle.fields.specs.Words.{words_at};
 ghost use Rattle.cube.specs.Codes.{plain};
 ghost use Rattle.cube.specs.Condensed.{normals};
 ghost use Rattle.rows.specs.Rows.{cut, rows_of};
-ghost use Rattle.archive_entries.specs.Layout.{archiveBytes};
+ghost use Rattle.archive_entries.specs.Layout.{archive_bytes};
 ghost use Rattle.archive_compare.specs.Matched.{Matched};
 ghost use Rattle.archive_bases.specs.Listed.{Listed};
 ghost use Rattle.archive_normals.specs.Grouped.{Grouped};
@@ -55,7 +55,7 @@ fn judge(
     used: &mut [usize],
 ) -> bool
     requires { Read s.now dims n rows.now × (n * 71 ≤ length lists.old) × (262144 ≤ length store.old) × (256 ≤ length used.old) }
-    ensures value { result ≡ same s.now (archiveBytes (wordsAt s.now dims 8) (rows_of dims n rows.now)) }
+    ensures value { result ≡ same s.now (archive_bytes (words_at s.now dims 8) (rows_of dims n rows.now)) }
     ensures grouped { Grouped dims n rows.now store.new used.new }
 {
     let cells = rows_condense::condense_rows(rows, n, dims, store, used, lists);
@@ -76,7 +76,7 @@ pub fn is_required(
     used: &mut [usize],
 ) -> bool
     requires { Read s.now dims n rows.now × (262144 ≤ length store.old) × (256 ≤ length used.old) }
-    ensures value { result ≡ same s.now (archiveBytes (wordsAt s.now dims 8) (rows_of dims n rows.now)) }
+    ensures value { result ≡ same s.now (archive_bytes (words_at s.now dims 8) (rows_of dims n rows.now)) }
     ensures grouped { Grouped dims n rows.now store.new used.new }
 {
     let mut lists = [0u8; 72704];

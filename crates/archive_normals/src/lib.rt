@@ -5,7 +5,7 @@ ghost use Rattle.fields.specs.Written.{Wrote};
 ghost use Rattle.rows.specs.Rows.{rows_of};
 ghost use Rattle.archive_compare.specs.Matched.{Matched};
 ghost use Rattle.archive_normals.specs.Grouped.{Grouped};
-ghost use Rattle.archive_normals.specs.Normals.{sharedBytes, commonBytes, blankBytes, normalBytes};
+ghost use Rattle.archive_normals.specs.Normals.{shared_bytes, common_bytes, blank_bytes, normal_bytes};
 
 use fields_walk::Walk;
 
@@ -20,8 +20,8 @@ fn put_shared(
     used: &[usize],
 ) -> usize
     requires grouped { Grouped dims n rows.now store.now used.now × (set < full dims) }
-    requires set_in_bounds { length (sharedBytes dims (rows_of dims n rows.now) set) ≤ length out.old }
-    ensures { Wrote (sharedBytes dims (rows_of dims n rows.now) set) out.old out.new result }
+    requires set_in_bounds { length (shared_bytes dims (rows_of dims n rows.now) set) ≤ length out.old }
+    ensures { Wrote (shared_bytes dims (rows_of dims n rows.now) set) out.old out.new result }
 {
     let slot = rows_crowds::slot_of(store, used, set as usize);
     archive_groups::put_groups(out, rows, n, dims, set, slot)
@@ -37,8 +37,8 @@ fn put_common(
     used: &[usize],
 ) -> usize
     requires grouped { Grouped dims n rows.now store.now used.now }
-    requires rows_in_bounds { length (commonBytes dims (rows_of dims n rows.now)) ≤ length out.old }
-    ensures { Wrote (commonBytes dims (rows_of dims n rows.now)) out.old out.new result }
+    requires rows_in_bounds { length (common_bytes dims (rows_of dims n rows.now)) ≤ length out.old }
+    ensures { Wrote (common_bytes dims (rows_of dims n rows.now)) out.old out.new result }
 {
     let all = lattice::sets_of(dims as u32) - 1;
     let mut at = 0;
@@ -54,8 +54,8 @@ fn put_common(
 
 // Writes the normal entry of an empty table, where there are no rows.
 fn put_blank(out: &mut [u8], n: usize, dims: usize) -> usize
-    requires { (dims ≤ 8) × (length (blankBytes dims n) ≤ length out.old) }
-    ensures { Wrote (blankBytes dims n) out.old out.new result }
+    requires { (dims ≤ 8) × (length (blank_bytes dims n) ≤ length out.old) }
+    ensures { Wrote (blank_bytes dims n) out.old out.new result }
 {
     if n != 0 {
         return 0;
@@ -73,8 +73,8 @@ pub fn put_normals(
     used: &[usize],
 ) -> usize
     requires grouped { Grouped dims n rows.now store.now used.now }
-    requires rows_in_bounds { length (normalBytes dims (rows_of dims n rows.now)) ≤ length out.old }
-    ensures { Wrote (normalBytes dims (rows_of dims n rows.now)) out.old out.new result }
+    requires rows_in_bounds { length (normal_bytes dims (rows_of dims n rows.now)) ≤ length out.old }
+    ensures { Wrote (normal_bytes dims (rows_of dims n rows.now)) out.old out.new result }
 {
     let at = put_blank(out, n, dims);
     at + put_common(&mut out[at..], rows, n, dims, store, used)
@@ -92,7 +92,7 @@ fn match_shared(
     used: &[usize],
 ) -> Walk
     requires { Grouped dims n rows.now store.now used.now × (set < full dims) × (at ≤ length s.now) }
-    ensures { Matched s.now at (sharedBytes dims (rows_of dims n rows.now) set) result }
+    ensures { Matched s.now at (shared_bytes dims (rows_of dims n rows.now) set) result }
 {
     let slot = rows_crowds::slot_of(store, used, set as usize);
     archive_groups::match_groups(s, at, rows, n, dims, set, slot)
@@ -109,7 +109,7 @@ fn match_common(
     used: &[usize],
 ) -> Walk
     requires { Grouped dims n rows.now store.now used.now × (start ≤ length s.now) }
-    ensures { Matched s.now start (commonBytes dims (rows_of dims n rows.now)) result }
+    ensures { Matched s.now start (common_bytes dims (rows_of dims n rows.now)) result }
 {
     let all = lattice::sets_of(dims as u32) - 1;
     let mut at = start;
@@ -129,7 +129,7 @@ fn match_common(
 // Whether the bytes s have the normal entry of an empty table from a place on, where there are no rows.
 fn match_blank(s: &[u8], at: usize, n: usize, dims: usize) -> Walk
     requires { (dims ≤ 8) × (at ≤ length s.now) }
-    ensures { Matched s.now at (blankBytes dims n) result }
+    ensures { Matched s.now at (blank_bytes dims n) result }
 {
     if n != 0 {
         return Walk::At(at);
@@ -148,7 +148,7 @@ pub fn match_normals(
     used: &[usize],
 ) -> Walk
     requires { Grouped dims n rows.now store.now used.now × (start ≤ length s.now) }
-    ensures { Matched s.now start (normalBytes dims (rows_of dims n rows.now)) result }
+    ensures { Matched s.now start (normal_bytes dims (rows_of dims n rows.now)) result }
 {
     let next = match match_blank(s, start, n, dims) {
         Walk::Stop(stop) => return Walk::Stop(stop),

@@ -8,19 +8,19 @@ use native.Mathlib.Omega.{arith}
 use lib.ListN.{length, take, drop, get_or, length-drop}
 use lib.Pow.{pow_mono}
 use lib.Seq.{length-take-le}
-use Rattle.rows.proofs.Rows.{rows-small}
+use Rattle.rows.proofs.Rows.{rows_small}
 use Rattle.lists.specs.Order.{same}
 use Rattle.lists.proofs.Tests.{cases, truth}
-use Rattle.fields.specs.Words.{wordsAt}
+use Rattle.fields.specs.Words.{words_at}
 use Rattle.fields_walk.specs.Parsed.{Parsed, stop, got, and_then}
 use Rattle.fields_walk.specs.Limits.{Bytes}
 use Rattle.cube.specs.declared.Total.{Total}
 use Rattle.cube.specs.Measure.{Row}
-use Rattle.archive_entries.specs.Layout.{Held, archiveBytes}
-use Rattle.archive_entries.specs.Reading.{walkArchive, judged, readArchive, rowsIn, archiveAnswer, Stored}
+use Rattle.archive_entries.specs.Layout.{Held, archive_bytes}
+use Rattle.archive_entries.specs.Reading.{walk_archive, judged, read_archive, rows_in, archive_answer, Stored}
 use Rattle.archive_entries.specs.declared.ArchiveRead.TheVariants as Answer
 use Rattle.archive_entries.proofs.Fields.{Accepted, accepted}
-use Rattle.archive_entries.proofs.Walkable.{walk-forth}
+use Rattle.archive_entries.proofs.Walkable.{walk_forth}
 use Rattle.rows_ready.proofs.Ready.{rows-front}
 use Rattle.lattice.proofs.Sets.{full-lt}
 use Rattle.rows.specs.Rows.{width, cut, rows_of}
@@ -31,20 +31,20 @@ use Rattle.archive_judge.specs.Read.{Read}
 use Rattle.archive_read.specs.Sharing.{Sharing, Shares}
 use Rattle.archive_judge.proofs.Judged.{sizes-at}
 
-stored-walked : (p : Parsed Held) {a : Held} {rest : List ℕ} (ws : List ℕ) → p ≡ got a rest → Stored p ws → rows_of (length a.sizes) (length a.bases) ws ≡ rowsIn a
+stored-walked : (p : Parsed Held) {a : Held} {rest : List ℕ} (ws : List ℕ) → p ≡ got a rest → Stored p ws → rows_of (length a.sizes) (length a.bases) ws ≡ rows_in a
 stored-walked p ws e h = subst (λ (q : Parsed Held). Stored q ws) e h
 
-module _ {s : List ℕ} {d n m : ℕ} (b : Bytes s) (e : archiveAnswer (walkArchive s) ≡ Answer.Entries d n m) where
+module _ {s : List ℕ} {d n m : ℕ} (b : Bytes s) (e : archive_answer (walk_archive s) ≡ Answer.Entries d n m) where
   abbrev walk : Accepted s d n
   walk = accepted s d n e
 
-  walked : walkArchive s ≡ got walk.held []
-  walked = walk.walked ∙ ap (got walk.held) (walk-forth s walk.held walk.rest b walk.walked).2
+  walked : walk_archive s ≡ got walk.held []
+  walked = walk.walked ∙ ap (got walk.held) (walk_forth s walk.held walk.rest b walk.walked).2
 
   pub read_small : n * width d ≤ 11264
-  read_small = rows-small d n walk.few walk.few-bases
+  read_small = rows_small d n walk.few walk.few-bases
 
-  module _ (ws : List ℕ) (room : 11264 ≤ length ws) (h : Stored (walkArchive s) ws) where
+  module _ (ws : List ℕ) (room : 11264 ≤ length ws) (h : Stored (walk_archive s) ws) where
     pub read-size : n * width d ≤ length ws
     read-size = omega (arith, read_small, room)
 
@@ -56,46 +56,46 @@ module _ {s : List ℕ} {d n m : ℕ} (b : Bytes s) (e : archiveAnswer (walkArch
       dims = walk.dims;
       size = sym (length-take-le (n * width d) ws read-size);
       rows = rows-front d n ws
-          ∙ ap₂ (λ (i j : ℕ). rows_of i j ws) (sym walk.dims) (sym walk.count) ∙ stored-walked (walkArchive s) ws walk.walked h;
+          ∙ ap₂ (λ (i j : ℕ). rows_of i j ws) (sym walk.dims) (sym walk.count) ∙ stored-walked (walk_archive s) ws walk.walked h;
     }
 
 -- ---- stop 12
 
-module _ {s : List ℕ} {d n m : ℕ} {ws : List ℕ} (e : archiveAnswer (walkArchive s) ≡ Answer.Entries d n m) (r : Read s d n ws) where
-  due : same s (archiveBytes (wordsAt s d 8) (rows_of d n ws)) ≡ same s (archiveBytes r.held.sizes (rowsIn r.held))
+module _ {s : List ℕ} {d n m : ℕ} {ws : List ℕ} (e : archive_answer (walk_archive s) ≡ Answer.Entries d n m) (r : Read s d n ws) where
+  due : same s (archive_bytes (words_at s d 8) (rows_of d n ws)) ≡ same s (archive_bytes r.held.sizes (rows_in r.held))
   due =
-      ap₂ (λ (zs : List ℕ) (rows : List (Row Total)). same s (archiveBytes zs rows)) (sym (sizes-at s r.walked ∙ ap (λ (k : ℕ). wordsAt s k 8) r.dims)) r.rows
+      ap₂ (λ (zs : List ℕ) (rows : List (Row Total)). same s (archive_bytes zs rows)) (sym (sizes-at s r.walked ∙ ap (λ (k : ℕ). words_at s k 8) r.dims)) r.rows
 
-  pub passed-required : true ≡ same s (archiveBytes (wordsAt s d 8) (rows_of d n ws)) → Answer.Entries d n m ≡ archiveAnswer (readArchive s)
-  unfolding readArchive
-  passed-required h = let g = sym (h ∙ due) in sym e ∙ rw (r.walked, g)
+  pub passed_required : true ≡ same s (archive_bytes (words_at s d 8) (rows_of d n ws)) → Answer.Entries d n m ≡ archive_answer (read_archive s)
+  unfolding read_archive
+  passed_required h = let g = sym (h ∙ due) in sym e ∙ rw (r.walked, g)
 
-  pub stopped-required : false ≡ same s (archiveBytes (wordsAt s d 8) (rows_of d n ws)) → Answer.Stop 12 ≡ archiveAnswer (readArchive s)
-  unfolding readArchive
-  stopped-required h = let g = sym (h ∙ due) in rw (r.walked, g)
+  pub stopped_required : false ≡ same s (archive_bytes (words_at s d 8) (rows_of d n ws)) → Answer.Stop 12 ≡ archive_answer (read_archive s)
+  unfolding read_archive
+  stopped_required h = let g = sym (h ∙ due) in rw (r.walked, g)
 
-pub stop-required : (s : List ℕ) {n : ℕ} → archiveAnswer (walkArchive s) ≡ Answer.Stop n → Answer.Stop n ≡ archiveAnswer (readArchive s)
-unfolding readArchive
-stop-required s {n} e = go (walkArchive s) e
+pub stop-required : (s : List ℕ) {n : ℕ} → archive_answer (walk_archive s) ≡ Answer.Stop n → Answer.Stop n ≡ archive_answer (read_archive s)
+unfolding read_archive
+stop-required s {n} e = go (walk_archive s) e
   where
-    go : (p : Parsed Held) → archiveAnswer p ≡ Answer.Stop n → Answer.Stop n ≡ archiveAnswer (and_then p (judged s))
+    go : (p : Parsed Held) → archive_answer p ≡ Answer.Stop n → Answer.Stop n ≡ archive_answer (and_then p (judged s))
     go (stop k) f = sym f
     go (got a rest) f = let z : false ≡ true = cc in absurd (false≢true z)
 
 -- the rows stay stored
-pub stored-required : (s ws : List ℕ) → Stored (walkArchive s) ws → Stored (readArchive s) ws
-unfolding readArchive
-stored-required s ws h = go (walkArchive s) h
+pub stored-required : (s ws : List ℕ) → Stored (walk_archive s) ws → Stored (read_archive s) ws
+unfolding read_archive
+stored-required s ws h = go (walk_archive s) h
   where
     go : (p : Parsed Held) → Stored p ws → Stored (and_then p (judged s)) ws
     go (stop n) f = tt
-    go (got a rest) f = cases (truth (same s (archiveBytes a.sizes (rowsIn a)))) (λ e. rw e f) (λ e. rw e tt)
+    go (got a rest) f = cases (truth (same s (archive_bytes a.sizes (rows_in a)))) (λ e. rw e f) (λ e. rw e tt)
 
 -- ---- the rows that share a cell
 
 -- as slots tell it
-pub sharing-held : {d n : ℕ} {ws store used : List ℕ} → Grouped d n ws store used → Sharing d n ws used
-sharing-held {d} {n} {ws} {store = store} {used = used} a = record {
+pub sharing_held : {d n : ℕ} {ws store used : List ℕ} → Grouped d n ws store used → Sharing d n ws used
+sharing_held {d} {n} {ws} {store = store} {used = used} a = record {
   sets = a.sets;
   rows = λ s f.
       let g = a.slots.all s f in
@@ -108,7 +108,7 @@ sharing-held {d} {n} {ws} {store = store} {used = used} a = record {
 }
 
 -- as an answer tells the archive's numbers
-pub shares-told : (p : Parsed Held) {d n m : ℕ} (ws used : List ℕ) → archiveAnswer p ≡ Answer.Entries d n m → Sharing d n (take (n * width d) ws) used → Shares p ws used
+pub shares-told : (p : Parsed Held) {d n m : ℕ} (ws used : List ℕ) → archive_answer p ≡ Answer.Entries d n m → Sharing d n (take (n * width d) ws) used → Shares p ws used
 shares-told (stop k) ws used e h = tt
 shares-told (got a rest) {d} {n} ws used e h =
     let f : length a.sizes ≡ d = cc e in
@@ -116,19 +116,19 @@ shares-told (got a rest) {d} {n} ws used e h =
     rw (f, g) h
 
 -- they stay when the archive is judged
-pub shares-required : (s ws used : List ℕ) → Shares (walkArchive s) ws used → Shares (readArchive s) ws used
-unfolding readArchive
-shares-required s ws used h = go (walkArchive s) h
+pub shares-required : (s ws used : List ℕ) → Shares (walk_archive s) ws used → Shares (read_archive s) ws used
+unfolding read_archive
+shares-required s ws used h = go (walk_archive s) h
   where
     go : (p : Parsed Held) → Shares p ws used → Shares (and_then p (judged s)) ws used
     go (stop n) f = tt
-    go (got a rest) f = cases (truth (same s (archiveBytes a.sizes (rowsIn a)))) (λ e. rw e f) (λ e. rw e tt)
+    go (got a rest) f = cases (truth (same s (archive_bytes a.sizes (rows_in a)))) (λ e. rw e f) (λ e. rw e tt)
 
 -- nothing is asked where the walk stopped
-pub shares-stop : (s : List ℕ) {n : ℕ} (ws used : List ℕ) → archiveAnswer (walkArchive s) ≡ Answer.Stop n → Shares (readArchive s) ws used
-unfolding readArchive
-shares-stop s {n} ws used e = go (walkArchive s) e
+pub shares-stop : (s : List ℕ) {n : ℕ} (ws used : List ℕ) → archive_answer (walk_archive s) ≡ Answer.Stop n → Shares (read_archive s) ws used
+unfolding read_archive
+shares-stop s {n} ws used e = go (walk_archive s) e
   where
-    go : (p : Parsed Held) → archiveAnswer p ≡ Answer.Stop n → Shares (and_then p (judged s)) ws used
+    go : (p : Parsed Held) → archive_answer p ≡ Answer.Stop n → Shares (and_then p (judged s)) ws used
     go (stop k) f = tt
     go (got a rest) f = let z : false ≡ true = cc in absurd (false≢true z)

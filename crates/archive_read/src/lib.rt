@@ -1,7 +1,7 @@
 // An archive read with all its stops, 1 to 12: its fields checked, its base rows stored, and judged by them.
 ghost use Rattle.std.specs.Prelude.{◌≡◌, ◌*◌, ◌≤◌, length, take};
 ghost use Rattle.rows.specs.Rows.{width};
-ghost use Rattle.archive_entries.specs.Reading.{walkArchive, readArchive, archiveAnswer, Stored};
+ghost use Rattle.archive_entries.specs.Reading.{walk_archive, read_archive, archive_answer, Stored};
 ghost use Rattle.archive_normals.specs.Grouped.{Grouped};
 ghost use Rattle.archive_read.specs.Sharing.{Shares};
 
@@ -17,10 +17,10 @@ fn judge_read(
     store: &mut [u16],
     used: &mut [usize],
 ) -> ArchiveRead
-    requires s_value { archiveAnswer (walkArchive s.now) ≡ ArchiveRead.Entries dims bases cells }
-    requires in_bounds { (11264 ≤ length rows.now) × Stored (walkArchive s.now) rows.now }
+    requires s_value { archive_answer (walk_archive s.now) ≡ ArchiveRead.Entries dims bases cells }
+    requires in_bounds { (11264 ≤ length rows.now) × Stored (walk_archive s.now) rows.now }
     requires in_bounds_2 { (262144 ≤ length store.old) × (256 ≤ length used.old) }
-    ensures value { result ≡ archiveAnswer (readArchive s.now) }
+    ensures value { result ≡ archive_answer (read_archive s.now) }
     ensures grouped { Grouped dims bases (take (bases * width dims) rows.now) store.new used.new }
 {
     let d = dims as usize;
@@ -43,9 +43,9 @@ pub fn read_judged(
     bases: u32,
     cells: u32,
 ) -> ArchiveRead
-    requires { archiveAnswer (walkArchive s.now) ≡ ArchiveRead.Entries dims bases cells }
-    ensures value { result ≡ archiveAnswer (readArchive s.now) }
-    ensures stored { Stored (readArchive s.now) rows.new }
+    requires { archive_answer (walk_archive s.now) ≡ ArchiveRead.Entries dims bases cells }
+    ensures value { result ≡ archive_answer (read_archive s.now) }
+    ensures stored { Stored (read_archive s.now) rows.new }
     ensures grouped { Grouped dims bases (take (bases * width dims) rows.new) store.new used.new }
 {
     archive_entries::store_rows(s, dims, bases, rows);
@@ -54,8 +54,8 @@ pub fn read_judged(
 
 // What was read of an archive whose fields are right, or stop 12. Its base rows are not asked for.
 fn judge_fields(s: &[u8], dims: u32, bases: u32, cells: u32) -> ArchiveRead
-    requires { archiveAnswer (walkArchive s.now) ≡ ArchiveRead.Entries dims bases cells }
-    ensures { result ≡ archiveAnswer (readArchive s.now) }
+    requires { archive_answer (walk_archive s.now) ≡ ArchiveRead.Entries dims bases cells }
+    ensures { result ≡ archive_answer (read_archive s.now) }
 {
     let mut rows = [0u32; rows::ROOM];
     let mut store = [0u16; 262144];
@@ -65,7 +65,7 @@ fn judge_fields(s: &[u8], dims: u32, bases: u32, cells: u32) -> ArchiveRead
 
 // All stops of an archive, 1 to 12. No array is declared before the first 11 are passed.
 pub fn check_required(s: &[u8]) -> ArchiveRead
-    ensures { result ≡ archiveAnswer (readArchive s.now) }
+    ensures { result ≡ archive_answer (read_archive s.now) }
 {
     match archive_reader::check_archive(s) {
         ArchiveRead::Stop(n) => ArchiveRead::Stop(n),
@@ -82,10 +82,10 @@ fn judge_sharing(
     bases: u32,
     cells: u32,
 ) -> ArchiveRead
-    requires { archiveAnswer (walkArchive s.now) ≡ ArchiveRead.Entries dims bases cells }
-    ensures value { result ≡ archiveAnswer (readArchive s.now) }
-    ensures stored { Stored (readArchive s.now) rows.new }
-    ensures shares { Shares (readArchive s.now) rows.new used.new }
+    requires { archive_answer (walk_archive s.now) ≡ ArchiveRead.Entries dims bases cells }
+    ensures value { result ≡ archive_answer (read_archive s.now) }
+    ensures stored { Stored (read_archive s.now) rows.new }
+    ensures shares { Shares (read_archive s.now) rows.new used.new }
 {
     let mut store = [0u16; 262144];
     read_judged(s, rows, &mut store, used, dims, bases, cells)
@@ -93,9 +93,9 @@ fn judge_sharing(
 
 // Reads an archive with all its stops, 1 to 12; its base rows into the array that is lent, and how many of them share the cells of each set but the full one.
 pub fn read_sharing(s: &[u8], rows: &mut [u32; rows::ROOM], used: &mut [usize; 256]) -> ArchiveRead
-    ensures value { result ≡ archiveAnswer (readArchive s.now) }
-    ensures stored { Stored (readArchive s.now) rows.new }
-    ensures shares { Shares (readArchive s.now) rows.new used.new }
+    ensures value { result ≡ archive_answer (read_archive s.now) }
+    ensures stored { Stored (read_archive s.now) rows.new }
+    ensures shares { Shares (read_archive s.now) rows.new used.new }
 {
     match archive_reader::check_archive(s) {
         ArchiveRead::Stop(n) => ArchiveRead::Stop(n),
@@ -107,8 +107,8 @@ pub fn read_sharing(s: &[u8], rows: &mut [u32; rows::ROOM], used: &mut [usize; 2
 
 // Reads an archive with all its stops, 1 to 12; its base rows into the array that is lent. The one for slots is lent too.
 pub fn read_lent(s: &[u8], rows: &mut [u32; rows::ROOM], store: &mut [u16; 262144]) -> ArchiveRead
-    ensures value { result ≡ archiveAnswer (readArchive s.now) }
-    ensures stored { Stored (readArchive s.now) rows.new }
+    ensures value { result ≡ archive_answer (read_archive s.now) }
+    ensures stored { Stored (read_archive s.now) rows.new }
 {
     let mut used = [0usize; 256];
     match archive_reader::check_archive(s) {
@@ -121,8 +121,8 @@ pub fn read_lent(s: &[u8], rows: &mut [u32; rows::ROOM], store: &mut [u16; 26214
 
 // The same as `read_lent`, with slots of its own.
 pub fn read_required(s: &[u8], rows: &mut [u32; rows::ROOM]) -> ArchiveRead
-    ensures value { result ≡ archiveAnswer (readArchive s.now) }
-    ensures stored { Stored (readArchive s.now) rows.new }
+    ensures value { result ≡ archive_answer (read_archive s.now) }
+    ensures stored { Stored (read_archive s.now) rows.new }
 {
     let mut used = [0usize; 256];
     read_sharing(s, rows, &mut used)

@@ -50,10 +50,10 @@ use denote.Triple.Table.{entered}
 use denote.Triple.Walked.{Stays, Walks, AllGo, walk_Meets}
 
 module _ {M : Type 1} {𝓤 : Ura M} (𝓛 : Logic 𝓤) (T : Ended) (c : Clauses 𝓤 T) where
-  abbrev pub contractOf : Contract 𝓤
-  contractOf = triple_of 𝓛 T.signature (closing 𝓛 T c)
+  abbrev pub contract_of : Contract 𝓤
+  contract_of = triple_of 𝓛 T.signature (closing 𝓛 T c)
 
-module _ {M : Type 1} {𝓤 : Ura M} (𝓛 : Logic 𝓤) (T : Ended) (c : Clauses 𝓤 T) (y : (contractOf 𝓛 T c).Ghost) where
+module _ {M : Type 1} {𝓤 : Ura M} (𝓛 : Logic 𝓤) (T : Ended) (c : Clauses 𝓤 T) (y : (contract_of 𝓛 T c).Ghost) where
   open 𝓛 use {H}
 
   abbrev κs : Lfts T.signature.lifetimes
@@ -69,21 +69,21 @@ module _ {M : Type 1} {𝓤 : Ura M} (𝓛 : Logic 𝓤) (T : Ended) (c : Clause
   Tokens = raw (alive 𝓛 T.signature κs y.0.1)
 
   abbrev pub Asked : Item 𝓤
-  Asked = raw ((contractOf 𝓛 T c).pre y)
+  Asked = raw ((contract_of 𝓛 T c).pre y)
 
-  pub handed : ent 𝓤 (emp 𝓤) ((c κs a).requires y.1) → ent 𝓤 (sep 𝓤 (alive 𝓛 T.signature κs y.0.1) (sem 𝓛 (owns (types_at T.signature.params κs) a y.0.4))) ((contractOf 𝓛 T c).pre y)
+  pub handed : ent 𝓤 (emp 𝓤) ((c κs a).requires y.1) → ent 𝓤 (sep 𝓤 (alive 𝓛 T.signature κs y.0.1) (sem 𝓛 (owns (types_at T.signature.params κs) a y.0.4))) ((contract_of 𝓛 T c).pre y)
   handed shown =
       let P : SProp 𝓤 = sep 𝓤 (alive 𝓛 T.signature κs y.0.1) (sem 𝓛 (owns (types_at T.signature.params κs) a y.0.4)) in
       via 𝓤 (sep 𝓤 (emp 𝓤) P) (emp∗ 𝓤 P) (via 𝓤 (sep 𝓤 ((c κs a).requires y.1) P) (mono_l 𝓤 P shown) (comm∗ 𝓤 ((c κs a).requires y.1) P))
 
   module _ {K : Type 0} {Γ : List (Item 𝓤)} where
     pub calling : K → {E : Env 𝓤 H} {C : Calls 𝓤 H} {Λ : Loops 𝓤 H} {q : Post 𝓤 H} {f : Name} {xs : List Operand} {d : Place} {rest : Body}
-        → FmC 𝓤 H 𝓛.laws C → Triple 𝓤 (C f) (contractOf 𝓛 T c) → Opds K 𝓛 (Asked ∷ Γ) E xs ((contractOf 𝓛 T c).args y)
+        → FmC 𝓤 H 𝓛.laws C → Triple 𝓤 (C f) (contract_of 𝓛 T c) → Opds K 𝓛 (Asked ∷ Γ) E xs ((contract_of 𝓛 T c).args y)
         → (φ : R.Denot → Type 0) → ((r : R.Denot) (ws : Lasts T κs a) → ent 𝓤 ((c κs a).ensures y.1 r (at_exit T κs a ws)) (fact 𝓤 (φ r)))
         → ((u : Val) (r : R.Denot) → φ r → Is R r (u ∷ []) → Seq K 𝓛 (‵ (R.own r (u ∷ [])) ∷ Tokens ∷ Γ) (lands C Λ E d u rest q))
         → Seq K 𝓛 (Asked ∷ Γ) (runs C Λ E (seq (call f xs d) rest) q)
     calling t fm met os φ says k =
-        calls_at t fm (contractOf 𝓛 T c) met y os (λ u.
+        calls_at t fm (contract_of 𝓛 T c) met y os (λ u.
         use1 𝓛 (later (some (λ (r : R.Denot). (Tokens ⊛ ‵ (R.own r (u ∷ []))) ⊛ raw (ensured 𝓛 T c κs a y.1 r)))) (id⊢ 𝓤 _) $ await t tt $ pick t (λ r.
         split t $ move t (1 ∷ []) $ use1 𝓛 (raw (fact 𝓤 (φ r))) (ex_e 𝓤 _ (λ ws. via 𝓤 _ (snd∗ 𝓤 (sem 𝓛 (lasts T κs a ws)) _) (says r ws))) $ heard t (φ r) (λ e.
         split t $ move t (1 ∷ []) $ peeks t R (Is R) (shows 𝓛 R) r (u ∷ []) (λ is. k u r e is))))
@@ -182,9 +182,9 @@ module _ {M : Type 1} {𝓤 : Ura M} (𝓛 : Logic 𝓤) (𝓜 : Model 𝓤 𝓛
 
   pub met_by : AllGo 𝓛 T.signature.lifetimes T.signature.params T.kept hs → (f : Name) (e : Fn) (env : Names) → Closed 𝓤 H (tables 𝓤 H 𝓜 𝓡 env).C (tables 𝓤 H 𝓜 𝓡 env).Λ f e
       → (FmC 𝓤 H (of_model 𝓤 H 𝓜) (tables 𝓤 H 𝓜 𝓡 env).C → Walks 𝓛 T hs (WpFn 𝓤 H (tables 𝓤 H 𝓜 𝓡 env).C (tables 𝓤 H 𝓜 𝓡 env).Λ e) c)
-      → Triple 𝓤 (𝓡.run (env f)) (contractOf 𝓛 T c)
+      → Triple 𝓤 (𝓡.run (env f)) (contract_of 𝓛 T c)
   unfolding tables_of
   met_by goes f e env closed walks =
       let 𝓣 : Tables 𝓤 H = tables_of 𝓤 H 𝓜 (tables 𝓤 H 𝓜 𝓡 env) in
-      entered 𝓤 H (contractOf 𝓛 T c) 𝓣.C 𝓣.Λ f e closed
+      entered 𝓤 H (contract_of 𝓛 T c) 𝓣.C 𝓣.Λ f e closed
       (walk_Meets 𝓛 T hs goes c (WpFn 𝓤 H 𝓣.C 𝓣.Λ e) (WpFn-mono 𝓤 H (of_model 𝓤 H 𝓜) 𝓣 e) (walks (fm_of 𝓤 H (of_model 𝓤 H 𝓜) 𝓣)))

@@ -9,7 +9,7 @@ use denote.Struct.Laws as LL
 use Rattle.archive_reader.specs.declared.Reader.{Reader}
 use Rattle.archive_reader.specs.contracts.Reader as T
 use Rattle.archive_reader.proofs.Reader.TheLaws as T'
-use Rattle.archive_reader.proofs.Calls.{contractOf, handed, calling, up_from, free_all, met_by}
+use Rattle.archive_reader.proofs.Calls.{contract_of, handed, calling, up_from, free_all, met_by}
 use types.Logic.{Logic, sem}
 
 -- the struct's type, over the signature's lifetimes
@@ -69,18 +69,18 @@ module _ (R : RattleType) (Φ : List ℕ → ℕ → R.Denot → Type 0) where
         abbrev vd : Values D.parts
         vd = (d.src, (d.at, tt))
 
-        abbrev to : (contractOf 𝓛 asked (asks 𝓤)).Ghost
+        abbrev to : (contract_of 𝓛 asked (asks 𝓤)).Ghost
         to = (((κ, tt), (q, tt), tt, (d.src, (d.at, tt)), (slice_val d.src.ref_ptr (length d.src.now) ∷ [], (vint w64 d.at ∷ [], tt))), tt)
 
         -- what the struct owns gives what the callee asks, and is kept
-        apart : d.at < 2 ^ 64 → ent 𝓤 (on_entry 𝓛 ended.signature (κ, tt) (q, tt) (d, tt) (mach ∷ [], tt)) (sep 𝓤 ((contractOf 𝓛 asked (asks 𝓤)).pre to) (sem 𝓛 Own))
+        apart : d.at < 2 ^ 64 → ent 𝓤 (on_entry 𝓛 ended.signature (κ, tt) (q, tt) (d, tt) (mach ∷ [], tt)) (sep 𝓤 ((contract_of 𝓛 asked (asks 𝓤)).pre to) (sem 𝓛 Own))
         apart fits =
             qed 𝓛 ((‵ (flft κ q) ⊛ ‵ ftrue) ∷ ‵ (owns (B (κ, tt) ∷ []) (d, tt) (mach ∷ [], tt)) ∷ []) ∵
             move ! (1 ∷ []) $ fsplit ! $ move ! (1 ∷ []) $ drop ! $ use1 𝓛 (‵ Own ⊛ ‵ Own) ((LL.copy D (T'.the_copy (named_lft 1 0 tt (κ, tt))) 𝓛).twice d (mach ∷ [])) $ split ! $
             use1 𝓛 (given (mach ∷ [] ≡ mach ∷ []) (‵ (all_own D.parts L vd))) (own_open 𝓛 D L vd mach) $ learn ! (λ _. use1 𝓛 (‵ (field_own D.parts L 0 d.src) ⊛ ‵ (rest D.parts L 0 vd)) (own_out 𝓛 D.parts L 0 vd) $ split ! $
             -- [what src owns; what at owns; what the struct owns; the token]
             move ! (1 ∷ []) $ drop ! $ nothing ! $ owned ! usize (Is usize) (uint_Makes 𝓛 w64) d.at _ (refl, fits) $ fjoin ! $ move ! (1 ∷ 0 ∷ []) $ fjoin ! $
-            move ! (2 ∷ 0 ∷ []) $ use2 𝓛 (raw ((contractOf 𝓛 asked (asks 𝓤)).pre to)) (handed 𝓛 asked (asks 𝓤) to (id⊢ 𝓤 _)) $ frame ! $ done !)
+            move ! (2 ∷ 0 ∷ []) $ use2 𝓛 (raw ((contract_of 𝓛 asked (asks 𝓤)).pre to)) (handed 𝓛 asked (asks 𝓤) to (id⊢ 𝓤 _)) $ frame ! $ done !)
 
         exits : (r : R.Denot) (u : Val) → found r → ent 𝓤 (⋆ 𝓛 (‵ (R.own r (u ∷ [])) ∷ (‵ (flft κ q) ⊛ ‵ ftrue) ∷ ‵ Own ∷ [])) (Post u)
         exits r u e =
@@ -88,21 +88,21 @@ module _ (R : RattleType) (Φ : List ℕ → ℕ → R.Denot → Type 0) where
             suffices ! _ (ends_at 𝓛 ended stayed (clauses 𝓤) (((κ, tt), (q, tt), tt, (d, tt), (mach ∷ [], tt)), tt) u r (tt, tt) (tt, tt)) $ says ! e $
             move ! (1 ∷ []) $ frame ! $ nothing ! $ move ! (2 ∷ 0 ∷ []) $ fjoin ! $ frame ! $ done !
 
-        walk : (C : Calls 𝓤 H) (Λ : Loops 𝓤 H) → FmC 𝓤 H 𝓛.laws C → Triple 𝓤 (C g) (contractOf 𝓛 asked (asks 𝓤)) → Holds (has_ty (T'.mir (named 0)) mach) × WT mach
+        walk : (C : Calls 𝓤 H) (Λ : Loops 𝓤 H) → FmC 𝓤 H 𝓛.laws C → Triple 𝓤 (C g) (contract_of 𝓛 asked (asks 𝓤)) → Holds (has_ty (T'.mir (named 0)) mach) × WT mach
             → ent 𝓤 (on_entry 𝓛 ended.signature (κ, tt) (q, tt) (d, tt) (mach ∷ [], tt)) (WpFn 𝓤 H C Λ function (mach ∷ []) Post)
         walk C Λ fm known wt =
             qed 𝓛 (raw (on_entry 𝓛 ended.signature (κ, tt) (q, tt) (d, tt) (mach ∷ [], tt)) ∷ []) ∵ enter ! C Λ function (mach ∷ []) _ $
             alloc1 ! (λ l₀. alloc1 ! (λ l₁. alloc1 ! (λ l₂. alloc1 ! (λ l₃. alloc0 ! $ params1 ! $ pass1 ! (init ! 4 refl wt) $ pass0 ! $
             assigns ! (of_opd ! (load ! (from ! (fld ! refl (stop !))) (look_in ! 4 (sub ! 0 refl (whole !))))) (from ! (stop !)) (init ! 2 refl (tt, wt.1.0)) $
             assigns ! (of_opd ! (load ! (from ! (fld ! refl (stop !))) (look_in ! 4 (sub ! 1 refl (whole !))))) (from ! (stop !)) (init ! 0 refl (tt, wt.1.1.0)) $
-            move ! (8 ∷ []) $ use1 𝓛 (raw ((contractOf 𝓛 asked (asks 𝓤)).pre to) ⊛ ‵ Own) (apart wt.1.1.0.fits) $ split ! $
+            move ! (8 ∷ []) $ use1 𝓛 (raw ((contract_of 𝓛 asked (asks 𝓤)).pre to) ⊛ ‵ Own) (apart wt.1.1.0.fits) $ split ! $
             calling 𝓛 asked (asks 𝓤) to ! fm known (and_then ! (load ! (from ! (stop !)) (look ! 4 refl)) (and_then ! (load ! (from ! (stop !)) (look ! 2 refl)) (no_more !))) found (λ r ws. id⊢ 𝓤 _) (λ u r e is.
             -- [the result; the token; what the struct owns; _3; …; _2; …; _1; …; room for _0; …]
             land ! (from ! (stop !)) (init ! 9 refl (typed r u is)) $
             returns ! (look ! 9 refl) $ forget ! 3 refl $ forget ! 5 refl $ forget ! 7 refl $ forget ! 9 refl $
             move ! (up_from 3 8) $ free_all ! $ by ! (exits r u e))))))
 
-      walks : (C : Calls 𝓤 H) (Λ : Loops 𝓤 H) → FmC 𝓤 H 𝓛.laws C → Triple 𝓤 (C g) (contractOf 𝓛 asked (asks 𝓤)) → Walks 𝓛 ended stayed (WpFn 𝓤 H C Λ function) (clauses 𝓤)
+      walks : (C : Calls 𝓤 H) (Λ : Loops 𝓤 H) → FmC 𝓤 H 𝓛.laws C → Triple 𝓤 (C g) (contract_of 𝓛 asked (asks 𝓤)) → Walks 𝓛 ended stayed (WpFn 𝓤 H C Λ function) (clauses 𝓤)
       walks C Λ fm known =
           walked 𝓛 ended stayed (clauses 𝓤) (WpFn 𝓤 H C Λ function) (λ κs. (LL.vals (T.the_type (named_lft 1 0 tt κs)) (T'.the_laws (named_lft 1 0 tt κs)), tt)) (λ κs. (LL.tells (T.the_type (named_lft 1 0 tt κs)) (T'.the_laws (named_lft 1 0 tt κs)), tt))
           (λ κs qs bounds a _ are. via 𝓤 _ (fst∗ 𝓤 _ (emp 𝓤)) (walk κs.0 qs.0 a.0 C Λ fm known ((LL.lawful (T.the_type (named_lft 1 0 tt κs)) (T'.the_laws (named_lft 1 0 tt κs)) 𝓛).typed a.0 _ are.0).0))
@@ -110,8 +110,8 @@ module _ (R : RattleType) (Φ : List ℕ → ℕ → R.Denot → Type 0) where
     module _ (typed : (x : R.Denot) (u : Val) → Is R x (u ∷ []) → Holds (has_ty τ u) × WT u) {M : Type 1} {𝓤 : Ura M} (𝓛 : Logic 𝓤) (𝓜 : Model 𝓤 𝓛.H) (𝓡 : Running 𝓤 𝓛.H 𝓜) where
       open 𝓛 use {H}
 
-      pub thin : (f : Name) (env : Keys) → Closed 𝓤 H (tables 𝓤 H 𝓜 𝓡 env).C (tables 𝓤 H 𝓜 𝓡 env).Λ f function → (r : Routine) → env g ≡ r → Triple 𝓤 (𝓡.run r) (contractOf 𝓛 asked (asks 𝓤))
-          → Triple 𝓤 (𝓡.run (env f)) (contractOf 𝓛 ended (clauses 𝓤))
+      pub thin : (f : Name) (env : Keys) → Closed 𝓤 H (tables 𝓤 H 𝓜 𝓡 env).C (tables 𝓤 H 𝓜 𝓡 env).Λ f function → (r : Routine) → env g ≡ r → Triple 𝓤 (𝓡.run r) (contract_of 𝓛 asked (asks 𝓤))
+          → Triple 𝓤 (𝓡.run (env f)) (contract_of 𝓛 ended (clauses 𝓤))
       thin f env closed r calls met =
           met_by 𝓛 𝓜 𝓡 ended stayed (clauses 𝓤) (Goes-none 𝓛 1 B yes (λ κs x f. refl), tt) f function env closed
-          (λ fm. walks typed 𝓛 (tables 𝓤 H 𝓜 𝓡 env).C (tables 𝓤 H 𝓜 𝓡 env).Λ fm (cited 𝓤 H (contractOf 𝓛 asked (asks 𝓤)) 𝓜 𝓡 env g r calls met))
+          (λ fm. walks typed 𝓛 (tables 𝓤 H 𝓜 𝓡 env).C (tables 𝓤 H 𝓜 𝓡 env).Λ fm (cited 𝓤 H (contract_of 𝓛 asked (asks 𝓤)) 𝓜 𝓡 env g r calls met))

@@ -4,9 +4,9 @@ ghost use Rattle.std.specs.Prelude.{◌≡◌, drop};
 ghost use Rattle.fields_walk.specs.Fields.{header, close};
 ghost use Rattle.fields_walk.specs.Walked.{Walked};
 ghost use Rattle.archive_entries.specs.Layout.{CUBE};
-ghost use Rattle.archive_entries.specs.Reading.{walkArchive, archiveAnswer};
-ghost use Rattle.archive_sections.specs.Sections.{wordThere, basesFrom, cellsFrom};
-ghost use Rattle.archive_reader.specs.Place.{readerAt};
+ghost use Rattle.archive_entries.specs.Reading.{walk_archive, archive_answer};
+ghost use Rattle.archive_sections.specs.Sections.{word_there, bases_from, cells_from};
+ghost use Rattle.archive_reader.specs.Place.{reader_at};
 
 use archive_entries::ArchiveRead;
 use fields_walk::Walk;
@@ -19,14 +19,14 @@ pub struct Reader<'a> {
 
 // A reader at the first byte.
 fn start<'a>(src: &'a [u8]) -> Reader<'a>
-    ensures { result ≡ readerAt src.entry 0 }
+    ensures { result ≡ reader_at src.entry 0 }
 {
     Reader { src, at: 0 }
 }
 
 // The reader at another place.
 fn moved<'a>(r: Reader<'a>, place: usize) -> Reader<'a>
-    ensures { result ≡ readerAt r.entry.src place }
+    ensures { result ≡ reader_at r.entry.src place }
 {
     Reader {
         src: r.src,
@@ -36,7 +36,7 @@ fn moved<'a>(r: Reader<'a>, place: usize) -> Reader<'a>
 
 // The word at the reader's place.
 fn word<'a>(r: Reader<'a>) -> u32
-    ensures { result ≡ wordThere r.entry.src.now r.entry.at }
+    ensures { result ≡ word_there r.entry.src.now r.entry.at }
 {
     archive_sections::word_there(r.src, r.at)
 }
@@ -49,13 +49,13 @@ fn header<'a>(r: Reader<'a>) -> Walk
 }
 
 fn bases<'a>(r: Reader<'a>) -> Walk
-    ensures { Walked r.entry.src.now (basesFrom r.entry.src.now r.entry.at) result }
+    ensures { Walked r.entry.src.now (bases_from r.entry.src.now r.entry.at) result }
 {
     archive_sections::bases_at(r.src, r.at)
 }
 
 fn cells<'a>(r: Reader<'a>) -> Walk
-    ensures { Walked r.entry.src.now (cellsFrom r.entry.src.now r.entry.at) result }
+    ensures { Walked r.entry.src.now (cells_from r.entry.src.now r.entry.at) result }
 {
     archive_sections::cells_at(r.src, r.at)
 }
@@ -68,7 +68,7 @@ fn close<'a>(r: Reader<'a>) -> Walk
 
 // All fields of an archive, stops 1 to 11: the reader steps from section to section, up to the first stop.
 pub fn check_archive(s: &[u8]) -> ArchiveRead
-    ensures { result ≡ archiveAnswer (walkArchive s.now) }
+    ensures { result ≡ archive_answer (walk_archive s.now) }
 {
     let r = start(s);
     let base = match header(r) {

@@ -5,8 +5,8 @@ use Prim.Native.Nat.{ℕ, ◌+◌, ◌≤◌}
 use native.Mathlib.Omega.{arith}
 use lib.ListN.{length, drop}
 use borrow.Author.Tests.{le-leb}
-use Rattle.fields.specs.Words.{word_at, wordsAt}
-use Rattle.fields.specs.WordsLaws.{length-wordsAt}
+use Rattle.fields.specs.Words.{word_at, words_at}
+use Rattle.fields.specs.WordsLaws.{length_words_at}
 use Rattle.fields_walk.specs.declared.Walk.{Walk}
 use Rattle.fields_walk.specs.declared.Walk.TheVariants.{Stop, At}
 use Rattle.fields_walk.specs.Fields.{header, close}
@@ -14,58 +14,58 @@ use Rattle.fields_walk.specs.Walked.{Walked}
 use Rattle.fields_walk.proofs.Steps.{walked_as}
 use Rattle.archive_entries.specs.declared.ArchiveRead.TheVariants as Answer
 use Rattle.archive_entries.specs.Layout.{CUBE}
-use Rattle.archive_entries.specs.Reading.{bases, cells, walkArchive, archiveAnswer}
+use Rattle.archive_entries.specs.Reading.{bases, cells, walk_archive, archive_answer}
 use Rattle.archive_entries.proofs.Entries.{bases-read}
 use Rattle.archive_entries.proofs.Cells.{cells-read}
 use Rattle.archive_entries.proofs.Walking.{Opened, opened, header-stop, bases-stop, cells-stop, close-stop, entries-told}
-use Rattle.archive_sections.specs.Sections.{wordThere, basesFrom, cellsFrom}
-use Rattle.archive_sections.proofs.Ends.{bases-on, cells-on}
+use Rattle.archive_sections.specs.Sections.{word_there, bases_from, cells_from}
+use Rattle.archive_sections.proofs.Ends.{bases_on, cells_on}
 
 -- what a section's answer says, and a word, at a place
 abbrev pub Head : List ℕ → ℕ → Walk → Type 0
 Head s at w = Walked s (header CUBE (drop at s)) w
 
 abbrev pub Base : List ℕ → ℕ → Walk → Type 0
-Base s at w = Walked s (basesFrom s at) w
+Base s at w = Walked s (bases_from s at) w
 
 abbrev pub Cell : List ℕ → ℕ → Walk → Type 0
-Cell s at w = Walked s (cellsFrom s at) w
+Cell s at w = Walked s (cells_from s at) w
 
 abbrev pub Close : List ℕ → ℕ → Walk → Type 0
 Close s at w = Walked s (close s (drop at s)) w
 
 abbrev pub Word : List ℕ → ℕ → ℕ → Type 0
-Word s at x = x ≡ wordThere s at
+Word s at x = x ≡ word_there s at
 
-whole_word : (s : List ℕ) (at : ℕ) → at + 4 ≤ length s → wordThere s at ≡ word_at s at
+whole_word : (s : List ℕ) (at : ℕ) → at + 4 ≤ length s → word_there s at ≡ word_at s at
 whole_word s at h = rw (le-leb (at + 4) (length s) h)
 
 module _ (s : List ℕ) where
-  pub header-halts : {n : ℕ} → Walked s (header CUBE s) (Stop n) → Answer.Stop n ≡ archiveAnswer (walkArchive s)
-  header-halts h = header-stop s h.says
+  pub header_halts : {n : ℕ} → Walked s (header CUBE s) (Stop n) → Answer.Stop n ≡ archive_answer (walk_archive s)
+  header_halts h = header-stop s h.says
 
   module _ {p : ℕ} (h : Walked s (header CUBE s) (At p)) where
     front : Opened s (word_at s 4) p
     front = opened s h.says refl
 
-    based : {w : Walk} → Walked s (basesFrom s p) w → Walked s (bases (wordsAt s (word_at s 4) 8) (drop p s)) w
-    based f = walked_as (sym (bases-on s p front.read)) f
+    based : {w : Walk} → Walked s (bases_from s p) w → Walked s (bases (words_at s (word_at s 4) 8) (drop p s)) w
+    based f = walked_as (sym (bases_on s p front.read)) f
 
-    celled : {w : Walk} (k : ℕ) → Walked s (cellsFrom s k) w → Walked s (cells (word_at s 4) (drop k s)) w
-    celled k g = walked_as (sym (cells-on s k front.read ∙ ap (λ (d : ℕ). cells d (drop k s)) (length-wordsAt s (word_at s 4) 8))) g
+    celled : {w : Walk} (k : ℕ) → Walked s (cells_from s k) w → Walked s (cells (word_at s 4) (drop k s)) w
+    celled k g = walked_as (sym (cells_on s k front.read ∙ ap (λ (d : ℕ). cells d (drop k s)) (length_words_at s (word_at s 4) 8))) g
 
-    pub bases-halts : {n : ℕ} → Walked s (basesFrom s p) (Stop n) → Answer.Stop n ≡ archiveAnswer (walkArchive s)
-    bases-halts f = bases-stop s front (based f).says
+    pub bases_halts : {n : ℕ} → Walked s (bases_from s p) (Stop n) → Answer.Stop n ≡ archive_answer (walk_archive s)
+    bases_halts f = bases-stop s front (based f).says
 
-    module _ {k : ℕ} (f : Walked s (basesFrom s p) (At k)) where
-      pub cells-halts : {n : ℕ} → Walked s (cellsFrom s k) (Stop n) → Answer.Stop n ≡ archiveAnswer (walkArchive s)
-      cells-halts g = cells-stop s front (based f).says (celled k g).says
+    module _ {k : ℕ} (f : Walked s (bases_from s p) (At k)) where
+      pub cells_halts : {n : ℕ} → Walked s (cells_from s k) (Stop n) → Answer.Stop n ≡ archive_answer (walk_archive s)
+      cells_halts g = cells-stop s front (based f).says (celled k g).says
 
-      module _ {e : ℕ} (g : Walked s (cellsFrom s k) (At e)) where
-        pub close-halts : {n : ℕ} → Walked s (close s (drop e s)) (Stop n) → Answer.Stop n ≡ archiveAnswer (walkArchive s)
-        close-halts u = close-stop s front (based f).says (celled k g).says u.says
+      module _ {e : ℕ} (g : Walked s (cells_from s k) (At e)) where
+        pub close_halts : {n : ℕ} → Walked s (close s (drop e s)) (Stop n) → Answer.Stop n ≡ archive_answer (walk_archive s)
+        close_halts u = close-stop s front (based f).says (celled k g).says u.says
 
-        pub counted : {n d b c : ℕ} → Walked s (close s (drop e s)) (At n) → d ≡ wordThere s 4 → b ≡ wordThere s p → c ≡ wordThere s k → Answer.Entries d b c ≡ archiveAnswer (walkArchive s)
+        pub counted : {n d b c : ℕ} → Walked s (close s (drop e s)) (At n) → d ≡ word_there s 4 → b ≡ word_there s p → c ≡ word_there s k → Answer.Entries d b c ≡ archive_answer (walk_archive s)
         counted {n} {d} {b} {c} u x y z =
             let d' : d ≡ word_at s 4 = x ∙ whole_word s 4 (omega (arith, front.whole, front.some)) in
             let b' : b ≡ word_at s p = y ∙ whole_word s p (bases-read s _ p front.inside (based f).says.1).whole in

@@ -1,8 +1,8 @@
 -- What stands at a place in an archive's bytes s.
 --
---   wordThere s at    the word, 0 where the bytes end before it
---   basesFrom s at    the base count and the base entries, with the sizes of the header
---   cellsFrom s at    the normal count and the normal entries, with the header's number of dimensions
+--   word_there s at    the word, 0 where the bytes end before it
+--   bases_from s at    the base count and the base entries, with the sizes of the header
+--   cells_from s at    the normal count and the normal entries, with the header's number of dimensions
 use Rattle.std.specs.Prelude.{cond, List, ℕ, ◌+◌, leb, length, drop}
 use Rattle.fields.specs.Words.{word_at}
 use Rattle.fields_walk.specs.Parsed.{Parsed, and_then}
@@ -12,11 +12,11 @@ use Rattle.cube.specs.Measure.{Row}
 use Rattle.archive_entries.specs.Layout.{CUBE, Based}
 use Rattle.archive_entries.specs.Reading.{bases, cells}
 
-abbrev pub wordThere : List ℕ → ℕ → ℕ
-wordThere s at = cond (leb (at + 4) (length s)) (word_at s at) 0
+abbrev pub word_there : List ℕ → ℕ → ℕ
+word_there s at = cond (leb (at + 4) (length s)) (word_at s at) 0
 
-unfoldable pub basesFrom : List ℕ → ℕ → Parsed (List Based)
-basesFrom s at = and_then (header CUBE s) (λ zs rest. bases zs (drop at s))
+unfoldable pub bases_from : List ℕ → ℕ → Parsed (List Based)
+bases_from s at = and_then (header CUBE s) (λ zs rest. bases zs (drop at s))
 
-unfoldable pub cellsFrom : List ℕ → ℕ → Parsed (List (Row Total))
-cellsFrom s at = and_then (header CUBE s) (λ zs rest. cells (length zs) (drop at s))
+unfoldable pub cells_from : List ℕ → ℕ → Parsed (List (Row Total))
+cells_from s at = and_then (header CUBE s) (λ zs rest. cells (length zs) (drop at s))

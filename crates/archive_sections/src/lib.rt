@@ -3,13 +3,13 @@ ghost use Rattle.std.specs.Prelude.{◌≡◌, drop};
 ghost use Rattle.fields_walk.specs.Fields.{header, close};
 ghost use Rattle.fields_walk.specs.Walked.{Walked};
 ghost use Rattle.archive_entries.specs.Layout.{CUBE};
-ghost use Rattle.archive_sections.specs.Sections.{wordThere, basesFrom, cellsFrom};
+ghost use Rattle.archive_sections.specs.Sections.{word_there, bases_from, cells_from};
 
 use fields_walk::Walk;
 
 // The word at a place, 0 where the input ends before it.
 pub fn word_there(s: &[u8], at: usize) -> u32
-    ensures { result ≡ wordThere s.now at }
+    ensures { result ≡ word_there s.now at }
 {
     if s.len() < 4 {
         return 0;
@@ -35,7 +35,7 @@ pub fn header_at(s: &[u8], at: usize) -> Walk
 
 // The base count and the base entries at a place, with the sizes of the header.
 pub fn bases_at(s: &[u8], at: usize) -> Walk
-    ensures { Walked s.now (basesFrom s.now at) result }
+    ensures { Walked s.now (bases_from s.now at) result }
 {
     match fields_walk::check_header(s, &archive_entries::CUBE) {
         Walk::Stop(n) => return Walk::Stop(n),
@@ -52,7 +52,7 @@ pub fn bases_at(s: &[u8], at: usize) -> Walk
 
 // The normal count and the normal entries at a place, with the header's number of dimensions.
 pub fn cells_at(s: &[u8], at: usize) -> Walk
-    ensures { Walked s.now (cellsFrom s.now at) result }
+    ensures { Walked s.now (cells_from s.now at) result }
 {
     match fields_walk::check_header(s, &archive_entries::CUBE) {
         Walk::Stop(n) => return Walk::Stop(n),

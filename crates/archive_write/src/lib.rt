@@ -4,7 +4,7 @@ ghost use Rattle.fields.specs.Written.{Wrote};
 ghost use Rattle.cube.specs.Codes.{plain};
 ghost use Rattle.cube.specs.Condensed.{normals};
 ghost use Rattle.rows.specs.Rows.{cut, rows_of};
-ghost use Rattle.archive_entries.specs.Layout.{archiveBytes, Limits};
+ghost use Rattle.archive_entries.specs.Layout.{archive_bytes, Limits};
 ghost use Rattle.rows_ready.specs.Ready.{Ready};
 ghost use Rattle.archive_bases.specs.Listed.{Listed};
 ghost use Rattle.archive_normals.specs.Grouped.{Grouped};
@@ -14,7 +14,7 @@ ghost use Rattle.archive_cells.specs.Fitted.{Fitted};
 fn archive_len(sizes: &[u32], rows: &[u32], n: usize, lists: &[u8], cells: usize) -> usize
     requires listed { Listed (length sizes.now) n rows.now lists.now × (cells ≡ length (normals (plain (length sizes.now)) (cut (length sizes.now) n rows.now))) }
     requires limits { Limits sizes.now (rows_of (length sizes.now) n rows.now) }
-    ensures { result ≡ length (archiveBytes sizes.now (rows_of (length sizes.now) n rows.now)) }
+    ensures { result ≡ length (archive_bytes sizes.now (rows_of (length sizes.now) n rows.now)) }
 {
     let dims = sizes.len();
     let listed = archive_bases::sets_in(rows, n, dims, lists);
@@ -33,8 +33,8 @@ fn put_archive(
     cells: usize,
 ) -> usize
     requires listed { Listed (length sizes.now) n rows.now lists.now × Grouped (length sizes.now) n rows.now store.now used.now × (cells ≡ length (normals (plain (length sizes.now)) (cut (length sizes.now) n rows.now))) }
-    requires rows_in_bounds { length (archiveBytes sizes.now (rows_of (length sizes.now) n rows.now)) ≤ length out.old }
-    ensures { Wrote (archiveBytes sizes.now (rows_of (length sizes.now) n rows.now)) out.old out.new result }
+    requires rows_in_bounds { length (archive_bytes sizes.now (rows_of (length sizes.now) n rows.now)) ≤ length out.old }
+    ensures { Wrote (archive_bytes sizes.now (rows_of (length sizes.now) n rows.now)) out.old out.new result }
 {
     let dims = sizes.len();
     let mut at = archive_cells::put_header(out, sizes);
@@ -54,7 +54,7 @@ pub fn write_archive(
     store: &mut [u16],
 ) -> usize
     requires { Ready (length sizes.now) n rows.now × Limits sizes.now (rows_of (length sizes.now) n rows.now) × (262144 ≤ length store.old) }
-    ensures { Fitted (archiveBytes sizes.now (rows_of (length sizes.now) n rows.now)) out.old out.new result }
+    ensures { Fitted (archive_bytes sizes.now (rows_of (length sizes.now) n rows.now)) out.old out.new result }
 {
     let dims = sizes.len();
     let mut used = [0usize; 256];

@@ -19,9 +19,9 @@ use Rattle.cube.proofs.Codes.{cell-wide}
 use Rattle.rows.specs.Rows.{width, rows_of}
 use Rattle.rows_ready.proofs.Ready.{rows-front}
 use Rattle.rows_merge.specs.United.{united}
-use Rattle.fields.specs.Words.{wordsAt}
+use Rattle.fields.specs.Words.{words_at}
 use Rattle.fields_walk.proofs.Lengths.{length-below}
-use Rattle.archive_entries.specs.Reading.{readArchive, archiveAnswer}
+use Rattle.archive_entries.specs.Reading.{read_archive, archive_answer}
 use Rattle.archive_entries.specs.declared.ArchiveRead.TheVariants as Read
 use Rattle.archive_judge.proofs.Judged.{limits-ready}
 use Rattle.call_answers.specs.declared.Written.{Written}
@@ -30,11 +30,11 @@ use Rattle.call_answers.specs.Joins.{filed}
 use Rattle.call_answers.proofs.Opened.{Opened}
 use Rattle.call_ask.proofs.Outcomes.{refused}
 use Rattle.call_join.specs.Stores.{Store}
-use Rattle.call_add.specs.Adds.{coded, recordOf, added, adds}
+use Rattle.call_add.specs.Adds.{coded, record_of, added, adds}
 use Rattle.call_add.proofs.Codes.{coded-below}
-use Rattle.call_add.proofs.Records.{record-limits}
+use Rattle.call_add.proofs.Records.{record_limits}
 
-pub adds-refused : (s x : List ℕ) (z : ℤ) {k : ℕ} → archiveAnswer (readArchive s) ≡ Read.Stop k → adds s x z ≡ stop k
+pub adds-refused : (s x : List ℕ) (z : ℤ) {k : ℕ} → archive_answer (read_archive s) ≡ Read.Stop k → adds s x z ≡ stop k
 unfolding adds
 adds-refused s x z e = rw (refused s e)
 
@@ -46,43 +46,43 @@ pub answered-adds : (s x : List ℕ) {z : ℤ} → SFits w32 z → {l m : List �
 answered-adds s x f {l} {m} {r} a = subst (λ (y : ℤ). Answered (adds s x y) l m r) (same-reading f) a
 
 -- an archive's sizes and rows, as they stand in its bytes and in a flat list
-pub adds-opened : {s : List ℕ} {d n m : ℕ} {ws : List ℕ} → Opened s d n m ws → (x : List ℕ) (z : ℤ) → adds s x z ≡ added (wordsAt s d 8) (rows_of d n ws) x z
+pub adds_opened : {s : List ℕ} {d n m : ℕ} {ws : List ℕ} → Opened s d n m ws → (x : List ℕ) (z : ℤ) → adds s x z ≡ added (words_at s d 8) (rows_of d n ws) x z
 unfolding adds
-adds-opened {s} o x z = rw o.read (ap₂ (λ (zs : List ℕ) (rows : List (Row Total)). added zs rows x z) o.sizes (sym o.rows))
+adds_opened {s} o x z = rw o.read (ap₂ (λ (zs : List ℕ) (rows : List (Row Total)). added zs rows x z) o.sizes (sym o.rows))
 
-pub added-stopped : (zs : List ℕ) (rows : List (Row Total)) (x : List ℕ) (z : ℤ) → false ≡ coded zs x → added zs rows x z ≡ stop 13
+pub added_stopped : (zs : List ℕ) (rows : List (Row Total)) (x : List ℕ) (z : ℤ) → false ≡ coded zs x → added zs rows x z ≡ stop 13
 unfolding added
-added-stopped zs rows x z h = rw (← h)
+added_stopped zs rows x z h = rw (← h)
 
 module _ {zs : List ℕ} {n : ℕ} {ws : List ℕ} (p : Store zs n ws) (x : List ℕ) (z : ℤ) (m : mag z < 2 ^ 31) (k : true ≡ coded zs x) where
   wide : length x ≡ length zs
   wide = length-below zs x (coded-below zs x (sym k))
 
-  pub record-small : width (length x) ≤ 11
-  record-small = omega (arith, wide, p.ready.dims)
+  pub record_small : width (length x) ≤ 11
+  record_small = omega (arith, wide, p.ready.dims)
 
   -- the record, written as the first row of a list
-  module _ (before late : List ℕ) {t : Total} (room : 11 ≤ length late) (r : t ≡ (recordOf x z).total)
+  module _ (before late : List ℕ) {t : Total} (room : 11 ≤ length late) (r : t ≡ (record_of x z).total)
       (e : rows_of (length x) (0 + 1) late ≡ rows_of (length x) 0 before ++ record { codes = cell 255 x; total = t } ∷ []) where
     abbrev front : List ℕ
     front = take (width (length x)) late
 
     front_long : 1 * width (length zs) ≡ length front
-    front_long = omega (arith, one-mul (width (length zs)), wide, length-take-le (width (length x)) late (omega (arith, record-small, room)))
+    front_long = omega (arith, one-mul (width (length zs)), wide, length-take-le (width (length x)) late (omega (arith, record_small, room)))
 
-    holds-record : rows_of (length zs) 1 front ≡ recordOf x z ∷ []
+    holds_record : rows_of (length zs) 1 front ≡ record_of x z ∷ []
     unfolding rows_of
-    holds-record =
+    holds_record =
         ap (λ (d : ℕ). rows_of d 1 front) (sym wide)
         ∙ ap (λ (w : ℕ). rows_of (length x) 1 (take w late)) (sym (one-mul (width (length x)))) ∙ rows-front (length x) 1 late ∙ e
         ∙ ap₂ (λ (c : List ℕ) (u : Total). record { codes = c; total = u } ∷ []) (cell-wide 8 x (omega (arith, wide, p.ready.dims))) r
 
-    pub record-store : Store zs 1 front
-    record-store = let l = record-limits zs x z m p.limits.sized (sym k) in record {
-      ready = limits-ready l holds-record refl front_long;
-      limits = rw holds-record l;
+    pub record_store : Store zs 1 front
+    record_store = let l = record_limits zs x z m p.limits.sized (sym k) in record {
+      ready = limits-ready l holds_record refl front_long;
+      limits = rw holds_record l;
     }
 
     pub added-filed : added zs (rows_of (length zs) n ws) x z ≡ filed zs (united sums (length zs) (rows_of (length zs) n ws) (rows_of (length zs) 1 front))
     unfolding added
-    added-filed = rw (← k) (ap (λ (l : List (Row Total)). filed zs (united sums (length zs) (rows_of (length zs) n ws) l)) (sym holds-record))
+    added-filed = rw (← k) (ap (λ (l : List (Row Total)). filed zs (united sums (length zs) (rows_of (length zs) n ws) l)) (sym holds_record))

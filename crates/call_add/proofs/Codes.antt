@@ -15,8 +15,8 @@ use Rattle.call_add.specs.Adds.{coded}
 abbrev under : ℕ → ℕ → Bool
 under z a = ltb a z
 
-pub coded-pairs : ByPairs coded under
-coded-pairs = record { none = refl; more = λ z a zs x. refl }
+pub coded_pairs : ByPairs coded under
+coded_pairs = record { none = refl; more = λ z a zs x. refl }
 
 pub coded-length : (zs x : List ℕ) → length x ≢ length zs → coded zs x ≡ false
 coded-length [] [] n = absurd (n refl)
@@ -30,8 +30,8 @@ coded-below [] (a ∷ x) h = absurd (false≢true h)
 coded-below (z ∷ zs) [] h = absurd (false≢true h)
 coded-below (z ∷ zs) (a ∷ x) h = let p = both (ltb a z) (coded zs x) h in (ltb-true a z p.0, coded-below zs x p.1)
 
-pub below-is-coded : (zs x : List ℕ) → Below zs x → coded zs x ≡ true
-below-is-coded [] [] h = refl
-below-is-coded [] (a ∷ x) h = absurd h
-below-is-coded (z ∷ zs) [] h = absurd h
-below-is-coded (z ∷ zs) (a ∷ x) h = both_of (lt-ltb a z h.0) (below-is-coded zs x h.1)
+pub below_is_coded : (zs x : List ℕ) → Below zs x → coded zs x ≡ true
+below_is_coded [] [] h = refl
+below_is_coded [] (a ∷ x) h = absurd h
+below_is_coded (z ∷ zs) [] h = absurd h
+below_is_coded (z ∷ zs) (a ∷ x) h = both_of (lt-ltb a z h.0) (below_is_coded zs x h.1)

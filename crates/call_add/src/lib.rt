@@ -1,7 +1,7 @@
 // One late reading: an archive with one record added.
 // The call answers for whatever bytes, codes and reading it is lent, looks at the output last, and leaves every byte of it alone when it stops.
 ghost use Rattle.std.specs.Prelude.{◌≡◌, ◌+◌, ◌*◌, ◌≤◌, length};
-ghost use Rattle.fields.specs.Words.{wordsAt};
+ghost use Rattle.fields.specs.Words.{words_at};
 ghost use Rattle.rows.specs.Rows.{rows_of};
 ghost use Rattle.call_answers.specs.Answers.{Answered};
 ghost use Rattle.call_join.specs.Stores.{Store, Accepted};
@@ -66,8 +66,8 @@ fn add_sized(
     store: &mut [u16],
     out: &mut [u8],
 ) -> Written
-    requires { (8 + 4 * length sizes.old ≤ length archive.now) × Store (wordsAt archive.now (length sizes.old) 8) n rows.now × (262144 ≤ length store.old) }
-    ensures { Answered (added (wordsAt archive.now (length sizes.old) 8) (rows_of (length sizes.old) n rows.now) codes.now reading) out.old out.new result }
+    requires { (8 + 4 * length sizes.old ≤ length archive.now) × Store (words_at archive.now (length sizes.old) 8) n rows.now × (262144 ≤ length store.old) }
+    ensures { Answered (added (words_at archive.now (length sizes.old) 8) (rows_of (length sizes.old) n rows.now) codes.now reading) out.old out.new result }
 {
     fields::read_words(archive, 8, sizes);
     add_row(sizes, rows, n, codes, reading, store, out)

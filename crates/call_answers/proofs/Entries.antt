@@ -10,14 +10,14 @@ use Rattle.cube.specs.Condensed.{Entry, normals, ours}
 use Rattle.fields_walk.specs.Parsed.{got}
 use Rattle.fields_walk.specs.Limits.{Bytes}
 use Rattle.archive_entries.specs.Layout.{Held, required}
-use Rattle.archive_entries.specs.Reading.{readArchive, rowsIn}
-use Rattle.archive_entries.proofs.Accepted.{archive-forth}
-use Rattle.call_answers.specs.Calls.{entriesIn}
+use Rattle.archive_entries.specs.Reading.{read_archive, rows_in}
+use Rattle.archive_entries.proofs.Accepted.{archive_forth}
+use Rattle.call_answers.specs.Calls.{entries_in}
 
-pub entries-required : (zs : List ℕ) (rows : List (Row Total)) → entriesIn (required zs rows) ≡ ours (plain (length zs)) sums rows
+pub entries-required : (zs : List ℕ) (rows : List (Row Total)) → entries_in (required zs rows) ≡ ours (plain (length zs)) sums rows
 unfolding required ours
 entries-required zs rows =
     ap₂ (λ (l m : List (Entry Total)). l ++ m) (map-map _ _ rows) (map-map _ _ (normals (plain (length zs)) (codes_of rows)))
 
-pub entries-ours : (s : List ℕ) (a : Held) → Bytes s → readArchive s ≡ got a [] → entriesIn a ≡ ours (plain (length a.sizes)) sums (rowsIn a)
-entries-ours s a b e = ap entriesIn (archive-forth s a [] b e).2 ∙ entries-required a.sizes (rowsIn a)
+pub entries-ours : (s : List ℕ) (a : Held) → Bytes s → read_archive s ≡ got a [] → entries_in a ≡ ours (plain (length a.sizes)) sums (rows_in a)
+entries-ours s a b e = ap entries_in (archive_forth s a [] b e).2 ∙ entries-required a.sizes (rows_in a)

@@ -15,7 +15,7 @@ module _ {o : Outcome} {xs l m : List ℕ} {n : ℕ} (e : o ≡ bytes xs) (f : F
       let k : length l < length xs = omega (arith, h, s, f.count) in
       subst (λ (x : List ℕ). Answered o l x (Stop 15)) (sym (f.short k)) (no_room l e k)
 
-  pub fitted-done : n ≤ length m → Answered o l m (Length n)
-  fitted-done h =
+  pub fitted_done : n ≤ length m → Answered o l m (Length n)
+  fitted_done h =
       let k : length xs ≤ length l = omega (arith, h, s, f.count) in
       done e k (record { count = f.count; same = s; list = f.fits k })

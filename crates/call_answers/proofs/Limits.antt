@@ -12,24 +12,24 @@ use Rattle.cube.specs.declared.Total.{Total}
 use Rattle.cube.specs.Measure.{sums, Row}
 use Rattle.cube.specs.Bounds.{most, count_of}
 use Rattle.cube.proofs.Sums.{sums-add}
-use Rattle.cube.proofs.Made.{can-plus}
-use Rattle.rows_merge.specs.United.{asOne, united, merged}
+use Rattle.cube.proofs.Made.{can_plus}
+use Rattle.rows_merge.specs.United.{as_one, united, merged}
 use Rattle.rows_merge.proofs.Merging.{united-merged}
 use Rattle.rows_merge.proofs.United.{united-rising, united-each, united-count}
-use Rattle.archive_entries.specs.Layout.{Fair, Limits, archiveBytes}
+use Rattle.archive_entries.specs.Layout.{Fair, Limits, archive_bytes}
 use Rattle.archive_entries.proofs.Limits.{limits-table}
 use Rattle.call_answers.specs.Answers.{stop, bytes}
 use Rattle.call_answers.specs.Joins.{few, filed}
 
-pub fair-both : (zs : List ℕ) (r q : Row Total) → r.codes ≡ q.codes → Fair zs r → Fair zs q → Fair zs (asOne sums r q)
+pub fair-both : (zs : List ℕ) (r q : Row Total) → r.codes ≡ q.codes → Fair zs r → Fair zs q → Fair zs (as_one sums r q)
 fair-both zs r q e f g = record {
   below = f.below;
   counted = omega (arith, f.counted);
-  made = can-plus r.total.count q.total.count r.total.sum q.total.sum f.made g.made;
+  made = can_plus r.total.count q.total.count r.total.sum q.total.sum f.made g.made;
 }
 
 -- rows within the limits are filed as they are
-pub filed-limits : (zs : List ℕ) (rows : List (Row Total)) → Limits zs rows → filed zs rows ≡ bytes (archiveBytes zs rows)
+pub filed-limits : (zs : List ℕ) (rows : List (Row Total)) → Limits zs rows → filed zs rows ≡ bytes (archive_bytes zs rows)
 filed-limits zs rows l = let e : few rows ≡ true = both_of (le-leb (length rows) 1024 l.few) (le-leb (count_of rows) most l.counts) in rw e
 
 module _ (zs : List ℕ) (a b : List (Row Total)) (l : Limits zs a) (m : Limits zs b) where
@@ -72,5 +72,5 @@ module _ (zs : List ℕ) (a b : List (Row Total)) (l : Limits zs a) (m : Limits 
     pub limits-merged : Limits zs merge
     limits-merged = rw (s ∙ sym rows-merged) (limits-united few-merged)
 
-    pub filed-merged : filed zs rows ≡ bytes (archiveBytes zs merge)
-    filed-merged = filed-limits zs rows (limits-united few-merged) ∙ ap (λ (l : List (Row Total)). bytes (archiveBytes zs l)) (rows-merged ∙ sym s)
+    pub filed-merged : filed zs rows ≡ bytes (archive_bytes zs merge)
+    filed-merged = filed-limits zs rows (limits-united few-merged) ∙ ap (λ (l : List (Row Total)). bytes (archive_bytes zs l)) (rows-merged ∙ sym s)

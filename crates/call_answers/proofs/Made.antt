@@ -10,8 +10,8 @@ use lib.Signed.{mag}
 use Rattle.lists.specs.Lists.{◌∈◌}
 use Rattle.cube.specs.declared.Total.{Total}
 use Rattle.cube.specs.Measure.{Row, plus, nothing, sums, total_of}
-use Rattle.cube.specs.Bounds.{canMake}
-use Rattle.cube.proofs.Made.{Made, made-can, made-plus}
+use Rattle.cube.specs.Bounds.{can_make}
+use Rattle.cube.proofs.Made.{Made, made_can, made-plus}
 
 made_one : (z : ℤ) → mag z < 2 ^ 31 → Made 1 z
 made_one (pos m) h = omega (arith, h)
@@ -31,5 +31,5 @@ made-from t (r ∷ rows) h k =
     (λ q m. k q (Memᴰ.tail m))
 
 -- readings make their total
-pub readings-make : (rows : List (Row Total)) → ((r : Row Total) → r ∈ rows → One r) → canMake (total_of sums rows).count (total_of sums rows).sum ≡ true
-readings-make rows h = made-can (total_of sums rows).count (total_of sums rows).sum (made-from nothing rows (omega arith) h)
+pub readings_make : (rows : List (Row Total)) → ((r : Row Total) → r ∈ rows → One r) → can_make (total_of sums rows).count (total_of sums rows).sum ≡ true
+readings_make rows h = made_can (total_of sums rows).count (total_of sums rows).sum (made-from nothing rows (omega arith) h)

@@ -1,7 +1,7 @@
 -- What a call that writes an output returns and leaves there (document 01: "The question is looked at after the whole file, and the output last"; "A stop returns its number only; inputs and output keep every byte").
 --
 --   Outcome             what the input alone settles: a stop, or the bytes of the result
---   refuseUnless b n o  stop n, unless the test b passed
+--   refuse_unless b n o  stop n, unless the test b passed
 --   within room o       stop 15 where the result is longer than the output that is lent
 --   Written             the length, or a stop's number: the enum of src/lib.rt
 --   answer_of o          the answer's number for an outcome
@@ -16,12 +16,12 @@ pub data Outcome : Type 0 where
   stop : ℕ → Outcome
   bytes : List ℕ → Outcome
 
-abbrev pub refuseUnless : Bool → ℕ → Outcome → Outcome
-refuseUnless b n o = cond b o (stop n)
+abbrev pub refuse_unless : Bool → ℕ → Outcome → Outcome
+refuse_unless b n o = cond b o (stop n)
 
 abbrev pub within : ℕ → Outcome → Outcome
 within room (stop n) = stop n
-within room (bytes xs) = refuseUnless (leb (length xs) room) 15 (bytes xs)
+within room (bytes xs) = refuse_unless (leb (length xs) room) 15 (bytes xs)
 
 abbrev pub answer_of : Outcome → Written
 answer_of (stop n) = Stop n

@@ -3,27 +3,27 @@
 --   builds s            the archive of the table s (stops 1 to 6, 10, 11)
 --   Checked             the base count and the normal count, or a stop's number: the enum of src/lib.rt
 --   checks s            of the archive s (stops 1 to 12)
---   listsCuboid s set   the cuboid of a set, listed (stops 1 to 12, 14)
+--   lists_cuboid s set   the cuboid of a set, listed (stops 1 to 12, 14)
 --   expands s           the expansion of the archive s (stops 1 to 12)
---   entriesIn a         the entries that an archive holds
+--   entries_in a         the entries that an archive holds
 --   Found               a cell with its entry's number, 'no record', or a stop's number: the enum of src/lib.rt
---   looksUp s q         the answer of the archive s to the question q (stops 1 to 13)
+--   looks_up s q         the answer of the archive s to the question q (stops 1 to 13)
 use Rattle.std.specs.Prelude.{cond, List, ◌++◌, map, ℕ, ◌^◌, ltb, length}
 use Rattle.fields_walk.specs.Parsed.{Parsed, stop, got}
 use Rattle.cube.specs.declared.Total.{Total}
 use Rattle.cube.specs.Codes.{plain}
 use Rattle.cube.specs.Condensed.{Entry, base, normal, Answer, no_record, found, lookup}
 use Rattle.table.specs.Layout.{Records}
-use Rattle.table.specs.Reading.{readTable, baseRows}
-use Rattle.archive_entries.specs.Layout.{Held, archiveBytes}
-use Rattle.archive_entries.specs.Reading.{readArchive, rowsIn}
+use Rattle.table.specs.Reading.{read_table, base_rows}
+use Rattle.archive_entries.specs.Layout.{Held, archive_bytes}
+use Rattle.archive_entries.specs.Reading.{read_archive, rows_in}
 use Rattle.call_questions.specs.Questions.{asks}
-use Rattle.call_cuboids.specs.Cuboids.{cuboidBytes, expansionBytes}
+use Rattle.call_cuboids.specs.Cuboids.{cuboid_bytes, expansion_bytes}
 use Rattle.call_answers.specs.declared.Checked.{Checked}
 use Rattle.call_answers.specs.declared.Checked.TheVariants as Check
 use Rattle.call_answers.specs.declared.Found.{Found}
 use Rattle.call_answers.specs.declared.Found.TheVariants as Find
-use Rattle.call_answers.specs.Answers.{Outcome, stop as stopped, bytes, refuseUnless}
+use Rattle.call_answers.specs.Answers.{Outcome, stop as stopped, bytes, refuse_unless}
 
 -- what was read settles the outcome
 abbrev pub outcome : {A : Type 0} → (A → Outcome) → Parsed A → Outcome
@@ -36,10 +36,10 @@ dims a = length a.sizes
 -- ---- build
 
 abbrev pub archived : Records → Outcome
-archived t = bytes (archiveBytes t.sizes (baseRows t))
+archived t = bytes (archive_bytes t.sizes (base_rows t))
 
 unfoldable pub builds : List ℕ → Outcome
-builds s = outcome archived (readTable s)
+builds s = outcome archived (read_table s)
 
 -- ---- check
 
@@ -48,26 +48,26 @@ counted (stop n) = Check.Stop n
 counted (got a rest) = Check.Entries (length a.bases) (length a.cells)
 
 unfoldable pub checks : List ℕ → Checked
-checks s = counted (readArchive s)
+checks s = counted (read_archive s)
 
 -- ---- list a cuboid, expand
 
-abbrev pub cuboidOf : ℕ → Held → Outcome
-cuboidOf set a = refuseUnless (ltb set (2 ^ dims a)) 14 (bytes (cuboidBytes (dims a) (rowsIn a) set))
+abbrev pub cuboid_of : ℕ → Held → Outcome
+cuboid_of set a = refuse_unless (ltb set (2 ^ dims a)) 14 (bytes (cuboid_bytes (dims a) (rows_in a) set))
 
-unfoldable pub listsCuboid : List ℕ → ℕ → Outcome
-listsCuboid s set = outcome (cuboidOf set) (readArchive s)
+unfoldable pub lists_cuboid : List ℕ → ℕ → Outcome
+lists_cuboid s set = outcome (cuboid_of set) (read_archive s)
 
 abbrev pub expanded : Held → Outcome
-expanded a = bytes (expansionBytes (dims a) (rowsIn a))
+expanded a = bytes (expansion_bytes (dims a) (rows_in a))
 
 unfoldable pub expands : List ℕ → Outcome
-expands s = outcome expanded (readArchive s)
+expands s = outcome expanded (read_archive s)
 
 -- ---- look up
 
-abbrev pub entriesIn : Held → List (Entry Total)
-entriesIn a = map (λ b. base b.row b.list) a.bases ++ map normal a.cells
+abbrev pub entries_in : Held → List (Entry Total)
+entries_in a = map (λ b. base b.row b.list) a.bases ++ map normal a.cells
 
 -- 'no record' is a result and no refusal
 abbrev pub told : Answer Total → Found
@@ -76,7 +76,7 @@ told (found n t) = Find.Cell t.sum t.count n
 
 abbrev pub answered : List ℕ → Parsed Held → Found
 answered q (stop n) = Find.Stop n
-answered q (got a rest) = cond (asks a.sizes q) (told (lookup (plain (dims a)) q (entriesIn a))) (Find.Stop 13)
+answered q (got a rest) = cond (asks a.sizes q) (told (lookup (plain (dims a)) q (entries_in a))) (Find.Stop 13)
 
-unfoldable pub looksUp : List ℕ → List ℕ → Found
-looksUp s q = answered q (readArchive s)
+unfoldable pub looks_up : List ℕ → List ℕ → Found
+looks_up s q = answered q (read_archive s)

@@ -11,28 +11,28 @@ use Rattle.lists.specs.Order.{same}
 use Rattle.cube.specs.declared.Total.{Total}
 use Rattle.cube.specs.Measure.{sums, Row}
 use Rattle.cube.specs.Bounds.{most, count_of}
-use Rattle.rows_merge.specs.United.{asOne, united}
-use Rattle.archive_entries.specs.Layout.{Held, archiveBytes}
-use Rattle.archive_entries.specs.Reading.{rowsIn, readArchive}
-use Rattle.call_answers.specs.Answers.{Outcome, bytes, refuseUnless}
+use Rattle.rows_merge.specs.United.{as_one, united}
+use Rattle.archive_entries.specs.Layout.{Held, archive_bytes}
+use Rattle.archive_entries.specs.Reading.{rows_in, read_archive}
+use Rattle.call_answers.specs.Answers.{Outcome, bytes, refuse_unless}
 use Rattle.call_answers.specs.Calls.{outcome, dims}
 
 abbrev pub few : List (Row Total) → Bool
 few rows = leb (length rows) 1024 && leb (count_of rows) most
 
 abbrev pub filed : List ℕ → List (Row Total) → Outcome
-filed zs rows = refuseUnless (few rows) 18 (bytes (archiveBytes zs rows))
+filed zs rows = refuse_unless (few rows) 18 (bytes (archive_bytes zs rows))
 
 abbrev pub unites : Held → Held → Outcome
-unites a b = refuseUnless (same a.sizes b.sizes) 17 (filed a.sizes (united sums (dims a) (rowsIn a) (rowsIn b)))
+unites a b = refuse_unless (same a.sizes b.sizes) 17 (filed a.sizes (united sums (dims a) (rows_in a) (rows_in b)))
 
 unfoldable pub joins : List ℕ → List ℕ → Outcome
-joins s t = outcome (λ a. outcome (unites a) (readArchive t)) (readArchive s)
+joins s t = outcome (λ a. outcome (unites a) (read_archive t)) (read_archive s)
 
 -- sizes, codes and lists stay
 abbrev pub doubled : Held → Held
 doubled a = record {
   sizes = a.sizes;
-  bases = map (λ b. record { row = asOne sums b.row b.row; list = b.list }) a.bases;
-  cells = map (λ r. asOne sums r r) a.cells;
+  bases = map (λ b. record { row = as_one sums b.row b.row; list = b.list }) a.bases;
+  cells = map (λ r. as_one sums r r) a.cells;
 }

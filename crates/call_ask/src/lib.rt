@@ -2,12 +2,12 @@
 // Every call answers for whatever bytes it is lent, looks at the output last, and leaves every byte of it alone when it stops.
 ghost use Rattle.std.specs.Prelude.{◌≡◌, ◌*◌, take};
 ghost use Rattle.rows.specs.Rows.{width, rows_of};
-ghost use Rattle.archive_entries.specs.Reading.{walkArchive, archiveAnswer};
+ghost use Rattle.archive_entries.specs.Reading.{walk_archive, archive_answer};
 ghost use Rattle.rows_ready.specs.Ready.{Ready};
 ghost use Rattle.archive_normals.specs.Grouped.{Grouped};
-ghost use Rattle.call_cuboids.specs.Cuboids.{cuboidBytes, expansionBytes};
+ghost use Rattle.call_cuboids.specs.Cuboids.{cuboid_bytes, expansion_bytes};
 ghost use Rattle.call_answers.specs.Answers.{bytes, Answered};
-ghost use Rattle.call_answers.specs.Calls.{checks, listsCuboid, expands};
+ghost use Rattle.call_answers.specs.Calls.{checks, lists_cuboid, expands};
 ghost use Rattle.call_ask.specs.Accepts.{Accepts};
 
 use archive_entries::ArchiveRead;
@@ -30,7 +30,7 @@ pub fn check(archive: &[u8]) -> Checked
 // Writes the cuboid of a set where there is room for it.
 fn fit_cuboid(out: &mut [u8], rows: &[u32], n: usize, dims: usize, set: u32) -> Written
     requires { Ready dims n rows.now }
-    ensures { Answered (bytes (cuboidBytes dims (rows_of dims n rows.now) set)) out.old out.new result }
+    ensures { Answered (bytes (cuboid_bytes dims (rows_of dims n rows.now) set)) out.old out.new result }
 {
     let needed = call_cuboids::write_cuboid(out, rows, n, dims, set);
     if out.len() < needed {
@@ -50,7 +50,7 @@ fn list_read(
     out: &mut [u8],
 ) -> Written
     requires { Accepts s.now rows.now dims bases cells }
-    ensures { Answered (listsCuboid s.now set) out.old out.new result }
+    ensures { Answered (lists_cuboid s.now set) out.old out.new result }
 {
     if lattice::sets_of(dims) <= set {
         return Written::Stop(14);
@@ -63,7 +63,7 @@ fn list_read(
 
 // Reads an archive into the array that is lent, and lists the cuboid of a set.
 fn list_in(s: &[u8], rows: &mut [u32; rows::ROOM], set: u32, out: &mut [u8]) -> Written
-    ensures { Answered (listsCuboid s.now set) out.old out.new result }
+    ensures { Answered (lists_cuboid s.now set) out.old out.new result }
 {
     match archive_read::read_required(s, rows) {
         ArchiveRead::Stop(n) => Written::Stop(n),
@@ -75,7 +75,7 @@ fn list_in(s: &[u8], rows: &mut [u32; rows::ROOM], set: u32, out: &mut [u8]) -> 
 
 // Lists the cuboid of a set.
 pub fn list_cuboid(archive: &[u8], set: u32, out: &mut [u8]) -> Written
-    ensures { Answered (listsCuboid archive.now set) out.old out.new result }
+    ensures { Answered (lists_cuboid archive.now set) out.old out.new result }
 {
     let mut rows = [0u32; rows::ROOM];
     list_in(archive, &mut rows, set, out)
@@ -91,7 +91,7 @@ fn fit_expansion(
     used: &mut [usize],
 ) -> Written
     requires { Grouped dims n rows.now store.old used.old }
-    ensures { Answered (bytes (expansionBytes dims (rows_of dims n rows.now))) out.old out.new result }
+    ensures { Answered (bytes (expansion_bytes dims (rows_of dims n rows.now))) out.old out.new result }
 {
     let needed = call_expansion::write_expansion(out, rows, n, dims, store, used);
     if out.len() < needed {
@@ -132,7 +132,7 @@ fn expand_in(
     cells: u32,
     out: &mut [u8],
 ) -> Written
-    requires { archiveAnswer (walkArchive s.now) ≡ ArchiveRead.Entries dims bases cells }
+    requires { archive_answer (walk_archive s.now) ≡ ArchiveRead.Entries dims bases cells }
     ensures { Answered (expands s.now) out.old out.new result }
 {
     match archive_read::read_judged(s, rows, store, used, dims, bases, cells) {
@@ -145,7 +145,7 @@ fn expand_in(
 
 // Expands an archive whose fields are right. The slots of the check are completed for the expansion.
 fn expand_fields(s: &[u8], dims: u32, bases: u32, cells: u32, out: &mut [u8]) -> Written
-    requires { archiveAnswer (walkArchive s.now) ≡ ArchiveRead.Entries dims bases cells }
+    requires { archive_answer (walk_archive s.now) ≡ ArchiveRead.Entries dims bases cells }
     ensures { Answered (expands s.now) out.old out.new result }
 {
     let mut rows = [0u32; rows::ROOM];

@@ -6,19 +6,19 @@ use Prim.Native.Nat.{ℕ, ◌+◌, ◌*◌, ◌≤◌}
 use native.Mathlib.Omega.{arith}
 use lib.ListN.{length, take}
 use lib.Seq.{length-take-le}
-use Rattle.rows.proofs.Rows.{rows-small}
-use Rattle.fields.specs.Words.{wordsAt}
+use Rattle.rows.proofs.Rows.{rows_small}
+use Rattle.fields.specs.Words.{words_at}
 use Rattle.fields_walk.specs.Parsed.{Parsed, stop, got}
 use Rattle.fields_walk.specs.Limits.{Bytes}
 use Rattle.cube.specs.declared.Total.{Total}
 use Rattle.cube.specs.Measure.{Row}
 use Rattle.rows.specs.Rows.{width, rows_of}
 use Rattle.table.specs.Layout.{Records}
-use Rattle.table.specs.Reading.{readTable, baseRows, tableAnswer, Stored}
+use Rattle.table.specs.Reading.{read_table, base_rows, table_answer, Stored}
 use Rattle.table.specs.declared.TableRead.TheVariants as Read
-use Rattle.table.proofs.Accepted.{table-forth}
+use Rattle.table.proofs.Accepted.{table_forth}
 use Rattle.table_rows.proofs.Rows.{placed}
-use Rattle.archive_entries.specs.Layout.{archiveBytes, Limits}
+use Rattle.archive_entries.specs.Layout.{archive_bytes, Limits}
 use Rattle.rows_ready.specs.Ready.{Ready}
 use Rattle.rows_ready.proofs.Ready.{rows-front}
 use Rattle.archive_judge.proofs.Judged.{limits-ready}
@@ -31,15 +31,15 @@ use Rattle.call_answers.proofs.Folded.{folded-within}
 
 -- ---- a table that was read
 
-pub build-refused : (s : List ℕ) {k : ℕ} → tableAnswer (readTable s) ≡ Read.Stop k → builds s ≡ stopped k
+pub build-refused : (s : List ℕ) {k : ℕ} → table_answer (read_table s) ≡ Read.Stop k → builds s ≡ stopped k
 unfolding builds
-build-refused s {k} e = rw (go (readTable s) e)
+build-refused s {k} e = rw (go (read_table s) e)
   where
-    go : (p : Parsed Records) → tableAnswer p ≡ Read.Stop k → p ≡ stop k
+    go : (p : Parsed Records) → table_answer p ≡ Read.Stop k → p ≡ stop k
     go (stop n) f = let z : n ≡ k = cc in ap stop z
     go (got t rest) f = let z : false ≡ true = cc in absurd (false≢true z)
 
-told : (p : Parsed Records) {d n : ℕ} → tableAnswer p ≡ Read.Rows d n → (t : Records) × (rest : List ℕ) × (p ≡ got t rest) × (length t.sizes ≡ d) × (length (baseRows t) ≡ n)
+told : (p : Parsed Records) {d n : ℕ} → table_answer p ≡ Read.Rows d n → (t : Records) × (rest : List ℕ) × (p ≡ got t rest) × (length t.sizes ≡ d) × (length (base_rows t) ≡ n)
 told (stop k) e = let z : false ≡ true = cc in absurd (false≢true z)
 told (got t rest) e = (t, rest, refl, cc e, cc e)
 
@@ -48,28 +48,28 @@ pub record Tabled (s : List ℕ) (d n : ℕ) (ws : List ℕ) : Type 0 where
   pub small : n * width d ≤ 11264
   pub headed : 8 + 4 * d ≤ length s
   pub ready : Ready d n ws
-  pub limits : Limits (wordsAt s d 8) (rows_of d n ws)
-  pub built : builds s ≡ bytes (archiveBytes (wordsAt s d 8) (rows_of d n ws))
+  pub limits : Limits (words_at s d 8) (rows_of d n ws)
+  pub built : builds s ≡ bytes (archive_bytes (words_at s d 8) (rows_of d n ws))
 
-pub tabled : {s : List ℕ} {d n : ℕ} → Bytes s → tableAnswer (readTable s) ≡ Read.Rows d n → (ws : List ℕ)
-    → 11264 ≤ length ws → Stored (readTable s) ws → Tabled s d n (take (n * width d) ws)
+pub tabled : {s : List ℕ} {d n : ℕ} → Bytes s → table_answer (read_table s) ≡ Read.Rows d n → (ws : List ℕ)
+    → 11264 ≤ length ws → Stored (read_table s) ws → Tabled s d n (take (n * width d) ws)
 unfolding builds
 tabled {s} {d} {n} b e ws room h =
-    let x = told (readTable s) e in
+    let x = told (read_table s) e in
     let t = x.0 in
-    let l = folded-within t (table-forth s t x.1 b x.2).0 in
+    let l = folded-within t (table_forth s t x.1 b x.2).0 in
     let few : n ≤ 1024 = omega (arith, l.few, x.4) in
     let dims : d ≤ 8 = omega (arith, l.sized.few, x.3) in
-    let small = rows-small d n dims few in
-    let stored : rows_of (length t.sizes) (length (baseRows t)) ws ≡ baseRows t = subst (λ (p : Parsed Records). Stored p ws) x.2 h in
-    let rows : rows_of d n (take (n * width d) ws) ≡ baseRows t
+    let small = rows_small d n dims few in
+    let stored : rows_of (length t.sizes) (length (base_rows t)) ws ≡ base_rows t = subst (λ (p : Parsed Records). Stored p ws) x.2 h in
+    let rows : rows_of d n (take (n * width d) ws) ≡ base_rows t
     = rows-front d n ws ∙ ap₂ (λ (i j : ℕ). rows_of i j ws) (sym x.3) (sym x.4) ∙ stored in
     let at = placed s t x.2 in
-    let sizes : t.sizes ≡ wordsAt s d 8 = at.sizes ∙ ap (λ (k : ℕ). wordsAt s k 8) x.3 in
+    let sizes : t.sizes ≡ words_at s d 8 = at.sizes ∙ ap (λ (k : ℕ). words_at s k 8) x.3 in
     record {
       small = small;
       headed = omega (arith, at.whole, x.3);
       ready = limits-ready l rows x.3 (sym (length-take-le (n * width d) ws (omega (arith, small, room))));
       limits = subst (λ (zs : List ℕ). Limits zs (rows_of d n (take (n * width d) ws))) sizes (subst (Limits t.sizes) (sym rows) l);
-      built = rw x.2 (ap₂ (λ (zs : List ℕ) (r : List (Row Total)). bytes (archiveBytes zs r)) sizes (sym rows));
+      built = rw x.2 (ap₂ (λ (zs : List ℕ) (r : List (Row Total)). bytes (archive_bytes zs r)) sizes (sym rows));
     }

@@ -1,9 +1,9 @@
 // The archive built from a table.
 ghost use Rattle.std.specs.Prelude.{◌≡◌, ◌+◌, ◌*◌, ◌≤◌, length};
 ghost use Rattle.rows.specs.Rows.{rows_of};
-ghost use Rattle.fields.specs.Words.{wordsAt};
-ghost use Rattle.table.specs.Reading.{readTable, tableAnswer, Stored};
-ghost use Rattle.archive_entries.specs.Layout.{archiveBytes, Limits};
+ghost use Rattle.fields.specs.Words.{words_at};
+ghost use Rattle.table.specs.Reading.{read_table, table_answer, Stored};
+ghost use Rattle.archive_entries.specs.Layout.{archive_bytes, Limits};
 ghost use Rattle.rows_ready.specs.Ready.{Ready};
 ghost use Rattle.call_answers.specs.Answers.{bytes, Answered};
 ghost use Rattle.call_answers.specs.Calls.{builds};
@@ -20,7 +20,7 @@ pub fn fit_archive(
     store: &mut [u16],
 ) -> Written
     requires { Ready (length sizes.now) n rows.now × Limits sizes.now (rows_of (length sizes.now) n rows.now) × (262144 ≤ length store.old) }
-    ensures { Answered (bytes (archiveBytes sizes.now (rows_of (length sizes.now) n rows.now))) out.old out.new result }
+    ensures { Answered (bytes (archive_bytes sizes.now (rows_of (length sizes.now) n rows.now))) out.old out.new result }
 {
     let needed = archive_write::write_archive(out, sizes, rows, n, store);
     if out.len() < needed {
@@ -39,8 +39,8 @@ fn write_sized(
     out: &mut [u8],
 ) -> Written
     requires sizes_in_bounds { (8 + 4 * length sizes.old ≤ length s.now) × Ready (length sizes.old) n rows.now × (262144 ≤ length store.old) }
-    requires limits { Limits (wordsAt s.now (length sizes.old) 8) (rows_of (length sizes.old) n rows.now) }
-    ensures { Answered (bytes (archiveBytes (wordsAt s.now (length sizes.old) 8) (rows_of (length sizes.old) n rows.now))) out.old out.new result }
+    requires limits { Limits (words_at s.now (length sizes.old) 8) (rows_of (length sizes.old) n rows.now) }
+    ensures { Answered (bytes (archive_bytes (words_at s.now (length sizes.old) 8) (rows_of (length sizes.old) n rows.now))) out.old out.new result }
 {
     fields::read_words(s, 8, sizes);
     fit_archive(out, sizes, rows, n, store)
@@ -48,8 +48,8 @@ fn write_sized(
 
 // Writes the archive of a table that was accepted; the array has its base rows.
 fn build_read(s: &[u8], rows: &[u32], dims: u32, count: u32, out: &mut [u8]) -> Written
-    requires s_value { tableAnswer (readTable s.now) ≡ TableRead.Rows dims count }
-    requires in_bounds { (11264 ≤ length rows.now) × Stored (readTable s.now) rows.now }
+    requires s_value { table_answer (read_table s.now) ≡ TableRead.Rows dims count }
+    requires in_bounds { (11264 ≤ length rows.now) × Stored (read_table s.now) rows.now }
     ensures { Answered (builds s.now) out.old out.new result }
 {
     let d = dims as usize;

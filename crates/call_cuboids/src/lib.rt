@@ -5,10 +5,10 @@ ghost use Rattle.cube.specs.Measure.{sums as measure};
 ghost use Rattle.cube.specs.Codes.{plain};
 ghost use Rattle.cube.specs.Cube.{cells as cuboid};
 ghost use Rattle.rows.specs.Rows.{width, rows_of};
-ghost use Rattle.archive_entries.specs.Layout.{section, cellBytes};
+ghost use Rattle.archive_entries.specs.Layout.{section, cell_bytes};
 ghost use Rattle.rows_ready.specs.Ready.{Ready};
 ghost use Rattle.archive_cells.specs.Fitted.{Fitted};
-ghost use Rattle.call_cuboids.specs.Cuboids.{cuboidBytes};
+ghost use Rattle.call_cuboids.specs.Cuboids.{cuboid_bytes};
 
 // The cell of an empty table, if it is one of a set, into the array that is lent. Returns how many there are.
 fn blank_cells(cells: &mut [u32], dims: usize, set: u32) -> usize
@@ -49,7 +49,7 @@ fn find_cells(
 // Writes a count, and so many cells: the words of the first rows of the array that is lent.
 fn put_counted(out: &mut [u8], cells: &[u32], n: usize, dims: usize) -> usize
     requires { (dims ≤ 8) × (n ≤ 1024) × (n * width dims ≤ length cells.now) × (4 + n * (4 * dims + 12) ≤ length out.old) }
-    ensures { Wrote (section cellBytes (rows_of dims n cells.now)) out.old out.new result }
+    ensures { Wrote (section cell_bytes (rows_of dims n cells.now)) out.old out.new result }
 {
     let at = fields::put_word(out, n as u32);
     let size = n * (dims + rows::TOTAL_WORDS);
@@ -59,7 +59,7 @@ fn put_counted(out: &mut [u8], cells: &[u32], n: usize, dims: usize) -> usize
 // Writes the listed cuboid of a set where there is room for it. Returns how long it is.
 pub fn write_cuboid(out: &mut [u8], rows: &[u32], n: usize, dims: usize, set: u32) -> usize
     requires { Ready dims n rows.now }
-    ensures { Fitted (cuboidBytes dims (rows_of dims n rows.now) set) out.old out.new result }
+    ensures { Fitted (cuboid_bytes dims (rows_of dims n rows.now) set) out.old out.new result }
 {
     let mut index = [0u32; 1024];
     let mut cells = [0u32; rows::ROOM];

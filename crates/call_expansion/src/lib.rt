@@ -6,19 +6,19 @@ ghost use Rattle.cube.specs.Measure.{sums as measure};
 ghost use Rattle.cube.specs.Codes.{plain};
 ghost use Rattle.cube.specs.Cube.{cells as cuboid};
 ghost use Rattle.rows.specs.Rows.{cut, rows_of};
-ghost use Rattle.archive_entries.specs.Layout.{cellBytes};
+ghost use Rattle.archive_entries.specs.Layout.{cell_bytes};
 ghost use Rattle.rows_order.specs.Index.{key};
 ghost use Rattle.rows_slots.specs.Slots.{crowds, packed};
 ghost use Rattle.rows_ready.specs.Ready.{Ready};
 ghost use Rattle.archive_cells.specs.Fitted.{Fitted};
 ghost use Rattle.archive_normals.specs.Grouped.{Grouped};
-ghost use Rattle.call_cuboids.specs.Cuboids.{cuboidBytes, expansionBytes};
-ghost use Rattle.call_expansion.specs.Slotted.{Slotted, cellCount};
+ghost use Rattle.call_cuboids.specs.Cuboids.{cuboid_bytes, expansion_bytes};
+ghost use Rattle.call_expansion.specs.Slotted.{Slotted, cell_count};
 
 // How many cells a set has that exist, by its slot: an empty table has one, of the empty set.
 fn count_cells(slot: &[u16], n: usize, set: u32) -> usize
     requires { length slot.now ≤ 1024 }
-    ensures { result ≡ cellCount n set slot.now }
+    ensures { result ≡ cell_count n set slot.now }
 {
     if n != 0 {
         return rows_crowds::count_groups(slot);
@@ -29,7 +29,7 @@ fn count_cells(slot: &[u16], n: usize, set: u32) -> usize
 // The length of a listed cuboid.
 fn cuboid_len(rows: &[u32], n: usize, dims: usize, set: u32, store: &[u16], used: &[usize]) -> usize
     requires { Slotted dims n rows.now store.now used.now × (set < 2 ^ dims) }
-    ensures value { result ≡ length (cuboidBytes dims (rows_of dims n rows.now) set) }
+    ensures value { result ≡ length (cuboid_bytes dims (rows_of dims n rows.now) set) }
     ensures upper_bound { result ≤ 45060 }
 {
     let slot = rows_crowds::slot_of(store, used, set as usize);
@@ -40,7 +40,7 @@ fn cuboid_len(rows: &[u32], n: usize, dims: usize, set: u32, store: &[u16], used
 // The length of the expansion.
 fn expansion_len(rows: &[u32], n: usize, dims: usize, store: &[u16], used: &[usize]) -> usize
     requires { Slotted dims n rows.now store.now used.now }
-    ensures { result ≡ length (expansionBytes dims (rows_of dims n rows.now)) }
+    ensures { result ≡ length (expansion_bytes dims (rows_of dims n rows.now)) }
 {
     let all = lattice::sets_of(dims as u32);
     let mut len = 0;
@@ -63,8 +63,8 @@ fn put_existing(
     slot: &[u16],
 ) -> usize
     requires ready { Ready dims n rows.now × (slot.now ≡ packed (crowds 1 (key set (cut dims n rows.now)) n)) }
-    requires set_in_bounds { length (flat_map cellBytes (cuboid (plain dims) measure (rows_of dims n rows.now) set)) ≤ length out.old }
-    ensures { Wrote (flat_map cellBytes (cuboid (plain dims) measure (rows_of dims n rows.now) set)) out.old out.new result }
+    requires set_in_bounds { length (flat_map cell_bytes (cuboid (plain dims) measure (rows_of dims n rows.now) set)) ≤ length out.old }
+    ensures { Wrote (flat_map cell_bytes (cuboid (plain dims) measure (rows_of dims n rows.now) set)) out.old out.new result }
 {
     if n != 0 {
         return archive_groups::put_groups(out, rows, n, dims, set, slot);
@@ -86,8 +86,8 @@ fn put_cuboid(
     used: &[usize],
 ) -> usize
     requires slotted { Slotted dims n rows.now store.now used.now × (set < 2 ^ dims) }
-    requires set_in_bounds { length (cuboidBytes dims (rows_of dims n rows.now) set) ≤ length out.old }
-    ensures { Wrote (cuboidBytes dims (rows_of dims n rows.now) set) out.old out.new result }
+    requires set_in_bounds { length (cuboid_bytes dims (rows_of dims n rows.now) set) ≤ length out.old }
+    ensures { Wrote (cuboid_bytes dims (rows_of dims n rows.now) set) out.old out.new result }
 {
     let slot = rows_crowds::slot_of(store, used, set as usize);
     let count = count_cells(slot, n, set);
@@ -105,8 +105,8 @@ fn put_expansion(
     used: &[usize],
 ) -> usize
     requires slotted { Slotted dims n rows.now store.now used.now }
-    requires rows_in_bounds { length (expansionBytes dims (rows_of dims n rows.now)) ≤ length out.old }
-    ensures { Wrote (expansionBytes dims (rows_of dims n rows.now)) out.old out.new result }
+    requires rows_in_bounds { length (expansion_bytes dims (rows_of dims n rows.now)) ≤ length out.old }
+    ensures { Wrote (expansion_bytes dims (rows_of dims n rows.now)) out.old out.new result }
 {
     let all = lattice::sets_of(dims as u32);
     let mut at = 0;
@@ -130,7 +130,7 @@ pub fn write_expansion(
     used: &mut [usize],
 ) -> usize
     requires { Grouped dims n rows.now store.old used.old }
-    ensures { Fitted (expansionBytes dims (rows_of dims n rows.now)) out.old out.new result }
+    ensures { Fitted (expansion_bytes dims (rows_of dims n rows.now)) out.old out.new result }
 {
     rows_complete::complete_slots(rows, n, dims, store, used);
     let len = expansion_len(rows, n, dims, store, used);

@@ -17,29 +17,29 @@ use Rattle.cube.specs.Cube.{grouped, cells}
 use Rattle.cube.specs.Table.{Table}
 use Rattle.cube.proofs.Existing.{cells-rows}
 use Rattle.cube.proofs.Readings.{count-cells}
-use Rattle.rows.specs.Rows.{width, rows_of, rowTotal}
+use Rattle.rows.specs.Rows.{width, rows_of, row_total}
 use Rattle.rows.proofs.Flat.{placed, total-at, rows_more}
 use Rattle.rows_ready.proofs.Ready.{rows-front}
-use Rattle.call_fee.specs.Fees.{countIn, weights}
+use Rattle.call_fee.specs.Fees.{count_in, weights}
 
 -- the counts of no rows, and of one row more
-pub counts-none : (d : ℕ) (ws l : List ℕ) → take 0 l ≡ map countIn (rows_of d 0 ws)
+pub counts-none : (d : ℕ) (ws l : List ℕ) → take 0 l ≡ map count_in (rows_of d 0 ws)
 unfolding rows_of
 counts-none d ws l = refl
 
-pub counts-more : (d n i : ℕ) (ws l : List ℕ) {t : Total} → i < n → i < length l → t ≡ rowTotal d n ws i → take i l ≡ map countIn (rows_of d i ws)
-    → take (i + 1) (set l i t.count) ≡ map countIn (rows_of d (i + 1) ws)
+pub counts-more : (d n i : ℕ) (ws l : List ℕ) {t : Total} → i < n → i < length l → t ≡ row_total d n ws i → take i l ≡ map count_in (rows_of d i ws)
+    → take (i + 1) (set l i t.count) ≡ map count_in (rows_of d (i + 1) ws)
 counts-more d n i ws l {t} h k e f =
     let one : t.count ≡ (placed d ws i).total.count = ap (λ (u : Total). u.count) (e ∙ total-at d n i ws h) in
     rw (add-one, take-suc-set l i t.count k, rows_more d i ws, map-append, f, one)
 
 -- the counts of grouped rows are the weights
 pub weights-grouped : (d n : ℕ) (ws l : List ℕ) (rows : List (Row Total)) (s : ℕ) → 0 < length rows
-    → l ≡ map countIn (rows_of d n (take (n * width d) ws)) → rows_of d n ws ≡ grouped (plain d) measure rows s → l ≡ weights d rows s
+    → l ≡ map count_in (rows_of d n (take (n * width d) ws)) → rows_of d n ws ≡ grouped (plain d) measure rows s → l ≡ weights d rows s
 unfolding weights
-weights-grouped d n ws l rows s some f e = f ∙ ap (map countIn) (rows-front d n ws ∙ e ∙ sym (cells-rows (plain d) measure rows s some))
+weights-grouped d n ws l rows s some f e = f ∙ ap (map count_in) (rows-front d n ws ∙ e ∙ sym (cells-rows (plain d) measure rows s some))
 
-sum-counts : (l : List (Row Total)) → sum (map countIn l) ≡ count_of l
+sum-counts : (l : List (Row Total)) → sum (map count_in l) ≡ count_of l
 sum-counts [] = refl
 sum-counts (r ∷ l) = ap (λ (n : ℕ). r.total.count + n) (sum-counts l)
 

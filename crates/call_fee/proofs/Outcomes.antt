@@ -10,48 +10,48 @@ use Rattle.cube.specs.Measure.{Row}
 use Rattle.cube.specs.Bounds.{count_of}
 use Rattle.rows.specs.Rows.{rows_of}
 use Rattle.rows.proofs.Flat.{rows-length}
-use Rattle.archive_entries.specs.Reading.{readArchive, archiveAnswer, rowsIn}
+use Rattle.archive_entries.specs.Reading.{read_archive, archive_answer, rows_in}
 use Rattle.archive_entries.specs.declared.ArchiveRead.TheVariants as Read
-use Rattle.archive_entries.proofs.Accepted.{archive-forth}
+use Rattle.archive_entries.proofs.Accepted.{archive_forth}
 use Rattle.call_answers.specs.Answers.{stop as stopped, bytes}
 use Rattle.call_answers.proofs.Opened.{Opened}
 use Rattle.call_ask.proofs.Outcomes.{refused}
-use Rattle.fee_list.specs.Listed.{feeBytes}
-use Rattle.call_fee.specs.Fees.{weights, sharesFee}
+use Rattle.fee_list.specs.Listed.{fee_bytes}
+use Rattle.call_fee.specs.Fees.{weights, shares_fee}
 use Rattle.call_fee.proofs.Counts.{counts_some}
 
-pub fee-refused : (s : List ℕ) {k : ℕ} → archiveAnswer (readArchive s) ≡ Read.Stop k → (fee set : ℕ) → sharesFee s fee set ≡ stopped k
-unfolding sharesFee
-fee-refused s e fee set = rw (refused s e)
+pub fee_refused : (s : List ℕ) {k : ℕ} → archive_answer (read_archive s) ≡ Read.Stop k → (fee set : ℕ) → shares_fee s fee set ≡ stopped k
+unfolding shares_fee
+fee_refused s e fee set = rw (refused s e)
 
 module _ {s : List ℕ} {d n m : ℕ} {ws : List ℕ} (o : Opened s d n m ws) where
   abbrev rows : List (Row Total)
   rows = rows_of d n ws
 
   -- as many base rows as the code says
-  held_rows : length (rowsIn o.held) ≡ n
+  held_rows : length (rows_in o.held) ≡ n
   held_rows = sym (ap length o.rows) ∙ rows-length d n ws
 
-  pub fee-no-set : (fee : ℕ) {set : ℕ} → 2 ^ d ≤ set → sharesFee s fee set ≡ stopped 14
-  unfolding sharesFee
-  fee-no-set fee {set} h = rw (o.read, o.dims, le-ltb set (2 ^ d) h)
+  pub fee_no_set : (fee : ℕ) {set : ℕ} → 2 ^ d ≤ set → shares_fee s fee set ≡ stopped 14
+  unfolding shares_fee
+  fee_no_set fee {set} h = rw (o.read, o.dims, le-ltb set (2 ^ d) h)
 
-  pub fee-too-high : {fee set : ℕ} → set < 2 ^ d → 1000000000 < fee → sharesFee s fee set ≡ stopped 23
-  unfolding sharesFee
-  fee-too-high {fee} {set} h k = rw (o.read, o.dims, lt-ltb set (2 ^ d) h, lt-leb fee 1000000000 k)
+  pub fee_too_high : {fee set : ℕ} → set < 2 ^ d → 1000000000 < fee → shares_fee s fee set ≡ stopped 23
+  unfolding shares_fee
+  fee_too_high {fee} {set} h k = rw (o.read, o.dims, lt-ltb set (2 ^ d) h, lt-leb fee 1000000000 k)
 
-  pub fee-no-rows : {fee set : ℕ} → set < 2 ^ d → fee ≤ 1000000000 → n ≡ 0 → sharesFee s fee set ≡ stopped 24
-  unfolding sharesFee
-  fee-no-rows {fee} {set} h k e = rw (o.read, o.dims, lt-ltb set (2 ^ d) h, le-leb fee 1000000000 k, le-ltb 0 (length (rowsIn o.held)) (omega (arith, held_rows, e)))
+  pub fee_no_rows : {fee set : ℕ} → set < 2 ^ d → fee ≤ 1000000000 → n ≡ 0 → shares_fee s fee set ≡ stopped 24
+  unfolding shares_fee
+  fee_no_rows {fee} {set} h k e = rw (o.read, o.dims, lt-ltb set (2 ^ d) h, le-leb fee 1000000000 k, le-ltb 0 (length (rows_in o.held)) (omega (arith, held_rows, e)))
 
-  pub fee-bytes : {fee set : ℕ} → set < 2 ^ d → fee ≤ 1000000000 → (n ≡ 0 → ⊥) → sharesFee s fee set ≡ bytes (feeBytes fee (weights d rows set))
-  unfolding sharesFee
+  pub fee-bytes : {fee set : ℕ} → set < 2 ^ d → fee ≤ 1000000000 → (n ≡ 0 → ⊥) → shares_fee s fee set ≡ bytes (fee_bytes fee (weights d rows set))
+  unfolding shares_fee
   fee-bytes {fee} {set} h k e =
-      rw (o.read, o.dims, lt-ltb set (2 ^ d) h, le-leb fee 1000000000 k, lt-ltb 0 (length (rowsIn o.held)) (omega (arith, held_rows, e)))
-      (ap (λ (l : List (Row Total)). bytes (feeBytes fee (weights d l set))) (sym o.rows))
+      rw (o.read, o.dims, lt-ltb set (2 ^ d) h, le-leb fee 1000000000 k, lt-ltb 0 (length (rows_in o.held)) (omega (arith, held_rows, e)))
+      (ap (λ (l : List (Row Total)). bytes (fee_bytes fee (weights d l set))) (sym o.rows))
 
   -- an accepted archive's base rows have a reading each, so their count is not 0
-  pub fee-some : (n ≡ 0 → ⊥) → 0 < count_of rows
-  fee-some e =
-      let l = (archive-forth s o.held [] o.are o.read).0 in
-      subst (λ (l : List (Row Total)). 0 < count_of l) (sym o.rows) (counts_some (rowsIn o.held) (omega (arith, held_rows, e)) (λ r i. (l.each r i).counted))
+  pub fee_some : (n ≡ 0 → ⊥) → 0 < count_of rows
+  fee_some e =
+      let l = (archive_forth s o.held [] o.are o.read).0 in
+      subst (λ (l : List (Row Total)). 0 < count_of l) (sym o.rows) (counts_some (rows_in o.held) (omega (arith, held_rows, e)) (λ r i. (l.each r i).counted))

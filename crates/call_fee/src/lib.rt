@@ -7,8 +7,8 @@ ghost use Rattle.rows.specs.Rows.{width, rows_of};
 ghost use Rattle.rows_ready.specs.Ready.{Ready};
 ghost use Rattle.call_answers.specs.Answers.{bytes, Answered};
 ghost use Rattle.call_ask.specs.Accepts.{Accepts};
-ghost use Rattle.fee_list.specs.Listed.{feeBytes};
-ghost use Rattle.call_fee.specs.Fees.{countIn, weights, sharesFee};
+ghost use Rattle.fee_list.specs.Listed.{fee_bytes};
+ghost use Rattle.call_fee.specs.Fees.{count_in, weights, shares_fee};
 
 use archive_entries::ArchiveRead;
 use call_answers::Written;
@@ -16,7 +16,7 @@ use call_answers::Written;
 // Copies the counts of rows over the front of a lent list.
 fn copy_counts(rows: &[u32], n: usize, dims: usize, counts: &mut [u32])
     requires { (n * width dims ≡ length rows.now) × (n ≤ length counts.old) }
-    ensures { take n counts.new ≡ map countIn (rows_of dims n rows.now) }
+    ensures { take n counts.new ≡ map count_in (rows_of dims n rows.now) }
 {
     for i in 0..n {
         let total = rows::total_at(rows, n, dims, i);
@@ -40,7 +40,7 @@ fn cell_counts(rows: &[u32], n: usize, dims: usize, set: u32, tallies: &mut [u32
 // Writes the shares of a fee by counts where there is room for them.
 fn fit_fee(out: &mut [u8], fee: u64, counts: &[u32]) -> Written
     requires { (fee ≤ 1000000000) × (length counts.now ≤ 1024) × (0 < sum counts.now) × (sum counts.now ≤ 1048576) }
-    ensures { Answered (bytes (feeBytes fee counts.now)) out.old out.new result }
+    ensures { Answered (bytes (fee_bytes fee counts.now)) out.old out.new result }
 {
     if out.len() < 4 + 4 * counts.len() {
         return Written::Stop(15);
@@ -51,7 +51,7 @@ fn fit_fee(out: &mut [u8], fee: u64, counts: &[u32]) -> Written
 // Shares a fee over the cells of a set, by base rows with at least one reading in all.
 fn share_rows(out: &mut [u8], rows: &[u32], n: usize, dims: usize, set: u32, fee: u64) -> Written
     requires { Ready dims n rows.now × (set < 2 ^ dims) × (fee ≤ 1000000000) × (0 < count_of (rows_of dims n rows.now)) }
-    ensures { Answered (bytes (feeBytes fee (weights dims (rows_of dims n rows.now) set))) out.old out.new result }
+    ensures { Answered (bytes (fee_bytes fee (weights dims (rows_of dims n rows.now) set))) out.old out.new result }
 {
     let mut tallies = [0u32; 1024];
     let count = cell_counts(rows, n, dims, set, &mut tallies);
@@ -70,7 +70,7 @@ fn share_read(
     out: &mut [u8],
 ) -> Written
     requires { Accepts s.now rows.now dims bases cells }
-    ensures { Answered (sharesFee s.now fee set) out.old out.new result }
+    ensures { Answered (shares_fee s.now fee set) out.old out.new result }
 {
     if lattice::sets_of(dims) <= set {
         return Written::Stop(14);
@@ -89,7 +89,7 @@ fn share_read(
 
 // Reads an archive into the array that is lent, and shares a fee over the cells of a set.
 fn share_in(s: &[u8], rows: &mut [u32; rows::ROOM], fee: u64, set: u32, out: &mut [u8]) -> Written
-    ensures { Answered (sharesFee s.now fee set) out.old out.new result }
+    ensures { Answered (shares_fee s.now fee set) out.old out.new result }
 {
     match archive_read::read_required(s, rows) {
         ArchiveRead::Stop(n) => Written::Stop(n),
@@ -101,7 +101,7 @@ fn share_in(s: &[u8], rows: &mut [u32; rows::ROOM], fee: u64, set: u32, out: &mu
 
 // Shares a fee in cents over the cells of a set: the number of cells, then each cell's whole cents.
 pub fn share_fee(archive: &[u8], fee: u32, set: u32, out: &mut [u8]) -> Written
-    ensures { Answered (sharesFee archive.now fee set) out.old out.new result }
+    ensures { Answered (shares_fee archive.now fee set) out.old out.new result }
 {
     let mut rows = [0u32; rows::ROOM];
     share_in(archive, &mut rows, fee as u64, set, out)

@@ -15,17 +15,17 @@ use Rattle.call_keys.specs.Laid.{follows}
 
 -- ---- by their order
 
-abbrev pub isEqual : Order → Bool
-isEqual (Before i) = false
-isEqual Equal = true
-isEqual (After i) = false
+abbrev pub is_equal : Order → Bool
+is_equal (Before i) = false
+is_equal Equal = true
+is_equal (After i) = false
 
-pub equal-agree : (s : ℕ) (x y : List ℕ) (o : Order) → compared s x y ≡ o → isEqual o ≡ agree s x y
+pub equal-agree : (s : ℕ) (x y : List ℕ) (o : Order) → compared s x y ≡ o → is_equal o ≡ agree s x y
 equal-agree s x y o e = cases (truth (agree s x y))
-    (λ a. ap isEqual (sym e ∙ (compared-equal s x y).1 a) ∙ sym a)
+    (λ a. ap is_equal (sym e ∙ (compared-equal s x y).1 a) ∙ sym a)
     (λ a. refuted (λ q. false≢true (sym a ∙ (compared-equal s x y).0 (e ∙ equal o q))) ∙ sym a)
   where
-    equal : (o : Order) → isEqual o ≡ true → o ≡ Equal
+    equal : (o : Order) → is_equal o ≡ true → o ≡ Equal
     equal (Before i) q = absurd (false≢true q)
     equal Equal q = refl
     equal (After i) q = absurd (false≢true q)
@@ -36,8 +36,8 @@ pub agree_of : (s : ℕ) (x y : List ℕ) → cell s x ≡ cell s y → agree s 
 agree_of s x y e = agree_same s x y ∙ rw e (same_refl (cell s y))
 
 module _ (s : ℕ) (x y : List ℕ) where
-  pub agree-sym : agree s x y ≡ true → agree s y x ≡ true
-  agree-sym a = agree_of s y x (sym (agree-cell s x y a))
+  pub agree_sym : agree s x y ≡ true → agree s y x ≡ true
+  agree_sym a = agree_of s y x (sym (agree-cell s x y a))
 
   pub agree_trans : (z : List ℕ) → agree s x y ≡ true → agree s y z ≡ true → agree s x z ≡ true
   agree_trans z a b = agree_of s x z (agree-cell s x y a ∙ agree-cell s y z b)
@@ -49,6 +49,6 @@ module _ (s t : ℕ) (x y : List ℕ) where
   unfolding follows
   follows-apart e = rw e
 
-  pub follows-as : agree s x y ≡ true → follows s t x y ≡ agree t x y
+  pub follows_as : agree s x y ≡ true → follows s t x y ≡ agree t x y
   unfolding follows
-  follows-as e = rw e
+  follows_as e = rw e

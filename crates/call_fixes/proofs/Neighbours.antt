@@ -10,19 +10,19 @@ use borrow.Author.Tests.{eqb-true, eqb-false, ltb-true, ltb-false}
 use Rattle.lists.specs.Lists.{◌∈◌}
 use Rattle.lists.specs.Order.{earlier}
 use Rattle.lists.proofs.Tests.{cases, truth, refuted}
-use Rattle.lists.proofs.Members.{at_in, in-at}
-use Rattle.lists.proofs.Places.{pairwise-at}
+use Rattle.lists.proofs.Members.{at_in, in_at}
+use Rattle.lists.proofs.Places.{pairwise_at}
 use Rattle.lists.proofs.Order.{by_codes}
 use Rattle.cube.specs.Codes.{cell, agree, plain}
 use Rattle.cube.specs.Keys.{fixes}
 use Rattle.cube.proofs.Codes.{agree_refl, agree-cell}
-use Rattle.cube.proofs.Keys.{fixes-in, fixes-of}
+use Rattle.cube.proofs.Keys.{fixes-in, fixes_of}
 use Rattle.rows.specs.Rows.{cut, row_at}
 use Rattle.rows.proofs.Rows.{cut-length}
 use Rattle.rows_order.specs.Index.{key, Indexed}
-use Rattle.rows_runs.proofs.Indexed.{indexed-ordered, indexed-below, indexed_of}
+use Rattle.rows_runs.proofs.Indexed.{indexed_ordered, indexed_below, indexed_of}
 use Rattle.call_keys.specs.Laid.{follows}
-use Rattle.call_fixes.proofs.Follows.{agree_of, agree-sym, agree_trans, follows-apart, follows-as}
+use Rattle.call_fixes.proofs.Follows.{agree_of, agree_sym, agree_trans, follows-apart, follows_as}
 
 -- the row at a place of the index
 abbrev pub placed : List (List ℕ) → List ℕ → ℕ → List ℕ
@@ -32,8 +32,8 @@ placed xs index k = row_at xs (get_or index k 0)
 pub record FixedTo (xs : List (List ℕ)) (index : List ℕ) (s t k : ℕ) : Type 0 where
   pub each : (i j : ℕ) → i < j → j < k → agree s (placed xs index i) (placed xs index j) ≡ true → agree t (placed xs index i) (placed xs index j) ≡ true
 
-pub fixed-none : (xs : List (List ℕ)) (index : List ℕ) (s t : ℕ) → FixedTo xs index s t 1
-fixed-none xs index s t = record { each = λ i j h g. absurd (omega arith) }
+pub fixed_none : (xs : List (List ℕ)) (index : List ℕ) (s t : ℕ) → FixedTo xs index s t 1
+fixed_none xs index s t = record { each = λ i j h g. absurd (omega arith) }
 
 module _ {rows dims s : ℕ} {ws index : List ℕ} (x : Indexed rows dims s ws index) where
   abbrev xs : List (List ℕ)
@@ -48,18 +48,18 @@ module _ {rows dims s : ℕ} {ws index : List ℕ} (x : Indexed rows dims s ws i
   between i j k h g l e =
       let c = agree-cell s (at i) (at k) e in
       let R : ℕ → ℕ → Type 0 = λ y z. earlier (cell s (row_at xs z)) (cell s (row_at xs y)) ≡ false in
-      let p = pairwise-at 0 R index i j (indexed-ordered x) h (omega (arith, x.places)) in
-      let q = pairwise-at 0 R index j k (indexed-ordered x) g (omega (arith, x.places)) in
+      let p = pairwise_at 0 R index i j (indexed_ordered x) h (omega (arith, x.places)) in
+      let q = pairwise_at 0 R index j k (indexed_ordered x) g (omega (arith, x.places)) in
       agree_of s (at j) (at k) (by_codes.total (cell s (at j)) (cell s (at k)) (rw c at p) q)
 
   at_row : (k : ℕ) → k < rows → at k ∈ xs
-  at_row k h = at_in [] xs (get_or index k 0) (rw cut-length (indexed-below x k h))
+  at_row k h = at_in [] xs (get_or index k 0) (rw cut-length (indexed_below x k h))
 
   row-at : {y : List ℕ} → y ∈ xs → (k : ℕ) × (k < rows) × (at k ≡ y)
   row-at m =
-      let r = in-at [] m in
+      let r = in_at [] m in
       let h : r.0 < rows = omega (arith, r.1, cut-length dims rows ws) in
-      let p = in-at 0 (indexed_of x h) in
+      let p = in_at 0 (indexed_of x h) in
       (p.0, omega (arith, p.1, x.places), ap (row_at xs) p.2 ∙ r.2)
 
   module _ (t : ℕ) {k : ℕ} where
@@ -72,19 +72,19 @@ module _ {rows dims s : ℕ} {ws index : List ℕ} (x : Indexed rows dims s ws i
     }
       where
         then : agree s (at (k - 1)) (at k) ≡ true → agree t (at (k - 1)) (at k) ≡ true
-        then b = sym (follows-as s t (at (k - 1)) (at k) b) ∙ f
+        then b = sym (follows_as s t (at (k - 1)) (at k) b) ∙ f
 
         last : (i : ℕ) → i < k → agree s (at i) (at k) ≡ true → agree t (at i) (at k) ≡ true
         last i g e = cases (truth (eqb i (k - 1)))
             (λ q. let z = eqb-true i (k - 1) q in rw z (then (rw z at e)))
             (λ q. let n : i < k - 1 = omega (arith, eqb-false i (k - 1) q) in
             let b = between i (k - 1) k n (omega arith) h e in
-            let c = agree_trans s (at i) (at k) (at (k - 1)) e (agree-sym s (at (k - 1)) (at k) b) in
+            let c = agree_trans s (at i) (at k) (at (k - 1)) e (agree_sym s (at (k - 1)) (at k) b) in
             agree_trans t (at i) (at (k - 1)) (at k) (m.each i (k - 1) n (omega arith) c) (then b))
 
     -- all places
-    pub fixed-all : FixedTo xs index s t k → rows ≤ k → fixes (plain dims) xs s t ≡ true
-    fixed-all m h = fixes-of (plain dims) xs s t (λ y z n o a.
+    pub fixed_all : FixedTo xs index s t k → rows ≤ k → fixes (plain dims) xs s t ≡ true
+    fixed_all m h = fixes_of (plain dims) xs s t (λ y z n o a.
         let p = row-at n in
         let q = row-at o in
         let b : agree s (at p.0) (at q.0) ≡ true = ap₂ (agree s) p.2 q.2 ∙ a in
@@ -94,7 +94,7 @@ module _ {rows dims s : ℕ} {ws index : List ℕ} (x : Indexed rows dims s ws i
         pair i j g l b = cases (truth (ltb i j))
             (λ e. m.each i j (ltb-true i j e) (omega arith) b)
             (λ e. cases (truth (ltb j i))
-            (λ f. agree-sym t (at j) (at i) (m.each j i (ltb-true j i f) (omega arith) (agree-sym s (at i) (at j) b)))
+            (λ f. agree_sym t (at j) (at i) (m.each j i (ltb-true j i f) (omega arith) (agree_sym s (at i) (at j) b)))
             (λ f. let z : i ≡ j = omega (arith, ltb-false i j e, ltb-false j i f) in rw z (agree_refl t (at j))))
 
     -- neighbours that do not
@@ -103,5 +103,5 @@ module _ {rows dims s : ℕ} {ws index : List ℕ} (x : Indexed rows dims s ws i
       where
         go : fixes (plain dims) xs s t ≡ true → follows s t (at (k - 1)) (at k) ≡ true
         go e = cases (truth (agree s (at (k - 1)) (at k)))
-            (λ b. follows-as s t (at (k - 1)) (at k) b ∙ fixes-in (plain dims) xs s t e (at_row (k - 1) (omega arith)) (at_row k h) b)
+            (λ b. follows_as s t (at (k - 1)) (at k) b ∙ fixes-in (plain dims) xs s t e (at_row (k - 1) (omega arith)) (at_row k h) b)
             (follows-apart s t (at (k - 1)) (at k))

@@ -5,9 +5,9 @@ ghost use Rattle.cube.specs.Codes.{agree, plain};
 ghost use Rattle.cube.specs.Keys.{fixes as fixing};
 ghost use Rattle.rows_order.specs.Index.{Valid};
 ghost use Rattle.rows.specs.Rows.{width, cut, row_at};
-ghost use Rattle.archive_entries.specs.Reading.{readArchive};
+ghost use Rattle.archive_entries.specs.Reading.{read_archive};
 ghost use Rattle.archive_read.specs.Sharing.{Shares};
-ghost use Rattle.call_answers.specs.Keys.{tellsFixed};
+ghost use Rattle.call_answers.specs.Keys.{tells_fixed};
 ghost use Rattle.call_ask.specs.Accepts.{Accepts};
 ghost use Rattle.call_keys.specs.Laid.{Laid, follows};
 
@@ -83,8 +83,8 @@ fn fixes_read(
     set: u32,
     dimension: u32,
 ) -> Fixed
-    requires { Accepts s.now rows.now dims bases cells × Shares (readArchive s.now) rows.now used.now }
-    ensures { result ≡ tellsFixed s.now set dimension }
+    requires { Accepts s.now rows.now dims bases cells × Shares (read_archive s.now) rows.now used.now }
+    ensures { result ≡ tells_fixed s.now set dimension }
 {
     if lattice::sets_of(dims) <= set {
         return Fixed::Stop(14);
@@ -117,7 +117,7 @@ fn fixes_in(
     set: u32,
     dimension: u32,
 ) -> Fixed
-    ensures { result ≡ tellsFixed s.now set dimension }
+    ensures { result ≡ tells_fixed s.now set dimension }
 {
     match archive_read::read_sharing(s, rows, used) {
         ArchiveRead::Stop(n) => Fixed::Stop(n),
@@ -129,7 +129,7 @@ fn fixes_in(
 
 // Whether a set fixes a dimension, counted from 1: base rows that agree on the set agree on the dimension too.
 pub fn fixes(archive: &[u8], set: u32, dimension: u32) -> Fixed
-    ensures { result ≡ tellsFixed archive.now set dimension }
+    ensures { result ≡ tells_fixed archive.now set dimension }
 {
     let mut rows = [0u32; rows::ROOM];
     let mut used = [0usize; 256];

@@ -9,18 +9,18 @@ use lib.ListN.{length}
 use Rattle.lists.specs.Order.{same}
 use Rattle.lists.proofs.Tests.{refuted}
 use Rattle.lists.proofs.Order.{same-eq}
-use Rattle.fields.specs.Words.{wordsAt}
-use Rattle.fields.specs.WordsLaws.{length-wordsAt}
+use Rattle.fields.specs.Words.{words_at}
+use Rattle.fields.specs.WordsLaws.{length_words_at}
 use Rattle.cube.specs.declared.Total.{Total}
 use Rattle.cube.specs.Measure.{Row, sums as totals}
 use Rattle.rows.specs.Rows.{rows_of}
 use Rattle.fields_walk.proofs.Places.{header_read}
 use Rattle.fields_walk.specs.Parsed.{Parsed, stop as halt, got}
 use Rattle.archive_entries.specs.Layout.{CUBE, Held, Limits}
-use Rattle.archive_entries.specs.Reading.{readArchive, archiveAnswer, rowsIn}
+use Rattle.archive_entries.specs.Reading.{read_archive, archive_answer, rows_in}
 use Rattle.archive_entries.specs.declared.ArchiveRead.TheVariants as Read
 use Rattle.archive_entries.proofs.Fields.{parts}
-use Rattle.archive_entries.proofs.Accepted.{read-forth, archive-forth}
+use Rattle.archive_entries.proofs.Accepted.{read_forth, archive_forth}
 use Rattle.rows_ready.specs.Ready.{Ready}
 use Rattle.rows_merge.specs.United.{united}
 use Rattle.call_answers.specs.Answers.{stop}
@@ -30,51 +30,51 @@ use Rattle.call_answers.proofs.Opened.{Opened}
 use Rattle.call_ask.proofs.Outcomes.{refused}
 use Rattle.call_join.specs.Stores.{Store}
 
-pub first-refused : (s t : List ℕ) {k : ℕ} → archiveAnswer (readArchive s) ≡ Read.Stop k → joins s t ≡ stop k
+pub first-refused : (s t : List ℕ) {k : ℕ} → archive_answer (read_archive s) ≡ Read.Stop k → joins s t ≡ stop k
 unfolding joins
 first-refused s t e = rw (refused s e)
 
-pub second-refused : (s t : List ℕ) {d n m k : ℕ} → archiveAnswer (readArchive s) ≡ Read.Entries d n m → archiveAnswer (readArchive t) ≡ Read.Stop k → joins s t ≡ stop k
+pub second-refused : (s t : List ℕ) {d n m k : ℕ} → archive_answer (read_archive s) ≡ Read.Entries d n m → archive_answer (read_archive t) ≡ Read.Stop k → joins s t ≡ stop k
 unfolding joins
-second-refused s t {d} {n} {m} {k} e f = go (readArchive s) e
+second-refused s t {d} {n} {m} {k} e f = go (read_archive s) e
   where
-    go : (p : Parsed Held) → archiveAnswer p ≡ Read.Entries d n m → outcome (λ a. outcome (unites a) (readArchive t)) p ≡ stop k
+    go : (p : Parsed Held) → archive_answer p ≡ Read.Entries d n m → outcome (λ a. outcome (unites a) (read_archive t)) p ≡ stop k
     go (halt j) g = let z : false ≡ true = cc in absurd (false≢true z)
     go (got a rest) g = rw (refused t f)
 
 -- an archive's sizes and rows, as they stand in its bytes and in a flat list
 module _ {s : List ℕ} {d n m : ℕ} {ws : List ℕ} (o : Opened s d n m ws) where
   -- the sizes stand within the bytes
-  pub opened-sizes : 8 + 4 * d ≤ length s
-  opened-sizes = let h = header_read s CUBE (parts s (read-forth s o.read).0).2 in omega (arith, h.whole, h.dims, o.dims)
+  pub opened_sizes : 8 + 4 * d ≤ length s
+  opened_sizes = let h = header_read s CUBE (parts s (read_forth s o.read).0).2 in omega (arith, h.whole, h.dims, o.dims)
 
-  opened_rows : rows_of (length (wordsAt s d 8)) n ws ≡ rowsIn o.held
-  opened_rows = ap (λ (i : ℕ). rows_of i n ws) (length-wordsAt s d 8) ∙ o.rows
+  opened_rows : rows_of (length (words_at s d 8)) n ws ≡ rows_in o.held
+  opened_rows = ap (λ (i : ℕ). rows_of i n ws) (length_words_at s d 8) ∙ o.rows
 
-  pub opened-store : {zs : List ℕ} → zs ≡ wordsAt s d 8 → Store zs n ws
-  opened-store z = subst (λ (l : List ℕ). Store l n ws) (sym z) (record {
-    ready = subst (λ (i : ℕ). Ready i n ws) (sym (length-wordsAt s d 8)) o.ready;
-    limits = subst (Limits (wordsAt s d 8)) (sym opened_rows) (subst (λ (zs : List ℕ). Limits zs (rowsIn o.held)) o.sizes (archive-forth s o.held [] o.are o.read).0);
+  pub opened_store : {zs : List ℕ} → zs ≡ words_at s d 8 → Store zs n ws
+  opened_store z = subst (λ (l : List ℕ). Store l n ws) (sym z) (record {
+    ready = subst (λ (i : ℕ). Ready i n ws) (sym (length_words_at s d 8)) o.ready;
+    limits = subst (Limits (words_at s d 8)) (sym opened_rows) (subst (λ (zs : List ℕ). Limits zs (rows_in o.held)) o.sizes (archive_forth s o.held [] o.are o.read).0);
   })
 
 module _ {s t : List ℕ} {d d' n n' m m' : ℕ} {ws ws' : List ℕ} (o : Opened s d n m ws) (p : Opened t d' n' m' ws') where
-  apart : same (wordsAt s d 8) (wordsAt t d' 8) ≡ false → joins s t ≡ stop 17
+  apart : same (words_at s d 8) (words_at t d' 8) ≡ false → joins s t ≡ stop 17
   unfolding joins
   apart e = rw (o.read, p.read, o.sizes, p.sizes, e)
 
   pub joins-dims : d ≢ d' → joins s t ≡ stop 17
-  joins-dims h = apart (refuted (λ e. h (sym (length-wordsAt s d 8) ∙ ap length (same-eq (wordsAt s d 8) (wordsAt t d' 8) e) ∙ length-wordsAt t d' 8)))
+  joins-dims h = apart (refuted (λ e. h (sym (length_words_at s d 8) ∙ ap length (same-eq (words_at s d 8) (words_at t d' 8) e) ∙ length_words_at t d' 8)))
 
 module _ {s t : List ℕ} {d n n' m m' : ℕ} {ws ws' : List ℕ} (o : Opened s d n m ws) (p : Opened t d n' m' ws') where
-  pub joins-sizes : false ≡ same (wordsAt s d 8) (wordsAt t d 8) → joins s t ≡ stop 17
+  pub joins-sizes : false ≡ same (words_at s d 8) (words_at t d 8) → joins s t ≡ stop 17
   joins-sizes e = apart o p (sym e)
 
-  module _ (e : true ≡ same (wordsAt s d 8) (wordsAt t d 8)) {zs : List ℕ} (z : zs ≡ wordsAt s d 8) where
-    alike : zs ≡ wordsAt t d 8
-    alike = z ∙ same-eq (wordsAt s d 8) (wordsAt t d 8) (sym e)
+  module _ (e : true ≡ same (words_at s d 8) (words_at t d 8)) {zs : List ℕ} (z : zs ≡ words_at s d 8) where
+    alike : zs ≡ words_at t d 8
+    alike = z ∙ same-eq (words_at s d 8) (words_at t d 8) (sym e)
 
-    pub opened-other : Store zs n' ws'
-    opened-other = opened-store p alike
+    pub opened_other : Store zs n' ws'
+    opened_other = opened_store p alike
 
     pub joins-filed : joins s t ≡ filed zs (united totals (length zs) (rows_of (length zs) n ws) (rows_of (length zs) n' ws'))
     unfolding joins

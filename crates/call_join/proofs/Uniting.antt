@@ -5,7 +5,7 @@ use Prim.Native.Nat.{ℕ, ◌+◌, ◌*◌, ◌≤◌, ◌<◌}
 use native.Mathlib.Omega.{arith}
 use lib.ListN.{length, take}
 use lib.Seq.{length-take-le}
-use Rattle.rows.proofs.Rows.{rows-small}
+use Rattle.rows.proofs.Rows.{rows_small}
 use Rattle.cube.specs.declared.Total.{Total}
 use Rattle.cube.specs.Measure.{Row, sums as totals}
 use Rattle.cube.specs.Bounds.{count_of}
@@ -15,7 +15,7 @@ use Rattle.rows_ready.specs.Ready.{Ready}
 use Rattle.rows_ready.proofs.Ready.{rows-front}
 use Rattle.rows_merge.specs.United.{united, merged}
 use Rattle.rows_merge.specs.Pass.{Pair, Collected}
-use Rattle.archive_entries.specs.Layout.{Limits, archiveBytes}
+use Rattle.archive_entries.specs.Layout.{Limits, archive_bytes}
 use Rattle.archive_judge.proofs.Judged.{limits-ready}
 use Rattle.call_answers.specs.Answers.{stop, bytes}
 use Rattle.call_answers.specs.Joins.{filed}
@@ -29,38 +29,38 @@ module _ {zs : List ℕ} {n : ℕ} {ws : List ℕ} {m : ℕ} {ws' : List ℕ} (p
   abbrev second : List (Row Total)
   second = rows_of (length zs) m ws'
 
-  pub stores-small : count_of first + count_of second ≤ 2097152
-  stores-small = omega (arith, p.limits.counts, q.limits.counts)
+  pub stores_small : count_of first + count_of second ≤ 2097152
+  stores_small = omega (arith, p.limits.counts, q.limits.counts)
 
-  pub stores-many : 1048576 < count_of first + count_of second → filed zs (united totals (length zs) first second) ≡ stop 18
-  stores-many = filed-counts zs first second p.limits q.limits
+  pub stores_many : 1048576 < count_of first + count_of second → filed zs (united totals (length zs) first second) ≡ stop 18
+  stores_many = filed-counts zs first second p.limits q.limits
 
-  pub stores-pair : count_of first + count_of second ≤ 1048576 → Pair (length zs) n ws m ws'
-  stores-pair h = record { one = p.ready; other = q.ready; few = h }
+  pub stores_pair : count_of first + count_of second ≤ 1048576 → Pair (length zs) n ws m ws'
+  stores_pair h = record { one = p.ready; other = q.ready; few = h }
 
   module _ {k : ℕ} {cells : List ℕ} (s : Collected 1024 (merged totals first second) (length zs) k cells) where
     pub stored-over : 1024 < k → filed zs (united totals (length zs) first second) ≡ stop 18
     stored-over h = filed-over zs first second p.limits q.limits (s.more h)
 
     module _ (room : 11264 ≤ length cells) (few : count_of first + count_of second ≤ 1048576) (h : k ≤ 1024) where
-      pub stored-small : k * width (length zs) ≤ 11264
-      stored-small = rows-small (length zs) k p.ready.dims h
+      pub stored_small : k * width (length zs) ≤ 11264
+      stored_small = rows_small (length zs) k p.ready.dims h
 
       -- the rows in the front of the array
       abbrev front : List (Row Total)
       front = rows_of (length zs) k (take (k * width (length zs)) cells)
 
-      is-merged : front ≡ merged totals first second
-      is-merged = rows-front (length zs) k cells ∙ s.fits h
+      is_merged : front ≡ merged totals first second
+      is_merged = rows-front (length zs) k cells ∙ s.fits h
 
       short : length front ≤ 1024
       short = omega (arith, h, rows-length (length zs) k (take (k * width (length zs)) cells))
 
       pub stored-limits : Limits zs front
-      stored-limits = limits-merged zs first second p.limits q.limits front is-merged short few
+      stored-limits = limits-merged zs first second p.limits q.limits front is_merged short few
 
       pub stored-ready : Ready (length zs) k (take (k * width (length zs)) cells)
-      stored-ready = limits-ready stored-limits refl refl (sym (length-take-le (k * width (length zs)) cells (omega (arith, stored-small, room))))
+      stored-ready = limits-ready stored-limits refl refl (sym (length-take-le (k * width (length zs)) cells (omega (arith, stored_small, room))))
 
-      pub stored-filed : filed zs (united totals (length zs) first second) ≡ bytes (archiveBytes zs front)
-      stored-filed = filed-merged zs first second p.limits q.limits front is-merged short few
+      pub stored-filed : filed zs (united totals (length zs) first second) ≡ bytes (archive_bytes zs front)
+      stored-filed = filed-merged zs first second p.limits q.limits front is_merged short few

@@ -2,7 +2,7 @@
 // The call answers for whatever bytes it is lent, looks at the output last, and leaves every byte of it alone when it stops.
 ghost use Rattle.std.specs.Prelude.{◌≡◌, ◌+◌, ◌*◌, ◌≤◌, length};
 ghost use Rattle.lists.specs.Order.{same};
-ghost use Rattle.fields.specs.Words.{wordsAt};
+ghost use Rattle.fields.specs.Words.{words_at};
 ghost use Rattle.cube.specs.Measure.{sums as totals};
 ghost use Rattle.rows.specs.Rows.{rows_of};
 ghost use Rattle.rows_merge.specs.United.{united};
@@ -18,7 +18,7 @@ use rows_compare::Order;
 fn same_sizes(first: &[u8], second: &[u8], sizes: &mut [u32], others: &mut [u32]) -> bool
     requires sizes_len_bound { (length sizes.old ≤ 8) × (length others.old ≡ length sizes.old) }
     requires sizes_in_bounds { (8 + 4 * length sizes.old ≤ length first.now) × (8 + 4 * length sizes.old ≤ length second.now) }
-    ensures { (sizes.new ≡ wordsAt first.now (length sizes.old) 8) × (result ≡ same (wordsAt first.now (length sizes.old) 8) (wordsAt second.now (length sizes.old) 8)) }
+    ensures { (sizes.new ≡ words_at first.now (length sizes.old) 8) × (result ≡ same (words_at first.now (length sizes.old) 8) (words_at second.now (length sizes.old) 8)) }
 {
     fields::read_words(first, 8, sizes);
     fields::read_words(second, 8, others);

@@ -10,24 +10,24 @@ use lib.ListN.{length, get_or}
 use borrow.Author.Tests.{eq-eqb, eqb-true, eqb-false, not-false}
 use Rattle.lists.specs.Lists.{◌∈◌, keep, only, some, every}
 use Rattle.lists.proofs.Tests.{cases, truth, refuted, every_in}
-use Rattle.lists.proofs.Members.{keep-of, keep-none, at_in}
+use Rattle.lists.proofs.Members.{keep_of, keep-none, at_in}
 use Rattle.lattice.specs.Sets.{full, sets}
 use Rattle.lattice.proofs.Sets.{sets-in}
 use Rattle.cube.specs.Codes.{plain}
 use Rattle.cube.specs.Condensed.{single, smallest}
-use Rattle.cube.specs.Keys.{key, leastKeys}
-use Rattle.cube.proofs.Codes.{plain-laws}
-use Rattle.cube.proofs.Keys.{finest-key, leastKeys-short}
+use Rattle.cube.specs.Keys.{key, least_keys}
+use Rattle.cube.proofs.Codes.{plain_laws}
+use Rattle.cube.proofs.Keys.{finest-key, least_keys-short}
 use Rattle.rows.specs.Rows.{cut, row_at}
 use Rattle.rows.proofs.Rows.{cut-length}
-use Rattle.rows_order.proofs.Arranged.{arranged-in, arranged-of}
+use Rattle.rows_order.proofs.Arranged.{arranged_in, arranged_of}
 use Rattle.rows_order.specs.Index.{key as key_of, arranged}
 use Rattle.rows_slots.specs.Slots.{shares}
 use Rattle.rows_slots.proofs.Groups.{crowds-flat}
 use Rattle.rows_crowds.proofs.Left.{shares-single}
 use Rattle.archive_read.specs.Sharing.{Sharing}
 use Rattle.call_keys.specs.Laid.{Laid}
-use Rattle.call_keys.specs.Bare.{bare, leastBare}
+use Rattle.call_keys.specs.Bare.{bare, least_bare}
 
 -- a test that each place of a list passes
 every-place : (p : List ℕ → Bool) (l : List (List ℕ)) → ((i : ℕ) → i < length l → p (get_or l i []) ≡ true) → every p l ≡ true
@@ -60,7 +60,7 @@ module _ {d n : ℕ} {ws used : List ℕ} (rows : Laid d n ws) (told : Sharing d
     unfolding key
     none-key e = every-place (single (plain d) xs s) xs (λ i l.
         let h : i < n = rw cut-length at l in
-        not-false (single (plain d) xs s (row_at xs i)) (sym (sharing i h) ∙ refuted (λ t. empty sharers e (keep-of (shares 2 keys n) (arranged-of keys n h) t))))
+        not-false (single (plain d) xs s (row_at xs i)) (sym (sharing i h) ∙ refuted (λ t. empty sharers e (keep_of (shares 2 keys n) (arranged_of keys n h) t))))
       where
         empty : {x : ℕ} (l : List ℕ) → length l ≡ 0 → x ∈ l → ⊥
         empty [] e i = Memᴰ.not-nil i
@@ -69,7 +69,7 @@ module _ {d n : ℕ} {ws used : List ℕ} (rows : Laid d n ws) (told : Sharing d
     key-none : key (plain d) xs s ≡ true → length sharers ≡ 0
     unfolding key
     key-none e = ap length (keep-none (shares 2 keys n) (arranged keys n) (λ i k t.
-        let h = arranged-in keys n k in
+        let h = arranged_in keys n k in
         false≢true (sym (ap not (every_in (single (plain d) xs s) e (at_in [] xs i (rw cut-length h)))) ∙ sym (sharing i h) ∙ t)))
 
     shared-key : s < full d → eqb (get_or used s 0) 0 ≡ key (plain d) xs s
@@ -82,12 +82,12 @@ module _ {d n : ℕ} {ws used : List ℕ} (rows : Laid d n ws) (told : Sharing d
     pub bare-key : bare d used s ≡ key (plain d) xs s
     unfolding bare
     bare-key = cases (truth (eqb s (full d)))
-        (λ t. ap (λ (b : Bool). b || eqb (get_or used s 0) 0) t ∙ sym (ap (key (plain d) xs) (eqb-true s (full d) t) ∙ finest-key (plain d) (plain-laws d) xs rows.base.valid))
+        (λ t. ap (λ (b : Bool). b || eqb (get_or used s 0) 0) t ∙ sym (ap (key (plain d) xs) (eqb-true s (full d) t) ∙ finest-key (plain d) (plain_laws d) xs rows.base.valid))
         (λ t. ap (λ (b : Bool). b || eqb (get_or used s 0) 0) t ∙ shared-key (omega (arith, eqb-false s (full d) t, sets-in d m)))
 
-  pub least-bare : leastBare d used ≡ leastKeys (plain d) xs
-  unfolding leastBare leastKeys
+  pub least-bare : least_bare d used ≡ least_keys (plain d) xs
+  unfolding least_bare least_keys
   least-bare = smallest-same d (bare d used) (key (plain d) xs) (sets d) [] (λ s m. bare-key m)
 
-  pub bare-short : length (leastBare d used) ≤ 70
-  bare-short = omega (arith, ap length least-bare, leastKeys-short d xs rows.dims)
+  pub bare-short : length (least_bare d used) ≤ 70
+  bare-short = omega (arith, ap length least-bare, least_keys-short d xs rows.dims)

@@ -6,12 +6,12 @@ use lib.ListN.{take}
 use Rattle.rows.specs.Rows.{width}
 use Rattle.fields_walk.specs.Parsed.{Parsed}
 use Rattle.archive_entries.specs.Layout.{Held}
-use Rattle.archive_entries.specs.Reading.{readArchive, archiveAnswer}
+use Rattle.archive_entries.specs.Reading.{read_archive, archive_answer}
 use Rattle.archive_entries.specs.declared.ArchiveRead.TheVariants as Read
 use Rattle.rows_ready.proofs.Ready.{ready-base}
 use Rattle.archive_read.specs.Sharing.{Sharing, Shares}
 use Rattle.call_answers.specs.Answers.{stop as stopped}
-use Rattle.call_answers.specs.Keys.{listsKeys, tellsFixed}
+use Rattle.call_answers.specs.Keys.{lists_keys, tells_fixed}
 use Rattle.call_answers.specs.declared.Fixed.TheVariants as Fix
 use Rattle.call_answers.proofs.Opened.{Opened}
 use Rattle.call_ask.proofs.Outcomes.{refused}
@@ -19,13 +19,13 @@ use Rattle.call_keys.specs.Laid.{Laid}
 
 -- ---- refused
 
-module _ (s : List ℕ) {k : ℕ} (e : archiveAnswer (readArchive s) ≡ Read.Stop k) where
-  pub keys-refused : listsKeys s ≡ stopped k
-  unfolding listsKeys
+module _ (s : List ℕ) {k : ℕ} (e : archive_answer (read_archive s) ≡ Read.Stop k) where
+  pub keys-refused : lists_keys s ≡ stopped k
+  unfolding lists_keys
   keys-refused = rw (refused s e)
 
-  pub fixes-refused : (set i : ℕ) → Fix.Stop k ≡ tellsFixed s set i
-  unfolding tellsFixed
+  pub fixes-refused : (set i : ℕ) → Fix.Stop k ≡ tells_fixed s set i
+  unfolding tells_fixed
   fixes-refused set i = rw (refused s e)
 
 -- ---- accepted
@@ -35,7 +35,7 @@ module _ {s : List ℕ} {d n m : ℕ} {ws : List ℕ} (o : Opened s d n m ws) wh
   laid = record { dims = o.ready.dims; few = o.ready.few; size = o.ready.size; base = ready-base o.ready }
 
   -- how many of its rows share a cell
-  pub shared-in : (array used : List ℕ) → ws ≡ take (n * width d) array → Shares (readArchive s) array used → Sharing d n ws used
-  shared-in array used e h =
+  pub shared_in : (array used : List ℕ) → ws ≡ take (n * width d) array → Shares (read_archive s) array used → Sharing d n ws used
+  shared_in array used e h =
       let f = subst (λ (p : Parsed Held). Shares p array used) o.read h in
       rw (e, ← o.dims, ← o.bases) f

@@ -3,13 +3,13 @@
 ghost use Rattle.std.specs.Prelude.{◌≡◌, ◌^◌, ◌≤◌, ◌<◌, length, take};
 ghost use Rattle.lists.specs.Lists.{some};
 ghost use Rattle.lattice.specs.Sets.{holds};
-ghost use Rattle.archive_entries.specs.Reading.{readArchive};
+ghost use Rattle.archive_entries.specs.Reading.{read_archive};
 ghost use Rattle.archive_read.specs.Sharing.{Shares};
-ghost use Rattle.archive_cells.specs.ListBytes.{listBytes};
+ghost use Rattle.archive_cells.specs.ListBytes.{list_bytes};
 ghost use Rattle.call_answers.specs.Answers.{bytes, Answered};
-ghost use Rattle.call_answers.specs.Keys.{listsKeys};
+ghost use Rattle.call_answers.specs.Keys.{lists_keys};
 ghost use Rattle.call_ask.specs.Accepts.{Accepts};
-ghost use Rattle.call_keys.specs.Bare.{bare, leastBare};
+ghost use Rattle.call_keys.specs.Bare.{bare, least_bare};
 
 use archive_entries::ArchiveRead;
 use call_answers::Written;
@@ -39,8 +39,8 @@ fn holds_listed(set: u32, list: &[u32]) -> bool
 
 // The smallest sets of which no cell is shared, over the front of a lent list. Returns how many there are.
 fn list_bare(dims: usize, used: &[usize], list: &mut [u32]) -> usize
-    requires { (dims ≤ 8) × (256 ≤ length used.now) × (length (leastBare dims used.now) ≤ 70) × (70 ≤ length list.old) }
-    ensures { (take result list.new ≡ leastBare dims used.now) × (result ≤ 70) }
+    requires { (dims ≤ 8) × (256 ≤ length used.now) × (length (least_bare dims used.now) ≤ 70) × (70 ≤ length list.old) }
+    ensures { (take result list.new ≡ least_bare dims used.now) × (result ≤ 70) }
 {
     let all = lattice::sets_of(dims as u32);
     let mut n = 0;
@@ -64,7 +64,7 @@ fn list_bare(dims: usize, used: &[usize], list: &mut [u32]) -> usize
 // Writes a list where there is room for it.
 fn fit_list(out: &mut [u8], list: &[u32]) -> Written
     requires { length list.now ≤ 70 }
-    ensures { Answered (bytes (listBytes list.now)) out.old out.new result }
+    ensures { Answered (bytes (list_bytes list.now)) out.old out.new result }
 {
     if out.len() < 4 + 4 * list.len() {
         return Written::Stop(15);
@@ -74,8 +74,8 @@ fn fit_list(out: &mut [u8], list: &[u32]) -> Written
 
 // Lists the smallest sets of which no cell is shared.
 fn fit_bare(out: &mut [u8], dims: usize, used: &[usize]) -> Written
-    requires { (dims ≤ 8) × (256 ≤ length used.now) × (length (leastBare dims used.now) ≤ 70) }
-    ensures { Answered (bytes (listBytes (leastBare dims used.now))) out.old out.new result }
+    requires { (dims ≤ 8) × (256 ≤ length used.now) × (length (least_bare dims used.now) ≤ 70) }
+    ensures { Answered (bytes (list_bytes (least_bare dims used.now))) out.old out.new result }
 {
     let mut list = [0u32; 70];
     let n = list_bare(dims, used, &mut list);
@@ -92,8 +92,8 @@ fn keys_read(
     used: &[usize],
     out: &mut [u8],
 ) -> Written
-    requires { Accepts s.now rows.now dims bases cells × Shares (readArchive s.now) rows.now used.now }
-    ensures { Answered (listsKeys s.now) out.old out.new result }
+    requires { Accepts s.now rows.now dims bases cells × Shares (read_archive s.now) rows.now used.now }
+    ensures { Answered (lists_keys s.now) out.old out.new result }
 {
     fit_bare(out, dims as usize, used)
 }
@@ -105,7 +105,7 @@ fn keys_in(
     used: &mut [usize; 256],
     out: &mut [u8],
 ) -> Written
-    ensures { Answered (listsKeys s.now) out.old out.new result }
+    ensures { Answered (lists_keys s.now) out.old out.new result }
 {
     match archive_read::read_sharing(s, rows, used) {
         ArchiveRead::Stop(n) => Written::Stop(n),
@@ -117,7 +117,7 @@ fn keys_in(
 
 // Lists the smallest keys of an archive: how many there are, then their set numbers in lattice order.
 pub fn smallest_keys(archive: &[u8], out: &mut [u8]) -> Written
-    ensures { Answered (listsKeys archive.now) out.old out.new result }
+    ensures { Answered (lists_keys archive.now) out.old out.new result }
 {
     let mut rows = [0u32; rows::ROOM];
     let mut used = [0usize; 256];

@@ -12,25 +12,25 @@ use Rattle.cube.specs.Measure.{sums as sums-measure}
 use Rattle.cube.specs.Codes.{plain}
 use Rattle.cube.specs.Condensed.{Entry, Answer, no_record, found, ours, lookup}
 use Rattle.rows.specs.Rows.{rows_of}
-use Rattle.fields.specs.Words.{wordsAt}
-use Rattle.fields.specs.WordsLaws.{length-wordsAt}
+use Rattle.fields.specs.Words.{words_at}
+use Rattle.fields.specs.WordsLaws.{length_words_at}
 use Rattle.call_questions.specs.declared.Look.{Look}
 use Rattle.call_questions.specs.declared.Look.TheVariants.{NoRecord, Cell}
 use Rattle.call_questions.specs.Questions.{asks, looked}
 use Rattle.call_questions.proofs.Pairs.{asks-length}
 use Rattle.call_answers.specs.declared.Found.{Found}
 use Rattle.call_answers.specs.declared.Found.TheVariants as Find
-use Rattle.call_answers.specs.Calls.{entriesIn, told, looksUp}
+use Rattle.call_answers.specs.Calls.{entries_in, told, looks_up}
 use Rattle.call_answers.proofs.Entries.{entries-required}
 use Rattle.call_answers.proofs.Opened.{Opened}
-use Rattle.call_ask.proofs.Opened.{opened-held}
+use Rattle.call_ask.proofs.Opened.{opened_held}
 
 -- the answer of the code, case by case
-abbrev pub foundAs : Look → Found
-foundAs NoRecord = Find.NoRecord
-foundAs (Cell sum count entry) = Find.Cell sum count entry
+abbrev pub found_as : Look → Found
+found_as NoRecord = Find.NoRecord
+found_as (Cell sum count entry) = Find.Cell sum count entry
 
-found-told : (a : Answer Total) → foundAs (looked a) ≡ told a
+found-told : (a : Answer Total) → found_as (looked a) ≡ told a
 found-told no_record = refl
 found-told (found n t) = refl
 
@@ -38,25 +38,25 @@ module _ {s : List ℕ} {d n m : ℕ} {ws : List ℕ} (o : Opened s d n m ws) wh
   abbrev entries : List (Entry Total)
   entries = ours (plain d) sums-measure (rows_of d n ws)
 
-  entries-in : entriesIn o.held ≡ entries
+  entries-in : entries_in o.held ≡ entries
   entries-in =
-      ap entriesIn (opened-held o) ∙ entries-required o.held.sizes (rows_of d n ws)
+      ap entries_in (opened_held o) ∙ entries-required o.held.sizes (rows_of d n ws)
       ∙ ap (λ (k : ℕ). ours (plain k) sums-measure (rows_of d n ws)) o.dims
 
   module _ (q : List ℕ) where
-    pub look-stopped : false ≡ asks (wordsAt s d 8) q → Find.Stop 13 ≡ looksUp s q
-    unfolding looksUp
-    look-stopped h = let g = ap (λ (zs : List ℕ). asks zs q) o.sizes ∙ sym h in rw (o.read, g)
+    pub look_stopped : false ≡ asks (words_at s d 8) q → Find.Stop 13 ≡ looks_up s q
+    unfolding looks_up
+    look_stopped h = let g = ap (λ (zs : List ℕ). asks zs q) o.sizes ∙ sym h in rw (o.read, g)
 
-    module _ (h : true ≡ asks (wordsAt s d 8) q) where
+    module _ (h : true ≡ asks (words_at s d 8) q) where
       pub look-long : length q ≡ d
       look-long = cases (truth (eqb (length q) d))
           (λ e. eqb-true (length q) d e)
-          (λ e. absurd (false≢true (sym (asks-length (wordsAt s d 8) q (λ g. eqb-false (length q) d e (g ∙ length-wordsAt s d 8))) ∙ sym h)))
+          (λ e. absurd (false≢true (sym (asks-length (words_at s d 8) q (λ g. eqb-false (length q) d e (g ∙ length_words_at s d 8))) ∙ sym h)))
 
-      pub look-told : {r : Look} → r ≡ looked (lookup (plain d) q entries) → foundAs r ≡ looksUp s q
-      unfolding looksUp
-      look-told e =
+      pub look_told : {r : Look} → r ≡ looked (lookup (plain d) q entries) → found_as r ≡ looks_up s q
+      unfolding looks_up
+      look_told e =
           let g = ap (λ (zs : List ℕ). asks zs q) o.sizes ∙ sym h in
-          rw (o.read, g) (ap foundAs e ∙ found-told (lookup (plain d) q entries)
+          rw (o.read, g) (ap found_as e ∙ found-told (lookup (plain d) q entries)
           ∙ ap₂ (λ (k : ℕ) (l : List (Entry Total)). told (lookup (plain k) q l)) (sym o.dims) (sym entries-in))

@@ -1,7 +1,7 @@
 // An archive asked for a cell.
 // The call answers for whatever bytes and question it is lent, and writes nothing.
 ghost use Rattle.std.specs.Prelude.{◌≡◌};
-ghost use Rattle.call_answers.specs.Calls.{looksUp};
+ghost use Rattle.call_answers.specs.Calls.{looks_up};
 ghost use Rattle.call_ask.specs.Accepts.{Accepts};
 
 use archive_entries::ArchiveRead;
@@ -18,7 +18,7 @@ pub fn look_read(
     question: &[u32],
 ) -> Found
     requires { Accepts s.now rows.now dims bases cells }
-    ensures { result ≡ looksUp s.now question.now }
+    ensures { result ≡ looks_up s.now question.now }
 {
     let d = dims as usize;
     if !call_questions::fits(s, d, question) {
@@ -36,7 +36,7 @@ pub fn look_read(
 
 // Reads an archive into the array that is lent, and looks up a cell.
 fn look_in(s: &[u8], rows: &mut [u32; rows::ROOM], question: &[u32]) -> Found
-    ensures { result ≡ looksUp s.now question.now }
+    ensures { result ≡ looks_up s.now question.now }
 {
     match archive_read::read_required(s, rows) {
         ArchiveRead::Stop(n) => Found::Stop(n),
@@ -48,7 +48,7 @@ fn look_in(s: &[u8], rows: &mut [u32; rows::ROOM], question: &[u32]) -> Found
 
 // Looks up a cell: a code or ALL (65,535) for each dimension.
 pub fn look_up(archive: &[u8], question: &[u32]) -> Found
-    ensures { result ≡ looksUp archive.now question.now }
+    ensures { result ≡ looks_up archive.now question.now }
 {
     let mut rows = [0u32; rows::ROOM];
     look_in(archive, &mut rows, question)

@@ -13,13 +13,13 @@ use Rattle.cube.specs.declared.Total.{Total}
 use Rattle.cube.specs.Measure.{Row, sums as measure, codes_of}
 use Rattle.cube.specs.Codes.{falls, set-of, plain}
 use Rattle.cube.specs.Condensed.{single, normals, Base, lookup, ours}
-use Rattle.rows.specs.Rows.{cut, row_at, rows_of, rowTotal}
+use Rattle.rows.specs.Rows.{cut, row_at, rows_of, row_total}
 use Rattle.rows.proofs.Rows.{cut-length, rows-codes}
 use Rattle.rows.proofs.Flat.{rows-length}
 use Rattle.archive_entries.proofs.Limits.{normals-few}
 use Rattle.rows_ready.specs.Ready.{Ready}
 use Rattle.rows_ready.proofs.Ready.{ready-base}
-use Rattle.call_search.specs.Search.{entryBefore}
+use Rattle.call_search.specs.Search.{entry_before}
 use Rattle.call_questions.specs.declared.Look.{Look}
 use Rattle.call_questions.specs.declared.Look.TheVariants.{Cell}
 use Rattle.call_questions.specs.Questions.{looked, rowless, First, NormalsAt}
@@ -66,12 +66,12 @@ module _ {d n : ℕ} {ws : List ℕ} (ready : Ready d n ws) (c : List ℕ) where
     alone = single (plain d) (cut d n ws) (set-of c) (row_at (cut d n ws) i)
 
     -- one row does
-    pub asked-row : alone ≡ true → Cell (rowTotal d n ws i).sum (rowTotal d n ws i).count i ≡ asked
-    unfolding rowTotal
+    pub asked-row : alone ≡ true → Cell (row_total d n ws i).sum (row_total d n ws i).count i ≡ asked
+    unfolding row_total
     asked-row e = sym (ap looked (answer-row d table base c i inside falls-here (rw same_codes e)))
 
     -- two or more do
-    module _ {s : List ℕ} {at m k : ℕ} (held : NormalsAt s at m d table) (e : length c ≡ d) (g : Between (entryBefore s at c) m k k) (p : alone ≡ false) where
+    module _ {s : List ℕ} {at m k : ℕ} (held : NormalsAt s at m d table) (e : length c ≡ d) (g : Between (entry_before s at c) m k k) (p : alone ≡ false) where
       normal : c ∈ normals (plain d) (codes_of table)
       normal = shared-cell d table base c i inside falls-here (rw same_codes p)
 

@@ -18,27 +18,27 @@ pub record ByPairs (f : List ℕ → List ℕ → Bool) (t : ℕ → ℕ → Boo
   pub more : (a b : ℕ) (x y : List ℕ) → f (a ∷ x) (b ∷ y) ≡ t a b && f x y
 
 module _ {f : List ℕ → List ℕ → Bool} {t : ℕ → ℕ → Bool} (p : ByPairs f t) (xs ys : List ℕ) (i : ℕ) where
-  pub pairs-done : length xs ≤ i → length ys ≤ i → f (drop i xs) (drop i ys) ≡ true
-  pairs-done h k = rw (drop_of_length-le xs h, drop_of_length-le ys k) p.none
+  pub pairs_done : length xs ≤ i → length ys ≤ i → f (drop i xs) (drop i ys) ≡ true
+  pairs_done h k = rw (drop_of_length-le xs h, drop_of_length-le ys k) p.none
 
   -- one dimension more, where the test passes, and where it does not
   module _ (h : i < length xs) (k : i < length ys) where
-    pairs-more : f (drop i xs) (drop i ys) ≡ t (get_or xs i 0) (get_or ys i 0) && f (drop (i + 1) xs) (drop (i + 1) ys)
-    pairs-more = rw (add-one, drop-cons xs i 0 h, drop-cons ys i 0 k) (p.more _ _ _ _)
+    pairs_more : f (drop i xs) (drop i ys) ≡ t (get_or xs i 0) (get_or ys i 0) && f (drop (i + 1) xs) (drop (i + 1) ys)
+    pairs_more = rw (add-one, drop-cons xs i 0 h, drop-cons ys i 0 k) (p.more _ _ _ _)
 
-    pub pairs-skip : t (get_or xs i 0) (get_or ys i 0) ≡ true → f (drop (i + 1) xs) (drop (i + 1) ys) ≡ f (drop i xs) (drop i ys)
-    pairs-skip e = rw (pairs-more, e)
+    pub pairs_skip : t (get_or xs i 0) (get_or ys i 0) ≡ true → f (drop (i + 1) xs) (drop (i + 1) ys) ≡ f (drop i xs) (drop i ys)
+    pairs_skip e = rw (pairs_more, e)
 
-    pub pairs-stop : t (get_or xs i 0) (get_or ys i 0) ≡ false → f (drop i xs) (drop i ys) ≡ false
-    pairs-stop e = rw (pairs-more, e)
+    pub pairs_stop : t (get_or xs i 0) (get_or ys i 0) ≡ false → f (drop i xs) (drop i ys) ≡ false
+    pairs_stop e = rw (pairs_more, e)
 
 -- ---- a cell's code and a row's
 
 abbrev meets : ℕ → ℕ → Bool
 meets a b = eqb a ALL || eqb a b
 
-pub falls-pairs : ByPairs falls meets
-falls-pairs = record { none = refl; more = λ a b x y. refl }
+pub falls_pairs : ByPairs falls meets
+falls_pairs = record { none = refl; more = λ a b x y. refl }
 
 pub meets-all : (a b : ℕ) → a ≡ ALL → meets a b ≡ true
 meets-all a b e = rw (eq-eqb a ALL e)
@@ -46,16 +46,16 @@ meets-all a b e = rw (eq-eqb a ALL e)
 pub meets-code : (a b : ℕ) → eqb a b ≡ true → meets a b ≡ true
 meets-code a b e = rw (e, or-true)
 
-pub meets-not : (a b : ℕ) → a ≢ ALL → eqb a b ≡ false → meets a b ≡ false
-meets-not a b n e = rw (ne_eqb a ALL n, e)
+pub meets_not : (a b : ℕ) → a ≢ ALL → eqb a b ≡ false → meets a b ≡ false
+meets_not a b n e = rw (ne_eqb a ALL n, e)
 
 -- ---- a size and a question's code
 
 abbrev allows : ℕ → ℕ → Bool
 allows z c = ltb c z || eqb c ALL
 
-pub asks-pairs : ByPairs asks allows
-asks-pairs = record { none = refl; more = λ z c zs q. refl }
+pub asks_pairs : ByPairs asks allows
+asks_pairs = record { none = refl; more = λ z c zs q. refl }
 
 -- a question has as many codes as there are sizes
 pub asks-length : (zs q : List ℕ) → length q ≢ length zs → asks zs q ≡ false
@@ -64,11 +64,11 @@ asks-length [] (c ∷ q) n = refl
 asks-length (z ∷ zs) [] n = refl
 asks-length (z ∷ zs) (c ∷ q) n = rw (asks-length zs q (λ e. n (ap suc e)), and-false)
 
-pub allows-below : (z c : ℕ) → c < z → allows z c ≡ true
-allows-below z c h = rw (lt-ltb c z h)
+pub allows_below : (z c : ℕ) → c < z → allows z c ≡ true
+allows_below z c h = rw (lt-ltb c z h)
 
-pub allows-all : (z c : ℕ) → eqb c ALL ≡ true → allows z c ≡ true
-allows-all z c e = rw (e, or-true)
+pub allows_all : (z c : ℕ) → eqb c ALL ≡ true → allows z c ≡ true
+allows_all z c e = rw (e, or-true)
 
-pub allows-not : (z c : ℕ) → z ≤ c → eqb c ALL ≡ false → allows z c ≡ false
-allows-not z c h e = rw (le-ltb c z h, e)
+pub allows_not : (z c : ℕ) → z ≤ c → eqb c ALL ≡ false → allows z c ≡ false
+allows_not z c h e = rw (le-ltb c z h, e)

@@ -28,11 +28,11 @@ none_more {f} {i} b e = record {
 }
 
 -- row k falls in cell c
-abbrev pub rowFalls : List ℕ → List (List ℕ) → ℕ → Bool
-rowFalls c xs k = falls c (row_at xs k)
+abbrev pub row_falls : List ℕ → List (List ℕ) → ℕ → Bool
+row_falls c xs k = falls c (row_at xs k)
 
-pub first-here : {c : List ℕ} {xs : List (List ℕ)} {i : ℕ} → i < length xs → NoneBefore (rowFalls c xs) i → rowFalls c xs i ≡ true → First c xs i
+pub first-here : {c : List ℕ} {xs : List (List ℕ)} {i : ℕ} → i < length xs → NoneBefore (row_falls c xs) i → row_falls c xs i ≡ true → First c xs i
 first-here h b e = record { within = omega (arith, h); before = b.fails; here = λ k. e }
 
-pub first-none : {c : List ℕ} {xs : List (List ℕ)} {n i : ℕ} → length xs ≡ n → n ≤ i → NoneBefore (rowFalls c xs) i → First c xs n
+pub first-none : {c : List ℕ} {xs : List (List ℕ)} {n i : ℕ} → length xs ≡ n → n ≤ i → NoneBefore (row_falls c xs) i → First c xs n
 first-none q h b = record { within = omega (arith, q); before = λ k l. b.fails k (omega (arith, h, l)); here = λ k. absurd (omega (arith, q, k)) }

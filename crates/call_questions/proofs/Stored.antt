@@ -10,7 +10,7 @@ use lib.Seq.{drop-drop, drop_at}
 use Rattle.lists.specs.Lists.{◌∈◌}
 use Rattle.lists.proofs.Members.{at_in}
 use Rattle.lists.proofs.Places.{map_at}
-use Rattle.fields.specs.OpeningLaws.{starts_is, starts-length}
+use Rattle.fields.specs.OpeningLaws.{starts_is, starts_length}
 use Rattle.fields_walk.proofs.Lengths.{length-flat}
 use Rattle.cube.specs.declared.Total.{Total}
 use Rattle.cube.specs.Measure.{Row, sums as measure, codes_of}
@@ -20,12 +20,12 @@ use Rattle.cube.specs.Condensed.{normals, Base}
 use Rattle.cube.specs.Bounds.{Summable}
 use Rattle.rows.proofs.Rows.{row_within}
 use Rattle.rows.proofs.Flat.{blank}
-use Rattle.archive_entries.specs.Layout.{cellBytes}
-use Rattle.archive_entries.specs.Places.{rowThere}
-use Rattle.archive_entries.proofs.There.{cell-there}
+use Rattle.archive_entries.specs.Layout.{cell_bytes}
+use Rattle.archive_entries.specs.Places.{row_there}
+use Rattle.archive_entries.proofs.There.{cell_there}
 use Rattle.archive_entries.proofs.Lengths.{cell-length}
 use Rattle.archive_entries.proofs.Limits.{normals-wide}
-use Rattle.rows_condense.specs.Shared.{normalRows}
+use Rattle.rows_condense.specs.Shared.{normal_rows}
 use Rattle.call_questions.specs.Questions.{NormalsAt}
 
 -- ---- things of equal length, one behind the other
@@ -56,20 +56,20 @@ module _ {s : List ℕ} {at n d : ℕ} {rows : List (Row Total)} (held : Normals
   fill = filled (plain d) measure rows
 
   pub held-count : n ≡ length cells
-  unfolding normalRows
+  unfolding normal_rows
   held-count = held.count ∙ length-map cells fill
 
   module _ (b : Base (plain d) (codes_of rows)) (m : Summable rows) where
-    long : (r : Row Total) → r ∈ map fill cells → length (cellBytes r) ≡ 4 * d + 12
+    long : (r : Row Total) → r ∈ map fill cells → length (cell_bytes r) ≡ 4 * d + 12
     long r i = cell-length d r (normals-wide d rows b m i).0.0
 
     -- all are within the bytes
     pub held-room : at + n * (4 * d + 12) ≤ length s
-    unfolding normalRows
+    unfolding normal_rows
     held-room =
-        let e = length-flat cellBytes (4 * d + 12) (map fill cells) long in
+        let e = length-flat cell_bytes (4 * d + 12) (map fill cells) long in
         let f = ap (λ (k : ℕ). k * (4 * d + 12)) held.count in
-        omega (arith, held.within, starts-length (drop at s) (flat_map cellBytes (map fill cells)) held.bytes, length-drop at s, e, f)
+        omega (arith, held.within, starts_length (drop at s) (flat_map cell_bytes (map fill cells)) held.bytes, length-drop at s, e, f)
 
     -- entry k stands at its place
     module _ (k : ℕ) (h : k < n) where
@@ -79,19 +79,19 @@ module _ {s : List ℕ} {at n d : ℕ} {rows : List (Row Total)} (held : Normals
       pub held-within : place + (4 * d + 12) ≤ length s
       held-within = omega (arith, held-room, row_within (4 * d + 12) n k h)
 
-      stands : (rest : List ℕ) × (drop place s ≡ cellBytes (fill (get_or cells k [])) ++ rest)
-      unfolding normalRows
+      stands : (rest : List ℕ) × (drop place s ≡ cell_bytes (fill (get_or cells k [])) ++ rest)
+      unfolding normal_rows
       stands =
           let rs = map fill cells in
-          let p = flat-place cellBytes (4 * d + 12) blank rs k (drop (length (flat_map cellBytes rs)) (drop at s)) long (omega (arith, h, held.count)) in
+          let p = flat-place cell_bytes (4 * d + 12) blank rs k (drop (length (flat_map cell_bytes rs)) (drop at s)) long (omega (arith, h, held.count)) in
           let q : get_or rs k blank ≡ fill (get_or cells k []) = map_at fill [] blank cells k (omega (arith, h, held-count)) in (
             p.0,
-            sym (drop-drop (k * (4 * d + 12)) at s) ∙ ap (drop (k * (4 * d + 12))) (starts_is (drop at s) (flat_map cellBytes rs) held.bytes)
-                ∙ p.1 ∙ ap (λ (r : Row Total). cellBytes r ++ p.0) q,
+            sym (drop-drop (k * (4 * d + 12)) at s) ∙ ap (drop (k * (4 * d + 12))) (starts_is (drop at s) (flat_map cell_bytes rs) held.bytes)
+                ∙ p.1 ∙ ap (λ (r : Row Total). cell_bytes r ++ p.0) q,
           )
 
       -- and is read there
-      pub held-there : rowThere s d place ≡ fill (get_or cells k [])
-      held-there = cell-there s d (fill (get_or cells k []))
+      pub held_there : row_there s d place ≡ fill (get_or cells k [])
+      held_there = cell_there s d (fill (get_or cells k []))
           (normals-wide d rows b m (Memᴰ.map fill (at_in [] cells k (omega (arith, h, held-count)))))
           place stands.0 (omega (arith, held-within)) stands.1

@@ -13,10 +13,10 @@ use Rattle.cube.specs.declared.Total.{Total}
 use Rattle.cube.specs.Measure.{Row}
 use Rattle.cube.specs.Codes.{ALL, falls, plain}
 use Rattle.cube.specs.Condensed.{normal, Answer, no_record, found, lookup}
-use Rattle.rows_ready.specs.Blank.{blankRows}
+use Rattle.rows_ready.specs.Blank.{blank_rows}
 use Rattle.rows.specs.Rows.{row_at}
-use Rattle.archive_entries.specs.Layout.{cellBytes}
-use Rattle.rows_condense.specs.Shared.{normalRows}
+use Rattle.archive_entries.specs.Layout.{cell_bytes}
+use Rattle.rows_condense.specs.Shared.{normal_rows}
 use Rattle.call_questions.specs.declared.Look.{Look}
 use Rattle.call_questions.specs.declared.Look.TheVariants.{NoRecord, Cell}
 
@@ -31,7 +31,7 @@ looked no_record = NoRecord
 looked (found n t) = Cell t.sum t.count n
 
 abbrev pub rowless : ℕ → ℕ → List ℕ → Answer Total
-rowless d n c = lookup (plain d) c (map normal (blankRows d n))
+rowless d n c = lookup (plain d) c (map normal (blank_rows d n))
 
 pub record First (c : List ℕ) (xs : List (List ℕ)) (r : ℕ) : Type 0 where
   pub within : r ≤ length xs
@@ -40,5 +40,5 @@ pub record First (c : List ℕ) (xs : List (List ℕ)) (r : ℕ) : Type 0 where
 
 pub record NormalsAt (s : List ℕ) (at n d : ℕ) (rows : List (Row Total)) : Type 0 where
   pub within : at ≤ length s
-  pub bytes : starts_with (drop at s) (flat_map cellBytes (normalRows d rows)) ≡ true
-  pub count : n ≡ length (normalRows d rows)
+  pub bytes : starts_with (drop at s) (flat_map cell_bytes (normal_rows d rows)) ≡ true
+  pub count : n ≡ length (normal_rows d rows)

@@ -1,6 +1,6 @@
 // Questions to an archive: whether one fits, and the entry that stands for its cell.
 ghost use Rattle.std.specs.Prelude.{◌≡◌, ◌+◌, ◌*◌, ◌≤◌, length};
-ghost use Rattle.fields.specs.Words.{wordsAt};
+ghost use Rattle.fields.specs.Words.{words_at};
 ghost use Rattle.cube.specs.Measure.{sums as measure};
 ghost use Rattle.cube.specs.Codes.{falls, plain};
 ghost use Rattle.cube.specs.Condensed.{ours, lookup};
@@ -18,7 +18,7 @@ pub enum Look {
 // Whether a question has a code below its size, or ALL, for each dimension; the sizes stand in the archive.
 pub fn fits(s: &[u8], dims: usize, question: &[u32]) -> bool
     requires { 8 + 4 * dims ≤ length s.now }
-    ensures { result ≡ asks (wordsAt s.now dims 8) question.now }
+    ensures { result ≡ asks (words_at s.now dims 8) question.now }
 {
     if question.len() != dims {
         return false;

@@ -26,8 +26,8 @@ set-none c = ap set-of (sym (drop_of_length-le c {i = length c} (omega arith)))
 
 module _ (c : List ℕ) (d : ℕ) (h : 0 < d) where
   -- the set of fewer than 8 dimensions
-  pub set-small : length c ≤ 8 → set-of (drop d c) < 128
-  set-small k = set-lt (drop d c) 7 (rw length-drop (omega arith))
+  pub set_small : length c ≤ 8 → set-of (drop d c) < 128
+  set_small k = set-lt (drop d c) 7 (rw length-drop (omega arith))
 
   module _ (k : d ≤ length c) where
     -- one dimension more, which is ALL or not
@@ -36,8 +36,8 @@ module _ (c : List ℕ) (d : ℕ) (h : 0 < d) where
         let e : suc (d - 1) ≡ d = omega arith in
         ap set-of (drop-cons c (d - 1) 0 (omega arith)) ∙ ap (λ (i : ℕ). bit (eqb (get_or c (d - 1) 0) ALL) + 2 * set-of (drop i c)) e
 
-    pub set-with : get_or c (d - 1) 0 ≢ ALL → 2 * set-of (drop d c) + 1 ≡ set-of (drop (d - 1) c)
-    set-with n = omega (arith, set_more, ap bit (ne_eqb (get_or c (d - 1) 0) ALL n))
+    pub set_with : get_or c (d - 1) 0 ≢ ALL → 2 * set-of (drop d c) + 1 ≡ set-of (drop (d - 1) c)
+    set_with n = omega (arith, set_more, ap bit (ne_eqb (get_or c (d - 1) 0) ALL n))
 
-    pub set-without : get_or c (d - 1) 0 ≡ ALL → 2 * set-of (drop d c) ≡ set-of (drop (d - 1) c)
-    set-without e = omega (arith, set_more, ap bit (eq-eqb (get_or c (d - 1) 0) ALL e))
+    pub set_without : get_or c (d - 1) 0 ≡ ALL → 2 * set-of (drop d c) ≡ set-of (drop (d - 1) c)
+    set_without e = omega (arith, set_more, ap bit (eq-eqb (get_or c (d - 1) 0) ALL e))

@@ -2,9 +2,9 @@
 ghost use Rattle.std.specs.Prelude.{◌≡◌, ◌+◌, ◌*◌, ◌≤◌, length};
 ghost use Rattle.lists.specs.Order.{earlier};
 ghost use Rattle.lists.specs.Search.{Between};
-ghost use Rattle.fields.specs.Words.{wordsAt};
+ghost use Rattle.fields.specs.Words.{words_at};
 ghost use Rattle.cube.specs.Codes.{set-of, keys};
-ghost use Rattle.call_search.specs.Search.{entryBefore};
+ghost use Rattle.call_search.specs.Search.{entry_before};
 
 // The set of a cell: the dimensions that are not ALL.
 pub fn set_of(cell: &[u32]) -> u32
@@ -48,7 +48,7 @@ fn cell_before(mine: &[u32], cell: &[u32]) -> bool
 // Whether the entry at a place is listed before a cell.
 fn entry_before(s: &[u8], at: usize, cell: &[u32]) -> bool
     requires { (length cell.now ≤ 8) × (at + 4 * length cell.now ≤ length s.now) }
-    ensures { result ≡ earlier (keys (wordsAt s.now (length cell.now) at)) (keys cell.now) }
+    ensures { result ≡ earlier (keys (words_at s.now (length cell.now) at)) (keys cell.now) }
 {
     let dims = cell.len();
     let mut mine = [0u32; 8];
@@ -59,7 +59,7 @@ fn entry_before(s: &[u8], at: usize, cell: &[u32]) -> bool
 // The place of a cell among n entries from a place on, by halving: the entry straight before it is listed before the cell, and the entry at it is not.
 pub fn find_cell(s: &[u8], at: usize, n: usize, cell: &[u32]) -> usize
     requires { (length cell.now ≤ 8) × (at + n * (4 * length cell.now + 12) ≤ length s.now) }
-    ensures { Between (entryBefore s.now at cell.now) n result result }
+    ensures { Between (entry_before s.now at cell.now) n result result }
 {
     let width = 4 * cell.len() + 12;
     let mut low = 0;

@@ -2,7 +2,7 @@
 // The call answers for whatever bytes, window and question it is lent, and writes nothing. Of an accepted archive the answer tells of the rows in the window alone.
 ghost use Rattle.std.specs.Prelude.{◌≡◌};
 ghost use Rattle.call_ask.specs.Accepts.{Accepts};
-ghost use Rattle.call_window.specs.Windows.{asksWindow};
+ghost use Rattle.call_window.specs.Windows.{asks_window};
 
 use archive_entries::ArchiveRead;
 use call_answers::Found;
@@ -27,7 +27,7 @@ fn window_read(
     question: &[u32],
 ) -> Seen
     requires { Accepts archive.now rows.now dims bases cells }
-    ensures { result ≡ asksWindow archive.now dimension code question.now }
+    ensures { result ≡ asks_window archive.now dimension code question.now }
 {
     if dimension == 0 {
         return Seen::Stop(16);
@@ -64,7 +64,7 @@ fn window_in(
     code: u32,
     question: &[u32],
 ) -> Seen
-    ensures { result ≡ asksWindow archive.now dimension code question.now }
+    ensures { result ≡ asks_window archive.now dimension code question.now }
 {
     match archive_read::read_required(archive, rows) {
         ArchiveRead::Stop(n) => Seen::Stop(n),
@@ -76,7 +76,7 @@ fn window_in(
 
 // Looks up a cell through the window of a dimension, counted from 1, and a code: the question has this code there.
 pub fn window(archive: &[u8], dimension: u32, code: u32, question: &[u32]) -> Seen
-    ensures { result ≡ asksWindow archive.now dimension code question.now }
+    ensures { result ≡ asks_window archive.now dimension code question.now }
 {
     let mut rows = [0u32; rows::ROOM];
     window_in(archive, &mut rows, dimension, code, question)

@@ -12,14 +12,14 @@ use Rattle.lists.specs.Lists.{◌∈◌, Distinct}
 use Rattle.lists.proofs.Tests.{cases}
 use Rattle.lists.proofs.Members.{flat-same}
 use Rattle.lists.proofs.Order.{same_refl}
-use Rattle.lists.proofs.Pairwise.{pairwise-imp}
+use Rattle.lists.proofs.Pairwise.{pairwise_imp}
 use Rattle.cube.specs.Measure.{Measure, Row}
 use Rattle.cube.specs.Lattice.{Lattice, Laws}
 use Rattle.cube.specs.Cube.{Exists, total, grouped, cells, complete}
 use Rattle.cube.specs.Condensed.{normal, found, lookup, common, normals, ours}
 use Rattle.cube.proofs.Nodes.{Before}
 use Rattle.cube.proofs.Existing.{cells-rows, existing-none}
-use Rattle.cube.proofs.Normals.{common-in}
+use Rattle.cube.proofs.Normals.{common_in}
 
 no_member : {A : Type 0} (l : List A) → ((x : A) → x ∈ l → ⊥) → l ≡ []
 no_member [] h = refl
@@ -39,8 +39,8 @@ flat-one f {x} (y ∷ l) d (Memᴰ.head e) h =
 flat-one f {x} (y ∷ l) d (Memᴰ.tail m) h = rw (h y (λ q. d.0 x m q)) (flat-one f l d.1 m h)
 
 -- with a row
-pub exists-rows : (L : Lattice) (x : List ℕ) (xs : List (List ℕ)) (c : List ℕ) → Exists L (x ∷ xs) c ↔ ((y : List ℕ) × (y ∈ x ∷ xs) × (L.falls c y ≡ true))
-exists-rows L x xs c = (λ h. cases h (λ r. r) (λ m. absurd (Memᴰ.not-nil m)), inl)
+pub exists_rows : (L : Lattice) (x : List ℕ) (xs : List (List ℕ)) (c : List ℕ) → Exists L (x ∷ xs) c ↔ ((y : List ℕ) × (y ∈ x ∷ xs) × (L.falls c y ≡ true))
+exists_rows L x xs c = (λ h. cases h (λ r. r) (λ m. absurd (Memᴰ.not-nil m)), inl)
 
 pub complete-rows : (L : Lattice) {A : Type 0} (M : Measure A) (rows : List (Row A)) → 1 ≤ length rows → complete L M rows ≡ flat_map (grouped L M rows) L.nodes
 unfolding complete
@@ -62,11 +62,11 @@ module _ (L : Lattice) (W : Laws L) {A : Type 0} (M : Measure A) where
   pub complete-none : complete L M [] ≡ empty ∷ []
   unfolding complete
   complete-none =
-      flat-one (cells L M []) L.nodes (pairwise-imp (Before L) ◌≢◌ L.nodes (λ s t i j q. q.0) W.order) W.whole_in cells-off
+      flat-one (cells L M []) L.nodes (pairwise_imp (Before L) ◌≢◌ L.nodes (λ s t i j q. q.0) W.order) W.whole_in cells-off
       ∙ cells_at
 
   common-none : common L [] ≡ []
-  common-none = no_member (common L []) (λ c m. omega (arith, common-in L W [] (record { valid = λ x i. absurd (Memᴰ.not-nil i); distinct = tt }) m))
+  common-none = no_member (common L []) (λ c m. omega (arith, common_in L W [] (record { valid = λ x i. absurd (Memᴰ.not-nil i); distinct = tt }) m))
 
   pub normals-none : normals L [] ≡ L.whole ∷ []
   unfolding normals

@@ -7,13 +7,13 @@ use mathlib.Core.List.{List, [], ◌∷◌, map}
 use Prim.Native.Nat.{ℕ}
 use Rattle.lists.specs.Lists.{◌∈◌, keep}
 use Rattle.lists.specs.Order.{Rising, earlier, same}
-use Rattle.lists.proofs.Pairwise.{pairwise-imp, pairwise-of-map, keep_one}
+use Rattle.lists.proofs.Pairwise.{pairwise_imp, pairwise_of_map, keep_one}
 use Rattle.lists.proofs.Order.{by_codes, same-eq, same_refl}
-use Rattle.lists.proofs.Sorted.{rising-unique}
-use Rattle.cube.specs.Measure.{Measure, Adds, Row, total_of, totalAt, codes_of}
+use Rattle.lists.proofs.Sorted.{rising_unique}
+use Rattle.cube.specs.Measure.{Measure, Adds, Row, total_of, total_at, codes_of}
 use Rattle.cube.specs.Table.{Table, folded}
 use Rattle.cube.proofs.Regroup.{fill}
-use Rattle.cube.proofs.Folding.{folded-rising, folded-in, folded-total}
+use Rattle.cube.proofs.Folding.{folded-rising, folded_in, folded-total}
 
 rows_fill : {A : Type 0} (g : List ℕ → A) (rows : List (Row A)) → ((r : Row A) → r ∈ rows → r.total ≡ g r.codes) → rows ≡ map (fill g) (codes_of rows)
 rows_fill g [] h = refl
@@ -22,19 +22,19 @@ rows_fill {A} g (r ∷ rows) h =
 
 module _ {A : Type 0} (M : Measure A) (E : Adds M) (d : ℕ) (rows : List (Row A)) (t : Table d rows) (o : Rising earlier (codes_of rows)) where
   -- a row is alone with its codes
-  alone : (r : Row A) → r ∈ rows → r.total ≡ totalAt M rows r.codes
+  alone : (r : Row A) → r ∈ rows → r.total ≡ total_at M rows r.codes
   alone r m =
       let x = r.codes in
       let one : keep (λ q. same x q.codes) rows ≡ r ∷ [] = keep_one (λ q. same x q.codes) rows
-      (pairwise-imp (λ p q. earlier p.codes q.codes ≡ true) (λ p q. same x p.codes ≡ true → same x q.codes ≢ true) rows
+      (pairwise_imp (λ p q. earlier p.codes q.codes ≡ true) (λ p q. same x p.codes ≡ true → same x q.codes ≢ true) rows
       (λ p q i j e f g. by_codes.irrefl x (subst (λ (y : List ℕ). earlier x y ≡ true) (sym (same-eq x q.codes g)) (subst (λ (y : List ℕ). earlier y q.codes ≡ true) (sym (same-eq x p.codes f)) e)))
-      (pairwise-of-map (λ u v. earlier u v ≡ true) (λ q. q.codes) rows o))
+      (pairwise_of_map (λ u v. earlier u v ≡ true) (λ q. q.codes) rows o))
       m (same_refl x) in
       sym (ap (total_of M) one ∙ E.None-more r.total)
 
   pub folded-same : folded M d rows ≡ rows
   folded-same =
-      rows_fill (totalAt M rows) (folded M d rows) (folded-total M d rows t)
-      ∙ ap (map (fill (totalAt M rows)))
-      (rising-unique earlier by_codes (codes_of (folded M d rows)) (codes_of rows) (folded-rising M d rows t) o (λ x. (folded-in M d rows t x).0) (λ x. (folded-in M d rows t x).1))
-      ∙ sym (rows_fill (totalAt M rows) rows alone)
+      rows_fill (total_at M rows) (folded M d rows) (folded-total M d rows t)
+      ∙ ap (map (fill (total_at M rows)))
+      (rising_unique earlier by_codes (codes_of (folded M d rows)) (codes_of rows) (folded-rising M d rows t) o (λ x. (folded_in M d rows t x).0) (λ x. (folded_in M d rows t x).1))
+      ∙ sym (rows_fill (total_at M rows) rows alone)

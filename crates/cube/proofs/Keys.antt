@@ -13,17 +13,17 @@ use Rattle.lists.specs.Lists.{◌∈◌, every, Pairwise, Distinct}
 use Rattle.lists.specs.Order.{same, Rising}
 use Rattle.lists.proofs.Tests.{cases, truth, refuted, both, both_of, every_in, every_of}
 use Rattle.lists.proofs.Order.{same-eq, same_refl}
-use Rattle.lists.proofs.Sorted.{rising-one, rising-unique}
+use Rattle.lists.proofs.Sorted.{rising-one, rising_unique}
 use Rattle.lattice.specs.Sets.{before, sets, holds}
-use Rattle.lattice.proofs.Sets.{by-lattice, holds-le, sets-in, sets_of, sets-rising}
+use Rattle.lattice.proofs.Sets.{by_lattice, holds-le, sets-in, sets_of, sets-rising}
 use Rattle.cube.specs.Lattice.{Lattice, Laws}
 use Rattle.cube.specs.Codes.{Coded, alike, agree, plain}
 use Rattle.cube.specs.Condensed.{single}
-use Rattle.cube.specs.Keys.{key, leastKeys, fixes, dimension}
-use Rattle.cube.proofs.Codes.{agree_refl, plain-laws}
+use Rattle.cube.specs.Keys.{key, least_keys, fixes, dimension}
+use Rattle.cube.proofs.Codes.{agree_refl, plain_laws}
 use Rattle.cube.proofs.Singles.{single-other, single_of}
-use Rattle.cube.proofs.Smallest.{smallest-pairwise, least-in, least-held, least-distinct, least-least, least_iff}
-use Rattle.cube.proofs.Antichain.{antichain-short}
+use Rattle.cube.proofs.Smallest.{smallest_pairwise, least_in, least-held, least-distinct, least-least, least_iff}
+use Rattle.cube.proofs.Antichain.{antichain_short}
 
 -- ---- any lattice
 
@@ -39,8 +39,8 @@ module _ (L : Lattice) (xs : List (List ℕ)) (s : ℕ) where
   key_of h = every_of (single L xs s) xs (λ x m. single_of L xs s x (λ y n a. h x y m n a))
 
   -- A node is a key just if no two different rows agree on it.
-  pub key-iff : (key L xs s ≡ true) ↔ ((x y : List ℕ) → x ∈ xs → y ∈ xs → x ≢ y → L.agree s x y ≡ false)
-  key-iff = (
+  pub key_iff : (key L xs s ≡ true) ↔ ((x y : List ℕ) → x ∈ xs → y ∈ xs → x ≢ y → L.agree s x y ≡ false)
+  key_iff = (
     λ e x y m n d. refuted (λ a. d (key-other e m n a)),
     λ h. key_of (λ x y m n a. cases (truth (same x y)) (same-eq x y)
         (λ e. absurd (false≢true (sym (h x y m n (λ q. false≢true (sym e ∙ ap (same x) (sym q) ∙ same_refl x))) ∙ a)))),
@@ -51,63 +51,63 @@ module _ (L : Lattice) (xs : List (List ℕ)) (s : ℕ) where
     unfolding fixes
     fixes-in {x} {y} e m n a = rw a at (every_in (λ y. not (L.agree s x y) || L.agree t x y) (every_in (λ x. every (λ y. not (L.agree s x y) || L.agree t x y) xs) e m) n)
 
-    pub fixes-of : ((x y : List ℕ) → x ∈ xs → y ∈ xs → L.agree s x y ≡ true → L.agree t x y ≡ true) → fixes L xs s t ≡ true
+    pub fixes_of : ((x y : List ℕ) → x ∈ xs → y ∈ xs → L.agree s x y ≡ true → L.agree t x y ≡ true) → fixes L xs s t ≡ true
     unfolding fixes
-    fixes-of h = every_of (λ x. every (λ y. not (L.agree s x y) || L.agree t x y) xs) xs (λ x m.
+    fixes_of h = every_of (λ x. every (λ y. not (L.agree s x y) || L.agree t x y) xs) xs (λ x m.
         every_of (λ y. not (L.agree s x y) || L.agree t x y) xs (λ y n. cases (truth (L.agree s x y)) (λ a. rw (h x y m n a, or-true)) (λ a. rw a)))
 
-pub fixes-iff : (L : Lattice) (xs : List (List ℕ)) (s t : ℕ)
+pub fixes_iff : (L : Lattice) (xs : List (List ℕ)) (s t : ℕ)
     → (fixes L xs s t ≡ true) ↔ ((x y : List ℕ) → x ∈ xs → y ∈ xs → L.agree s x y ≡ true → L.agree t x y ≡ true)
-fixes-iff L xs s t = (λ e x y m n a. fixes-in L xs s t e m n a, fixes-of L xs s t)
+fixes_iff L xs s t = (λ e x y m n a. fixes-in L xs s t e m n a, fixes_of L xs s t)
 
 module _ (L : Lattice) (W : Laws L) (xs : List (List ℕ)) where
   all_in : (s : ℕ) → s ∈ L.nodes → s ∈ L.nodes
   all_in s m = m
 
   -- The smallest keys are just the keys that hold no other key;
-  pub leastKeys-iff : (m : ℕ) → (m ∈ leastKeys L xs) ↔ ((m ∈ L.nodes) × (key L xs m ≡ true) × ((t : ℕ) → t ∈ L.nodes → key L xs t ≡ true → L.holds m t ≡ true → t ≡ m))
-  unfolding leastKeys
-  leastKeys-iff = least_iff L W (key L xs) L.nodes all_in W.order
+  pub least_keys_iff : (m : ℕ) → (m ∈ least_keys L xs) ↔ ((m ∈ L.nodes) × (key L xs m ≡ true) × ((t : ℕ) → t ∈ L.nodes → key L xs t ≡ true → L.holds m t ≡ true → t ≡ m))
+  unfolding least_keys
+  least_keys_iff = least_iff L W (key L xs) L.nodes all_in W.order
 
-  leastKeys-distinct : Distinct (leastKeys L xs)
-  unfolding leastKeys
-  leastKeys-distinct = least-distinct L W (key L xs) L.nodes all_in W.order
+  least_keys-distinct : Distinct (least_keys L xs)
+  unfolding least_keys
+  least_keys-distinct = least-distinct L W (key L xs) L.nodes all_in W.order
 
-  leastKeys-least : {m n : ℕ} → m ∈ leastKeys L xs → n ∈ leastKeys L xs → L.holds m n ≡ true → m ≡ n
-  unfolding leastKeys
-  leastKeys-least = least-least L W (key L xs) L.nodes all_in W.order
+  least_keys-least : {m n : ℕ} → m ∈ least_keys L xs → n ∈ least_keys L xs → L.holds m n ≡ true → m ≡ n
+  unfolding least_keys
+  least_keys-least = least-least L W (key L xs) L.nodes all_in W.order
 
-  pub leastKeys-pairwise : (R : ℕ → ℕ → Type 0) → Pairwise R L.nodes → Pairwise R (leastKeys L xs)
-  unfolding leastKeys
-  leastKeys-pairwise R o = smallest-pairwise L W (key L xs) R L.nodes [] tt o (λ e s m n. absurd (Memᴰ.not-nil m))
+  pub least_keys_pairwise : (R : ℕ → ℕ → Type 0) → Pairwise R L.nodes → Pairwise R (least_keys L xs)
+  unfolding least_keys
+  least_keys_pairwise R o = smallest_pairwise L W (key L xs) R L.nodes [] tt o (λ e s m n. absurd (Memᴰ.not-nil m))
 
   module _ (v : (x : List ℕ) → x ∈ xs → L.valid x) where
     -- a node that holds a key is a key,
-    pub key-up : (s t : ℕ) → L.holds s t ≡ true → key L xs t ≡ true → key L xs s ≡ true
-    key-up s t h e = key_of L xs s (λ x y m n a. key-other L xs t e m n (W.agree-down s t x y (v x m) h a))
+    pub key_up : (s t : ℕ) → L.holds s t ≡ true → key L xs t ≡ true → key L xs s ≡ true
+    key_up s t h e = key_of L xs s (λ x y m n a. key-other L xs t e m n (W.agree_down s t x y (v x m) h a))
 
     -- so a node is a key just if it holds a smallest one.
-    pub key-holds : {s : ℕ} → s ∈ L.nodes → (key L xs s ≡ true) ↔ ((m : ℕ) × (m ∈ leastKeys L xs) × (L.holds s m ≡ true))
-    unfolding leastKeys
+    pub key-holds : {s : ℕ} → s ∈ L.nodes → (key L xs s ≡ true) ↔ ((m : ℕ) × (m ∈ least_keys L xs) × (L.holds s m ≡ true))
+    unfolding least_keys
     key-holds {s} i = (
       λ e. least-held L W (key L xs) L.nodes all_in W.order i e,
-      λ h. key-up s h.0 h.2 (least-in L W (key L xs) L.nodes all_in W.order h.1).1,
+      λ h. key_up s h.0 h.2 (least_in L W (key L xs) L.nodes all_in W.order h.1).1,
     )
 
     -- A node fixes each node that it holds,
     pub fixes-held : (s t : ℕ) → L.holds s t ≡ true → fixes L xs s t ≡ true
-    fixes-held s t h = fixes-of L xs s t (λ x y m n a. W.agree-down s t x y (v x m) h a)
+    fixes-held s t h = fixes_of L xs s t (λ x y m n a. W.agree_down s t x y (v x m) h a)
 
     -- and is a key just if it fixes the finest one,
     key-finest : (s : ℕ) → (key L xs s ≡ true) ↔ (fixes L xs s L.finest ≡ true)
     key-finest s = (
-      λ e. fixes-of L xs s L.finest (λ x y m n a. rw (key-other L xs s e m n a) (W.agree_refl L.finest y)),
-      λ e. key_of L xs s (λ x y m n a. W.agree-finest x y (v x m) (v y n) (fixes-in L xs s L.finest e m n a)),
+      λ e. fixes_of L xs s L.finest (λ x y m n a. rw (key-other L xs s e m n a) (W.agree_refl L.finest y)),
+      λ e. key_of L xs s (λ x y m n a. W.agree_finest x y (v x m) (v y n) (fixes-in L xs s L.finest e m n a)),
     )
 
     -- so the finest node is a key.
     pub finest-key : key L xs L.finest ≡ true
-    finest-key = (key-finest L.finest).1 (fixes-held L.finest L.finest (W.holds-refl L.finest))
+    finest-key = (key-finest L.finest).1 (fixes-held L.finest L.finest (W.holds_refl L.finest))
 
   -- with no row or one every node is a key
   pub key-few : length xs ≤ 1 → (s : ℕ) → key L xs s ≡ true
@@ -146,20 +146,20 @@ holds-none (suc d) s = both_of (le-leb 0 (s % 2) (omega arith)) (holds-none d (s
 
 module _ (d : ℕ) (xs : List (List ℕ)) where
   -- the smallest keys go by lattice order,
-  pub leastKeys-rising : Rising before (leastKeys (plain d) xs)
-  leastKeys-rising = leastKeys-pairwise (plain d) (plain-laws d) xs (λ s t. before s t ≡ true) (sets-rising d)
+  pub least_keys-rising : Rising before (least_keys (plain d) xs)
+  least_keys-rising = least_keys_pairwise (plain d) (plain_laws d) xs (λ s t. before s t ≡ true) (sets-rising d)
 
   -- up to 8 dimensions are at most 70,
-  pub leastKeys-short : d ≤ 8 → length (leastKeys (plain d) xs) ≤ 70
-  leastKeys-short h = antichain-short d h (leastKeys (plain d) xs) (λ m i. sets-in d ((leastKeys-iff (plain d) (plain-laws d) xs m).0 i).0)
-      (leastKeys-distinct (plain d) (plain-laws d) xs) (λ m n i j. leastKeys-least (plain d) (plain-laws d) xs i j)
+  pub least_keys-short : d ≤ 8 → length (least_keys (plain d) xs) ≤ 70
+  least_keys-short h = antichain_short d h (least_keys (plain d) xs) (λ m i. sets-in d ((least_keys_iff (plain d) (plain_laws d) xs m).0 i).0)
+      (least_keys-distinct (plain d) (plain_laws d) xs) (λ m n i j. least_keys-least (plain d) (plain_laws d) xs i j)
 
   -- and with no row or one the empty set is the only one.
-  pub leastKeys-few : length xs ≤ 1 → leastKeys (plain d) xs ≡ 0 ∷ []
-  leastKeys-few h = rising-unique before by-lattice (leastKeys (plain d) xs) (0 ∷ []) leastKeys-rising (rising-one before 0)
-      (λ m i. let r = (leastKeys-iff (plain d) (plain-laws d) xs m).0 i in
-      Memᴰ.head (sym (r.2 0 none (key-few (plain d) (plain-laws d) xs h 0) (holds-none d m))))
-      (λ m i. Memᴰ.cast (Memᴰ.eq_of_singleton i) ((leastKeys-iff (plain d) (plain-laws d) xs 0).1 (none, key-few (plain d) (plain-laws d) xs h 0, λ t j e f. below t j f)))
+  pub least_keys-few : length xs ≤ 1 → least_keys (plain d) xs ≡ 0 ∷ []
+  least_keys-few h = rising_unique before by_lattice (least_keys (plain d) xs) (0 ∷ []) least_keys-rising (rising-one before 0)
+      (λ m i. let r = (least_keys_iff (plain d) (plain_laws d) xs m).0 i in
+      Memᴰ.head (sym (r.2 0 none (key-few (plain d) (plain_laws d) xs h 0) (holds-none d m))))
+      (λ m i. Memᴰ.cast (Memᴰ.eq_of_singleton i) ((least_keys_iff (plain d) (plain_laws d) xs 0).1 (none, key-few (plain d) (plain_laws d) xs h 0, λ t j e f. below t j f)))
     where
       none : 0 ∈ sets d
       none = sets_of d (pow_pos d)
@@ -171,7 +171,7 @@ module _ (d : ℕ) (xs : List (List ℕ)) where
   -- A set is a key just if it fixes every dimension.
   pub key-fixes : ((x : List ℕ) → x ∈ xs → Coded d x) → (s : ℕ) → (key (plain d) xs s ≡ true) ↔ ((i : ℕ) → 1 ≤ i → i ≤ d → fixes (plain d) xs s (dimension i) ≡ true)
   key-fixes v s = (
-    λ e i g h. fixes-of (plain d) xs s (dimension i) (λ x y m n a. rw (key-other (plain d) xs s e m n a) (agree_refl (dimension i) y)),
+    λ e i g h. fixes_of (plain d) xs s (dimension i) (λ x y m n a. rw (key-other (plain d) xs s e m n a) (agree_refl (dimension i) y)),
     λ f. key_of (plain d) xs s (λ x y m n a. agree-all d x y (v x m) (v y n) (λ i g.
         let q : suc i - 1 ≡ i = omega arith in
         rw q at (fixes-in (plain d) xs s (dimension (suc i)) (f (suc i) (omega arith) (omega arith)) m n a))),

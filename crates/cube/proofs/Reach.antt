@@ -10,11 +10,11 @@ use lib.ListN.{length}
 use borrow.Author.Tests.{eq-eqb, eqb-true}
 use Rattle.lists.specs.Lists.{◌∈◌, some, keep}
 use Rattle.lists.proofs.Tests.{cases, either, some_in, some_of}
-use Rattle.lists.proofs.Members.{keep-in, keep-of}
+use Rattle.lists.proofs.Members.{keep_in, keep_of}
 use Rattle.lists.proofs.Pigeonhole.{fewest}
 use Rattle.cube.specs.Lattice.{Lattice, Laws}
 use Rattle.cube.specs.Condensed.{listed, reach}
-use Rattle.cube.proofs.Nodes.{proper-in, holds-antisym, one-node}
+use Rattle.cube.proofs.Nodes.{proper_in, holds_antisym, one_node}
 use Rattle.cube.proofs.Smallest.{listed_in, listed-distinct, listed-least}
 
 module _ (L : Lattice) (W : Laws L) where
@@ -25,11 +25,11 @@ module _ (L : Lattice) (W : Laws L) where
   abbrev reached : List ℕ → ℕ → Bool
   reached l s = eqb s L.finest || some (L.holds s) l
 
-  pub reach-in : (x l c : List ℕ) → c ∈ reach L x l → (s : ℕ) × (s ∈ L.nodes) × (c ≡ L.cell s x) × Reached l s
+  pub reach_in : (x l c : List ℕ) → c ∈ reach L x l → (s : ℕ) × (s ∈ L.nodes) × (c ≡ L.cell s x) × Reached l s
   unfolding reach
-  reach-in x l c m =
+  reach_in x l c m =
       let r = Memᴰ.of_map (λ s. L.cell s x) (keep (reached l) L.nodes) m in
-      let t = keep-in (reached l) L.nodes r.1 in (
+      let t = keep_in (reached l) L.nodes r.1 in (
         r.0,
         t.0,
         sym r.2,
@@ -40,14 +40,14 @@ module _ (L : Lattice) (W : Laws L) where
 
   pub reach_of : (x l : List ℕ) {s : ℕ} → s ∈ L.nodes → Reached l s → L.cell s x ∈ reach L x l
   unfolding reach
-  reach_of x l {s} h q = Memᴰ.map (λ s. L.cell s x) (keep-of (reached l) h (cases q
+  reach_of x l {s} h q = Memᴰ.map (λ s. L.cell s x) (keep_of (reached l) h (cases q
       (λ e. rw (eq-eqb s L.finest e))
       (λ t. rw (some_of (L.holds s) t.1 t.2, or-true))))
 
   pub reach-set : (x l : List ℕ) {s : ℕ} → L.valid x → s ∈ L.nodes → L.cell s x ∈ reach L x l → Reached l s
   reach-set x l {s} k h m =
-      let r = reach-in x l (L.cell s x) m in
-      let e : s ≡ r.0 = one-node L W x x k k h r.1 r.2 in
+      let r = reach_in x l (L.cell s x) m in
+      let e : s ≡ r.0 = one_node L W x x k k h r.1 r.2 in
       rw e r.3
 
   -- Any list that stands for the same cells as ours has at least as many nodes.
@@ -55,14 +55,14 @@ module _ (L : Lattice) (W : Laws L) where
       (alike : (c : List ℕ) → (c ∈ reach L x (listed L xs x)) ↔ (c ∈ reach L x l)) where
     theirs : {m : ℕ} → m ∈ listed L xs x → m ∈ l
     theirs {m} i =
-        let p = proper-in L W (listed_in L W xs x i).0 in
-        cases (reach-set x l k p.0 ((alike (L.cell m x)).0 (reach_of x (listed L xs x) p.0 (inr (m, i, W.holds-refl m)))))
+        let p = proper_in L W (listed_in L W xs x i).0 in
+        cases (reach-set x l k p.0 ((alike (L.cell m x)).0 (reach_of x (listed L xs x) p.0 (inr (m, i, W.holds_refl m)))))
         (λ e. absurd (p.1 e))
         (λ t. let u = h t.0 t.1 in
-        cases (reach-set x (listed L xs x) k u ((alike (L.cell t.0 x)).1 (reach_of x l u (inr (t.0, t.1, W.holds-refl t.0)))))
-        (λ e. absurd (p.1 (holds-antisym L W p.0 W.finest-in (rw e at t.2) (W.finest-holds m))))
-        (λ n. let q : m ≡ n.0 = listed-least L W xs x i n.1 (W.holds-trans m t.0 n.0 t.2 n.2) in
-        Memᴰ.cast (holds-antisym L W p.0 u t.2 (rw (← q) at n.2)) t.1))
+        cases (reach-set x (listed L xs x) k u ((alike (L.cell t.0 x)).1 (reach_of x l u (inr (t.0, t.1, W.holds_refl t.0)))))
+        (λ e. absurd (p.1 (holds_antisym L W p.0 W.finest_in (rw e at t.2) (W.finest_holds m))))
+        (λ n. let q : m ≡ n.0 = listed-least L W xs x i n.1 (W.holds_trans m t.0 n.0 t.2 n.2) in
+        Memᴰ.cast (holds_antisym L W p.0 u t.2 (rw (← q) at n.2)) t.1))
 
-    pub shortest-list : length (listed L xs x) ≤ length l
-    shortest-list = fewest (listed L xs x) l (listed-distinct L W xs x) (λ m i. theirs i)
+    pub shortest_list : length (listed L xs x) ≤ length l
+    shortest_list = fewest (listed L xs x) l (listed-distinct L W xs x) (λ m i. theirs i)

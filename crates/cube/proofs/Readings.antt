@@ -15,7 +15,7 @@ use Rattle.cube.specs.Bounds.{count_of}
 use Rattle.cube.specs.Codes.{ALL, falls, plain}
 use Rattle.cube.specs.Cube.{total, cells}
 use Rattle.cube.specs.Table.{Table}
-use Rattle.cube.proofs.Codes.{falls-whole, plain-laws}
+use Rattle.cube.proofs.Codes.{falls-whole, plain_laws}
 use Rattle.cube.proofs.Folding.{coded}
 use Rattle.cube.proofs.Rolling.{cells_up}
 use Rattle.cube.proofs.Sums.{sums-add}
@@ -40,5 +40,5 @@ module _ (d : ℕ) (rows : List (Row Total)) (t : Table d rows) where
       let l = cells (plain d) sums rows s in
       sym (count-total l)
       ∙ ap (λ (m : List (Row Total)). (total_of sums m).count) (sym (keep_all (λ r. true) l (λ r m. refl)))
-      ∙ ap (λ (u : Total). u.count) (cells_up (plain d) (plain-laws d) sums sums-add rows (coded d rows t) i (λ c. true) (replicate d ALL) (λ x m. sym (falls-whole d x (coded d rows t x m))))
+      ∙ ap (λ (u : Total). u.count) (cells_up (plain d) (plain_laws d) sums sums-add rows (coded d rows t) i (λ c. true) (replicate d ALL) (λ x m. sym (falls-whole d x (coded d rows t x m))))
       ∙ count-whole

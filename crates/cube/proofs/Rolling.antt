@@ -14,14 +14,14 @@ use Rattle.lists.proofs.Order.{by_codes, same-eq, same_refl}
 use Rattle.lists.proofs.Sorted.{rising-distinct}
 use Rattle.lattice.specs.Sets.{sets, holds}
 use Rattle.lattice.proofs.Sets.{holds-suc}
-use Rattle.cube.specs.Measure.{Measure, Adds, Row, total_of, totalAt, codes_of}
+use Rattle.cube.specs.Measure.{Measure, Adds, Row, total_of, total_at, codes_of}
 use Rattle.cube.specs.Lattice.{Lattice, Laws}
 use Rattle.cube.specs.Codes.{Coded, shown, cell, alike, agree, falls, plain}
 use Rattle.cube.specs.Cube.{cuboid, existing, total, filled, grouped, cells, road}
 use Rattle.cube.specs.Table.{Table}
-use Rattle.cube.proofs.Codes.{falls-cell, plain-laws}
-use Rattle.cube.proofs.Cells.{cuboid-in, cuboid-of, cuboid-rising, falls-node}
-use Rattle.cube.proofs.Existing.{blank-row, existing-in, existing-none, cells-rows}
+use Rattle.cube.proofs.Codes.{falls_cell, plain_laws}
+use Rattle.cube.proofs.Cells.{cuboid_in, cuboid-of, cuboid-rising, falls_node}
+use Rattle.cube.proofs.Existing.{blank-row, existing_in, existing-none, cells-rows}
 use Rattle.cube.proofs.Regroup.{fill, regroup}
 use Rattle.cube.proofs.Folding.{coded}
 use Rattle.cube.proofs.Complete.{cells_in}
@@ -44,44 +44,44 @@ module _ (L : Lattice) (W : Laws L) {A : Type 0} (M : Measure A) (E : Adds M) wh
   -- a row falls in a cell of a node just if it is the row's
   same-falls : {t : ℕ} (x y : List ℕ) → t ∈ L.nodes → L.valid x → L.valid y → same (L.cell t x) (L.cell t y) ≡ L.falls (L.cell t x) y
   same-falls {t} x y h k l = cases (truth (L.falls (L.cell t x) y))
-      (λ e. let q : L.cell t x ≡ L.cell t y = falls-node L W l (W.node-cell t x k h) e in rw (q, same_refl (L.cell t y)) (sym e ∙ rw q))
+      (λ e. let q : L.cell t x ≡ L.cell t y = falls_node L W l (W.node_cell t x k h) e in rw (q, same_refl (L.cell t y)) (sym e ∙ rw q))
       (λ e. rw e (refuted (λ f. let q = same-eq (L.cell t x) (L.cell t y) f in
-      false≢true (sym e ∙ ap (λ (c : List ℕ). L.falls c y) q ∙ W.falls-cell t y y l h ∙ W.Agree-refl t y))))
+      false≢true (sym e ∙ ap (λ (c : List ℕ). L.falls c y) q ∙ W.falls_cell t y y l h ∙ W.Agree-refl t y))))
 
   module _ (rows : List (Row A)) (v : (x : List ℕ) → x ∈ codes_of rows → L.valid x) {t : ℕ} (h : t ∈ L.nodes) where
     -- the total of a cell is that of the rows moved to it
-    filled-moved : (c : List ℕ) → c ∈ cuboid L (codes_of rows) t → filled L M rows c ≡ fill (totalAt M (map (moved t) rows)) c
+    filled-moved : (c : List ℕ) → c ∈ cuboid L (codes_of rows) t → filled L M rows c ≡ fill (total_at M (map (moved t) rows)) c
     unfolding total
     filled-moved c m =
-        let x = cuboid-in L (codes_of rows) t m in
+        let x = cuboid_in L (codes_of rows) t m in
         let q : total_of M (keep (λ r. L.falls c r.codes) rows) ≡ total_of M (keep (λ r. same c (L.cell t r.codes)) rows) =
         ap (total_of M) (keep_same (λ r. L.falls c r.codes) (λ r. same c (L.cell t r.codes)) rows (λ r i.
         rw x.2 (sym (same-falls x.0 r.codes h (v x.0 x.1) (v r.codes (Memᴰ.map (λ q. q.codes) i)))))) in
         ap (λ (a : A). record { codes = c; total = a }) (q ∙ sym (moved-total t (same c) rows))
 
     -- the groups whose cells pass a test total what the rows do that fall in c, where the test tells whether they do
-    grouped-up : (p : List ℕ → Bool) (c : List ℕ) → ((x : List ℕ) → x ∈ codes_of rows → p (L.cell t x) ≡ L.falls c x)
+    grouped_up : (p : List ℕ → Bool) (c : List ℕ) → ((x : List ℕ) → x ∈ codes_of rows → p (L.cell t x) ≡ L.falls c x)
         → total_of M (keep (λ r. p r.codes) (grouped L M rows t)) ≡ total L M rows c
     unfolding grouped total
-    grouped-up p c f =
+    grouped_up p c f =
         let ks = cuboid L (codes_of rows) t in
-        ap (λ (l : List (Row A)). total_of M (keep (λ r. p r.codes) l)) (map_same (filled L M rows) (fill (totalAt M (map (moved t) rows))) ks filled-moved)
+        ap (λ (l : List (Row A)). total_of M (keep (λ r. p r.codes) l)) (map_same (filled L M rows) (fill (total_at M (map (moved t) rows))) ks filled-moved)
         ∙ regroup M E p (map (moved t) rows) ks (rising-distinct earlier by_codes ks (cuboid-rising L (codes_of rows) t))
         (λ r m. let q = Memᴰ.of_map (moved t) rows m in rw (← q.2) (cuboid-of L t (Memᴰ.map (λ q. q.codes) q.1)))
         ∙ moved-total t p rows
         ∙ ap (total_of M) (keep_same (λ r. p (L.cell t r.codes)) (λ r. L.falls c r.codes) rows (λ r i. f r.codes (Memᴰ.map (λ q. q.codes) i)))
 
   -- no rows add up to nothing, listed or not
-  cells-up-none : (p : List ℕ → Bool) (t : ℕ) (c : List ℕ) → total_of M (keep (λ r. p r.codes) (cells L M [] t)) ≡ total L M [] c
+  cells_up_none : (p : List ℕ → Bool) (t : ℕ) (c : List ℕ) → total_of M (keep (λ r. p r.codes) (cells L M [] t)) ≡ total L M [] c
   unfolding cells total
-  cells-up-none p t c = rw (existing-none L t) (cases (truth (eqb (L.node_of L.whole) t))
+  cells_up_none p t c = rw (existing-none L t) (cases (truth (eqb (L.node_of L.whole) t))
       (λ e. rw e (cases (truth (p L.whole)) (λ f. rw f (E.None-more M.none)) (λ f. rw f)))
       (λ e. rw e))
 
   pub cells_up : (rows : List (Row A)) → ((x : List ℕ) → x ∈ codes_of rows → L.valid x) → {t : ℕ} → t ∈ L.nodes → (p : List ℕ → Bool) (c : List ℕ)
       → ((x : List ℕ) → x ∈ codes_of rows → p (L.cell t x) ≡ L.falls c x) → total_of M (keep (λ r. p r.codes) (cells L M rows t)) ≡ total L M rows c
-  cells_up [] v {t} h p c f = cells-up-none p t c
-  cells_up (r ∷ rows) v {t} h p c f = rw (cells-rows L M (r ∷ rows) t (omega arith)) (grouped-up (r ∷ rows) v h p c f)
+  cells_up [] v {t} h p c f = cells_up_none p t c
+  cells_up (r ∷ rows) v {t} h p c f = rw (cells-rows L M (r ∷ rows) t (omega arith)) (grouped_up (r ∷ rows) v h p c f)
 
 -- ---- sets of dimensions: a cell of a set lies in one of a smaller set where it has its codes
 
@@ -102,19 +102,19 @@ agree-cells (suc d) s t (a ∷ x) (b ∷ y) k h =
 
 module _ {A : Type 0} (M : Measure A) (E : Adds M) (d : ℕ) (rows : List (Row A)) (u : Table d rows) where
   -- a row falls in a cell of set s just if its cell of a larger set does
-  falls-up : {s : ℕ} {c : List ℕ} (t : ℕ) → s ∈ sets d → holds d t s ≡ true → c ∈ existing (plain d) (codes_of rows) s → (y : List ℕ) → y ∈ codes_of rows → falls c (cell t y) ≡ falls c y
-  falls-up {s} {c} t i h m y n =
+  falls_up : {s : ℕ} {c : List ℕ} (t : ℕ) → s ∈ sets d → holds d t s ≡ true → c ∈ existing (plain d) (codes_of rows) s → (y : List ℕ) → y ∈ codes_of rows → falls c (cell t y) ≡ falls c y
+  falls_up {s} {c} t i h m y n =
       let k = coded d rows u y n in
-      cases (existing-in (plain d) (plain-laws d) (codes_of rows) (coded d rows u) i m).0
+      cases (existing_in (plain d) (plain_laws d) (codes_of rows) (coded d rows u) i m).0
       (λ r. let j = coded d rows u r.0 r.1 in
-      let q : c ≡ cell s r.0 = falls-node (plain d) (plain-laws d) j (existing-in (plain d) (plain-laws d) (codes_of rows) (coded d rows u) i m).1 r.2 in
-      rw (q, falls-cell d s r.0 (cell t y) j, falls-cell d s r.0 y j) (agree-cells d s t r.0 y k h))
+      let q : c ≡ cell s r.0 = falls_node (plain d) (plain_laws d) j (existing_in (plain d) (plain_laws d) (codes_of rows) (coded d rows u) i m).1 r.2 in
+      rw (q, falls_cell d s r.0 (cell t y) j, falls_cell d s r.0 y j) (agree-cells d s t r.0 y k h))
       (λ b. absurd (blank-row (plain d) (codes_of rows) b n))
 
   -- For two sets, one inside the other, the listed cells of the larger that agree with a listed cell of the smaller add up to it.
-  pub rolled-up : {s t : ℕ} → s ∈ sets d → t ∈ sets d → holds d t s ≡ true → (r : Row A) → r ∈ cells (plain d) M rows s
+  pub rolled_up : {s t : ℕ} → s ∈ sets d → t ∈ sets d → holds d t s ≡ true → (r : Row A) → r ∈ cells (plain d) M rows s
       → road (plain d) M rows t r.codes ≡ r.total
   unfolding total
-  rolled-up {s} {t} i j h r m =
+  rolled_up {s} {t} i j h r m =
       let g = cells_in (plain d) M rows s m in
-      cells_up (plain d) (plain-laws d) M E rows (coded d rows u) j (falls r.codes) r.codes (falls-up t i h g.0) ∙ sym g.1
+      cells_up (plain d) (plain_laws d) M E rows (coded d rows u) j (falls r.codes) r.codes (falls_up t i h g.0) ∙ sym g.1

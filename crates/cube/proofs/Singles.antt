@@ -7,7 +7,7 @@ use Prim.Native.Nat.{ℕ}
 use borrow.Author.Tests.{not-false}
 use Rattle.lists.specs.Lists.{◌∈◌}
 use Rattle.lists.specs.Order.{same}
-use Rattle.lists.proofs.Tests.{cases, truth, neither, every_in, every_of, every-not}
+use Rattle.lists.proofs.Tests.{cases, truth, neither, every_in, every_of, every_not}
 use Rattle.lists.proofs.Order.{same-eq, same_refl}
 use Rattle.cube.specs.Lattice.{Lattice, Laws}
 use Rattle.cube.specs.Condensed.{single}
@@ -28,13 +28,13 @@ module _ (L : Lattice) (xs : List (List ℕ)) (s : ℕ) (x : List ℕ) where
       (λ a. rw a))
 
   -- a row that is not single agrees with another
-  pub single-not : single L xs s x ≡ false → (y : List ℕ) × (y ∈ xs) × (L.agree s x y ≡ true) × (x ≢ y)
+  pub single_not : single L xs s x ≡ false → (y : List ℕ) × (y ∈ xs) × (L.agree s x y ≡ true) × (x ≢ y)
   unfolding single
-  single-not e =
-      let r = every-not test xs e in
+  single_not e =
+      let r = every_not test xs e in
       let t = neither (not (L.agree s x r.0)) (same x r.0) r.2 in
       (r.0, r.1, not-false (L.agree s x r.0) t.0, λ h. false≢true (sym t.1 ∙ (rw (← h) (same_refl x))))
 
 -- A row single on a node is single on every node that holds it.
-pub single-up : (L : Lattice) (W : Laws L) (xs : List (List ℕ)) (s t : ℕ) (x : List ℕ) → L.valid x → L.holds s t ≡ true → single L xs t x ≡ true → single L xs s x ≡ true
-single-up L W xs s t x k h e = single_of L xs s x (λ y m a. single-other L xs t x e m (W.agree-down s t x y k h a))
+pub single_up : (L : Lattice) (W : Laws L) (xs : List (List ℕ)) (s t : ℕ) (x : List ℕ) → L.valid x → L.holds s t ≡ true → single L xs t x ≡ true → single L xs s x ≡ true
+single_up L W xs s t x k h e = single_of L xs s x (λ y m a. single-other L xs t x e m (W.agree_down s t x y k h a))

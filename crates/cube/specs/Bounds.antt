@@ -1,7 +1,7 @@
 -- Totals that 64 bits hold: what keeps a running total from overflowing.
 --
 --   most            the greatest total count of an archive's base entries (document 01)
---   canMake n s     n readings of 32 bits can make the sum s
+--   can_make n s     n readings of 32 bits can make the sum s
 --   suits t l g     a least and a greatest reading that a row's sum and count can have (C-17)
 --   Suited t e      extremes that a row can have beside sum and count t: unknown ones, and readings of 32 bits that suit
 --   Makes f         figures that readings of 32 bits can make: one at least, with such a sum and such extremes
@@ -20,8 +20,8 @@ use Rattle.cube.specs.declared.Extremes.TheVariants.{Any, Unknown, Known}
 abbrev pub most : ℕ
 most = 1048576
 
-unfoldable pub canMake : ℕ → ℤ → Bool
-canMake n s = le_z (negsuc 2147483647 *ℤ pos n) s && le_z s (pos 2147483647 *ℤ pos n)
+unfoldable pub can_make : ℕ → ℤ → Bool
+can_make n s = le_z (negsuc 2147483647 *ℤ pos n) s && le_z s (pos 2147483647 *ℤ pos n)
 
 -- least at most greatest, and the sum from greatest + (count - 1) * least to least + (count - 1) * greatest
 unfoldable pub suits : Total → ℤ → ℤ → Bool
@@ -34,7 +34,7 @@ Suited t (Known l g) = (mag l < 2 ^ 31) × (mag g < 2 ^ 31) × (suits t l g ≡ 
 
 pub record Makes (f : Figures) : Type 0 where
   pub counted : 1 ≤ f.sums.count
-  pub made : canMake f.sums.count f.sums.sum ≡ true
+  pub made : can_make f.sums.count f.sums.sum ≡ true
   pub suited : Suited f.sums f.extremes
 
 pub record Bounded (t : Total) : Type 0 where

@@ -4,7 +4,7 @@
 --   lesser, greater     of two readings
 --   wider               running extremes with one row more: no rows change nothing, and an unknown row makes all unknown
 --   spans               the measure of extremes
---   isKnown e           whether extremes are known
+--   is_known e           whether extremes are known
 --   given e             whether they are those of a reading: not those of no rows
 --   Given rows          each row's are
 --   Readings e          extremes that are known are readings of 32 bits
@@ -38,10 +38,10 @@ wider (Known a b) (Known c d) = Known (lesser a c) (greater b d)
 abbrev pub spans : Measure Extremes
 spans = record { none = Any; more = wider }
 
-abbrev pub isKnown : Extremes → Bool
-isKnown Any = false
-isKnown Unknown = false
-isKnown (Known a b) = true
+abbrev pub is_known : Extremes → Bool
+is_known Any = false
+is_known Unknown = false
+is_known (Known a b) = true
 
 abbrev pub given : Extremes → Bool
 given Any = false

@@ -2,7 +2,7 @@
 --
 --   Table d rows    rows of a table of d dimensions
 --   folded M d rows   its base rows: the rows grouped by the full set, so that rows with equal codes are one, with the sum of their readings and the count of them
---   listed-before p q   cell p is listed before cell q: by the lattice order of their sets, then by codes
+--   listed_before p q   cell p is listed before cell q: by the lattice order of their sets, then by codes
 use Rattle.std.specs.Prelude.{Bool, List, ℕ}
 use Rattle.lists.specs.Lists.{◌∈◌}
 use Rattle.lists.specs.Order.{earlier}
@@ -18,5 +18,5 @@ module _ {A : Type 0} where
   unfoldable pub folded : Measure A → ℕ → List (Row A) → List (Row A)
   folded M d rows = grouped (plain d) M rows (full d)
 
-  abbrev pub listed-before : Row A → Row A → Bool
-  listed-before p q = earlier (keys p.codes) (keys q.codes)
+  abbrev pub listed_before : Row A → Row A → Bool
+  listed_before p q = earlier (keys p.codes) (keys q.codes)

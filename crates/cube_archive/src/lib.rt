@@ -1,21 +1,21 @@
 // The calls for other languages: each answers one number, 2^63 plus a stop's number where it stops.
 ghost use Rattle.std.specs.Prelude.{◌≡◌, length};
 ghost use Rattle.call_answers.specs.Answers.{within, answer_of, left_of};
-ghost use Rattle.call_answers.specs.Calls.{builds, checks, listsCuboid, expands, looksUp};
-ghost use Rattle.call_answers.specs.Keys.{listsKeys, tellsFixed};
+ghost use Rattle.call_answers.specs.Calls.{builds, checks, lists_cuboid, expands, looks_up};
+ghost use Rattle.call_answers.specs.Keys.{lists_keys, tells_fixed};
 ghost use Rattle.call_answers.specs.Joins.{joins};
-ghost use Rattle.call_answers.specs.Numbers.{writtenNumber, checkedNumber, foundNumber, sumLeft, countLeft, entryLeft, fixedNumber};
-ghost use Rattle.call_fee.specs.Fees.{sharesFee};
+ghost use Rattle.call_answers.specs.Numbers.{written_number, checked_number, found_number, sum_left, count_left, entry_left, fixed_number};
+ghost use Rattle.call_fee.specs.Fees.{shares_fee};
 ghost use Rattle.call_add.specs.Adds.{adds};
-ghost use Rattle.call_window.specs.Windows.{asksWindow};
-ghost use Rattle.call_window.specs.Numbers.{seenNumber, seenSumLeft, seenCountLeft};
+ghost use Rattle.call_window.specs.Windows.{asks_window};
+ghost use Rattle.call_window.specs.Numbers.{seen_number, seen_sum_left, seen_count_left};
 
 use call_answers::{Checked, Fixed, Found, Written};
 use call_window::Seen;
 
 // The number of a call that writes an output.
 fn number(answer: Written) -> u64
-    ensures { result ≡ writtenNumber answer }
+    ensures { result ≡ written_number answer }
 {
     match answer {
         Written::Length(n) => n as u64,
@@ -26,7 +26,7 @@ fn number(answer: Written) -> u64
 // Builds the archive of a table: the length written.
 #[unsafe(no_mangle)]
 pub extern "C" fn cube_build(table: &[u8], out: &mut [u8]) -> u64
-    ensures value { result ≡ writtenNumber (answer_of (within (length out.old) (builds table.now))) }
+    ensures value { result ≡ written_number (answer_of (within (length out.old) (builds table.now))) }
     ensures out_after { out.new ≡ left_of (within (length out.old) (builds table.now)) out.old }
 {
     number(call_build::build(table, out))
@@ -35,7 +35,7 @@ pub extern "C" fn cube_build(table: &[u8], out: &mut [u8]) -> u64
 // Checks an archive: the base count plus 2^32 times the normal count.
 #[unsafe(no_mangle)]
 pub extern "C" fn cube_check(archive: &[u8]) -> u64
-    ensures { result ≡ checkedNumber (checks archive.now) }
+    ensures { result ≡ checked_number (checks archive.now) }
 {
     match call_ask::check(archive) {
         Checked::Entries { bases, cells } => bases as u64 + 4294967296 * (cells as u64),
@@ -52,9 +52,9 @@ pub extern "C" fn cube_look_up(
     count: &mut [u32; 1],
     entry: &mut [u32; 1],
 ) -> u64
-    ensures value { result ≡ foundNumber (looksUp archive.now question.now) }
-    ensures sum_after { sum.new ≡ sumLeft (looksUp archive.now question.now) sum.old }
-    ensures count_after { (count.new ≡ countLeft (looksUp archive.now question.now) count.old) × (entry.new ≡ entryLeft (looksUp archive.now question.now) entry.old) }
+    ensures value { result ≡ found_number (looks_up archive.now question.now) }
+    ensures sum_after { sum.new ≡ sum_left (looks_up archive.now question.now) sum.old }
+    ensures count_after { (count.new ≡ count_left (looks_up archive.now question.now) count.old) × (entry.new ≡ entry_left (looks_up archive.now question.now) entry.old) }
 {
     match call_look::look_up(archive, question) {
         Found::Cell {
@@ -75,8 +75,8 @@ pub extern "C" fn cube_look_up(
 // Lists the cuboid of a set: the length written.
 #[unsafe(no_mangle)]
 pub extern "C" fn cube_list_cuboid(archive: &[u8], set: u32, out: &mut [u8]) -> u64
-    ensures value { result ≡ writtenNumber (answer_of (within (length out.old) (listsCuboid archive.now set))) }
-    ensures out_after { out.new ≡ left_of (within (length out.old) (listsCuboid archive.now set)) out.old }
+    ensures value { result ≡ written_number (answer_of (within (length out.old) (lists_cuboid archive.now set))) }
+    ensures out_after { out.new ≡ left_of (within (length out.old) (lists_cuboid archive.now set)) out.old }
 {
     number(call_ask::list_cuboid(archive, set, out))
 }
@@ -84,7 +84,7 @@ pub extern "C" fn cube_list_cuboid(archive: &[u8], set: u32, out: &mut [u8]) -> 
 // Expands an archive to the complete cube: the length written.
 #[unsafe(no_mangle)]
 pub extern "C" fn cube_expand(archive: &[u8], out: &mut [u8]) -> u64
-    ensures value { result ≡ writtenNumber (answer_of (within (length out.old) (expands archive.now))) }
+    ensures value { result ≡ written_number (answer_of (within (length out.old) (expands archive.now))) }
     ensures out_after { out.new ≡ left_of (within (length out.old) (expands archive.now)) out.old }
 {
     number(call_ask::expand(archive, out))
@@ -93,8 +93,8 @@ pub extern "C" fn cube_expand(archive: &[u8], out: &mut [u8]) -> u64
 // Lists the smallest keys of an archive: the length written.
 #[unsafe(no_mangle)]
 pub extern "C" fn cube_smallest_keys(archive: &[u8], out: &mut [u8]) -> u64
-    ensures value { result ≡ writtenNumber (answer_of (within (length out.old) (listsKeys archive.now))) }
-    ensures out_after { out.new ≡ left_of (within (length out.old) (listsKeys archive.now)) out.old }
+    ensures value { result ≡ written_number (answer_of (within (length out.old) (lists_keys archive.now))) }
+    ensures out_after { out.new ≡ left_of (within (length out.old) (lists_keys archive.now)) out.old }
 {
     number(call_keys::smallest_keys(archive, out))
 }
@@ -102,7 +102,7 @@ pub extern "C" fn cube_smallest_keys(archive: &[u8], out: &mut [u8]) -> u64
 // Whether a set fixes a dimension: 1 for yes, 0 for no.
 #[unsafe(no_mangle)]
 pub extern "C" fn cube_fixes(archive: &[u8], set: u32, dimension: u32) -> u64
-    ensures { result ≡ fixedNumber (tellsFixed archive.now set dimension) }
+    ensures { result ≡ fixed_number (tells_fixed archive.now set dimension) }
 {
     match call_fixes::fixes(archive, set, dimension) {
         Fixed::Yes => 1,
@@ -114,8 +114,8 @@ pub extern "C" fn cube_fixes(archive: &[u8], set: u32, dimension: u32) -> u64
 // Shares a fee in cents over the cells of a set: the length written.
 #[unsafe(no_mangle)]
 pub extern "C" fn cube_share_fee(archive: &[u8], fee: u32, set: u32, out: &mut [u8]) -> u64
-    ensures value { result ≡ writtenNumber (answer_of (within (length out.old) (sharesFee archive.now fee set))) }
-    ensures out_after { out.new ≡ left_of (within (length out.old) (sharesFee archive.now fee set)) out.old }
+    ensures value { result ≡ written_number (answer_of (within (length out.old) (shares_fee archive.now fee set))) }
+    ensures out_after { out.new ≡ left_of (within (length out.old) (shares_fee archive.now fee set)) out.old }
 {
     number(call_fee::share_fee(archive, fee, set, out))
 }
@@ -123,7 +123,7 @@ pub extern "C" fn cube_share_fee(archive: &[u8], fee: u32, set: u32, out: &mut [
 // Joins two archives: the length written.
 #[unsafe(no_mangle)]
 pub extern "C" fn cube_join(first: &[u8], second: &[u8], out: &mut [u8]) -> u64
-    ensures value { result ≡ writtenNumber (answer_of (within (length out.old) (joins first.now second.now))) }
+    ensures value { result ≡ written_number (answer_of (within (length out.old) (joins first.now second.now))) }
     ensures out_after { out.new ≡ left_of (within (length out.old) (joins first.now second.now)) out.old }
 {
     number(call_join::join(first, second, out))
@@ -132,7 +132,7 @@ pub extern "C" fn cube_join(first: &[u8], second: &[u8], out: &mut [u8]) -> u64
 // Adds a record to an archive: the length written.
 #[unsafe(no_mangle)]
 pub extern "C" fn cube_add(archive: &[u8], codes: &[u32], reading: i32, out: &mut [u8]) -> u64
-    ensures value { result ≡ writtenNumber (answer_of (within (length out.old) (adds archive.now codes.now reading))) }
+    ensures value { result ≡ written_number (answer_of (within (length out.old) (adds archive.now codes.now reading))) }
     ensures out_after { out.new ≡ left_of (within (length out.old) (adds archive.now codes.now reading)) out.old }
 {
     number(call_add::add(archive, codes, reading, out))
@@ -148,8 +148,8 @@ pub extern "C" fn cube_window(
     sum: &mut [i64; 1],
     count: &mut [u32; 1],
 ) -> u64
-    ensures value { result ≡ seenNumber (asksWindow archive.now dimension code question.now) }
-    ensures sum_after { (sum.new ≡ seenSumLeft (asksWindow archive.now dimension code question.now) sum.old) × (count.new ≡ seenCountLeft (asksWindow archive.now dimension code question.now) count.old) }
+    ensures value { result ≡ seen_number (asks_window archive.now dimension code question.now) }
+    ensures sum_after { (sum.new ≡ seen_sum_left (asks_window archive.now dimension code question.now) sum.old) × (count.new ≡ seen_count_left (asks_window archive.now dimension code question.now) count.old) }
 {
     match call_window::window(archive, dimension, code, question) {
         Seen::Cell { sum: s, count: n } => {

@@ -24,16 +24,16 @@ count-le p q [] h = omega arith
 count-le p q (x ∷ l) h = omega (arith, count-cons p x l, count-cons q x l, cent-le (p x) (q x) (h x), count-le p q l h)
 
 -- at least v is above v, or v
-cent-split : (v x : ℕ) → cent (leb v x) ≡ cent (ltb v x) + cent (eqb v x)
-cent-split v x = cases (truth (ltb v x))
+cent_split : (v x : ℕ) → cent (leb v x) ≡ cent (ltb v x) + cent (eqb v x)
+cent_split v x = cases (truth (ltb v x))
     (λ e. let h = ltb-true v x e in rw (e, le-leb v x (omega (arith, h)), ne_eqb v x (λ q. omega (arith, h, q))))
     (λ e. let h = ltb-false v x e in cases (truth (eqb v x))
     (λ f. let q = eqb-true v x f in rw (e, f, le-leb v x (omega (arith, q))))
     (λ f. let q : v ≢ x = eqb-false v x f in rw (e, f, lt-leb v x (omega (arith, h, q)))))
 
-pub count-split : (v : ℕ) (l : List ℕ) → count (leb v) l ≡ count (ltb v) l + count (eqb v) l
-count-split v [] = refl
-count-split v (x ∷ l) = omega (arith, count-cons (leb v) x l, count-cons (ltb v) x l, count-cons (eqb v) x l, cent-split v x, count-split v l)
+pub count_split : (v : ℕ) (l : List ℕ) → count (leb v) l ≡ count (ltb v) l + count (eqb v) l
+count_split v [] = refl
+count_split v (x ∷ l) = omega (arith, count-cons (leb v) x l, count-cons (ltb v) x l, count-cons (eqb v) x l, cent_split v x, count_split v l)
 
 pub count-all : (l : List ℕ) → count (leb 0) l ≡ length l
 count-all [] = refl

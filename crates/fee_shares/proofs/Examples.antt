@@ -9,19 +9,19 @@ unfolding shares left
 equal-weights = refl
 
 -- and to a larger one before it, though that cell has the smallest weight
-pub largest-remainder : shares 10 (3 ∷ 3 ∷ 1 ∷ []) ≡ 4 ∷ 4 ∷ 2 ∷ []
+pub largest_remainder : shares 10 (3 ∷ 3 ∷ 1 ∷ []) ≡ 4 ∷ 4 ∷ 2 ∷ []
 unfolding shares left
-largest-remainder = refl
+largest_remainder = refl
 
 -- two cents left
-pub two-left : shares 1000 (2 ∷ 2 ∷ 2 ∷ 1 ∷ []) ≡ 286 ∷ 286 ∷ 285 ∷ 143 ∷ []
+pub two_left : shares 1000 (2 ∷ 2 ∷ 2 ∷ 1 ∷ []) ≡ 286 ∷ 286 ∷ 285 ∷ 143 ∷ []
 unfolding shares left
-two-left = refl
+two_left = refl
 
 -- nothing to share, and one cell that has all
-pub no-fee : shares 0 (5 ∷ 7 ∷ []) ≡ 0 ∷ 0 ∷ []
+pub no_fee : shares 0 (5 ∷ 7 ∷ []) ≡ 0 ∷ 0 ∷ []
 unfolding shares left
-no-fee = refl
+no_fee = refl
 
 pub one_cell : shares 1000000000 (1048576 ∷ []) ≡ 1000000000 ∷ []
 unfolding shares left

@@ -12,7 +12,7 @@ use Rattle.lists.specs.Lists.{sum}
 use Rattle.lists.proofs.Tests.{cases, truth}
 use Rattle.fee_shares.specs.Shares.{count, ahead, cent, cents}
 use Rattle.fee_shares.specs.Given.{Threshold, gets, given}
-use Rattle.fee_shares.proofs.Counts.{count-cons, count-le, count-split, count-all}
+use Rattle.fee_shares.proofs.Counts.{count-cons, count-le, count_split, count-all}
 
 -- above v, v, or below
 three : (v r : ℕ) → (v < r) ⊎ ((v ≡ r) ⊎ (r < v))
@@ -23,11 +23,11 @@ three v r = cases (truth (ltb v r))
     (λ f. let q : v ≢ r = eqb-false v r f in inr (inr (omega (arith, ltb-false v r e)))))
 
 -- the tests of a remainder above v, at v, below v
-pub above-is : {v r : ℕ} → v < r → (ltb v r ≡ true) × (eqb v r ≡ false)
-above-is {v} {r} h = (lt-ltb v r h, ne_eqb v r (λ q. omega (arith, h, q)))
+pub above_is : {v r : ℕ} → v < r → (ltb v r ≡ true) × (eqb v r ≡ false)
+above_is {v} {r} h = (lt-ltb v r h, ne_eqb v r (λ q. omega (arith, h, q)))
 
-pub below-is : {v r : ℕ} → r < v → (ltb v r ≡ false) × (eqb v r ≡ false)
-below-is {v} {r} h = (le-ltb v r (omega arith), ne_eqb v r (λ q. omega (arith, h, q)))
+pub below_is : {v r : ℕ} → r < v → (ltb v r ≡ false) × (eqb v r ≡ false)
+below_is {v} {r} h = (le-ltb v r (omega arith), ne_eqb v r (λ q. omega (arith, h, q)))
 
 pub equal_is : (v : ℕ) → (ltb v v ≡ false) × (eqb v v ≡ true)
 equal_is v = (le-ltb v v (omega arith), eq-eqb v v refl)
@@ -40,10 +40,10 @@ cent-some (suc k) = rw (lt-ltb 0 (suc k) (omega arith)) (omega arith)
 
 cent-given : (v k r : ℕ) → cent (gets v k r) + (k - cent (eqb v r)) ≡ cent (ltb v r) + k
 cent-given v k r = cases (three v r)
-    (λ h. let t = above-is h in rw (t.0, t.1) (omega arith))
+    (λ h. let t = above_is h in rw (t.0, t.1) (omega arith))
     (λ s. cases s
     (λ q. let t = equal_is v in rw (← q, t.0, t.1) (omega (arith, cent-some k)))
-    (λ h. let t = below-is h in rw (t.0, t.1) (omega arith)))
+    (λ h. let t = below_is h in rw (t.0, t.1) (omega arith)))
 
 pub given-sum : (v k : ℕ) (l : List ℕ) → k ≤ count (eqb v) l → sum (given v k l) ≡ count (ltb v) l + k
 given-sum v k [] h = omega arith
@@ -64,8 +64,8 @@ Cut all seen l = (p : ℕ → Bool) → count p all ≡ count p seen + count p l
 cut-next : (all seen l : List ℕ) (r : ℕ) → Cut all seen (r ∷ l) → Cut all (r ∷ seen) l
 cut-next all seen l r c p = omega (arith, c p, count-cons p r l, count-cons p r seen)
 
-ltb-sub : (a b m : ℕ) → ltb (a + b) m ≡ ltb 0 (m - a - b)
-ltb-sub a b m = cases (truth (ltb (a + b) m))
+ltb_sub : (a b m : ℕ) → ltb (a + b) m ≡ ltb 0 (m - a - b)
+ltb_sub a b m = cases (truth (ltb (a + b) m))
     (λ e. e ∙ sym (lt-ltb 0 (m - a - b) (omega (arith, ltb-true (a + b) m e))))
     (λ e. e ∙ sym (le-ltb 0 (m - a - b) (omega (arith, ltb-false (a + b) m e))))
 
@@ -73,14 +73,14 @@ ltb-sub a b m = cases (truth (ltb (a + b) m))
 ahead-gets : (v m : ℕ) (all seen l : List ℕ) (r : ℕ) → Threshold v m all → Cut all seen (r ∷ l)
     → ltb (ahead all seen r) m ≡ gets v (m - count (ltb v) all - count (eqb v) seen) r
 ahead-gets v m all seen l r t c = cases (three v r)
-    (λ h. let s = above-is h in
+    (λ h. let s = above_is h in
     let more : count (leb r) all ≤ count (ltb v) all = count-le (leb r) (ltb v) all (λ x e. lt-ltb v x (omega (arith, h, leb-true r x e))) in
     let mine : count (eqb r) (r ∷ l) ≡ 1 + count (eqb r) l = count-cons (eqb r) r l ∙ rw (equal_is r).1 in
-    let first : ahead all seen r < m = omega (arith, more, mine, count-split r all, c (eqb r), t.above) in
+    let first : ahead all seen r < m = omega (arith, more, mine, count_split r all, c (eqb r), t.above) in
     rw s.0 (lt-ltb (ahead all seen r) m first))
     (λ z. cases z
-    (λ q. let s = equal_is v in rw (← q, s.0, s.1) (ltb-sub (count (ltb v) all) (count (eqb v) seen) m))
-    (λ h. let s = below-is h in
+    (λ q. let s = equal_is v in rw (← q, s.0, s.1) (ltb_sub (count (ltb v) all) (count (eqb v) seen) m))
+    (λ h. let s = below_is h in
     let more : count (leb v) all ≤ count (ltb r) all = count-le (leb v) (ltb r) all (λ x e. lt-ltb r x (omega (arith, h, leb-true v x e))) in
     let late : m ≤ ahead all seen r = omega (arith, more, t.enough) in
     rw (s.0, s.1) (le-ltb (ahead all seen r) m late)))
@@ -109,8 +109,8 @@ threshold (suc b) m rs h few = cases (truth (leb m (count (leb (suc b)) rs)))
     (λ e. let r = threshold b m rs h (omega (arith, leb-false m (count (leb (suc b)) rs) e)) in (r.0, omega (arith, r.1), r.2))
 
 -- bounds with nothing between them
-pub threshold-between : (low high m : ℕ) (rs : List ℕ) → low < high → high ≤ low + 1 → m ≤ count (leb low) rs → count (leb high) rs ≤ m → Threshold low m rs
-threshold-between low high m rs h k enough few =
+pub threshold_between : (low high m : ℕ) (rs : List ℕ) → low < high → high ≤ low + 1 → m ≤ count (leb low) rs → count (leb high) rs ≤ m → Threshold low m rs
+threshold_between low high m rs h k enough few =
     let e : high ≡ suc low = omega (arith, h, k) in
     record { above = rw e at few; enough = enough }
 
@@ -127,12 +127,12 @@ Fair v (r ∷ rs) (c ∷ cs) = Fairly v r c × Fair v rs cs
 
 gets-fair : (v k r : ℕ) → (0 < k → 0 < v) → Fairly v r (cent (gets v k r))
 gets-fair v k r z = cases (three v r)
-    (λ h. let t = above-is h in inl (rw t.0 refl, omega (arith, h), omega (arith, h)))
+    (λ h. let t = above_is h in inl (rw t.0 refl, omega (arith, h), omega (arith, h)))
     (λ s. cases s
     (λ q. let t = equal_is v in cases (truth (ltb 0 k))
     (λ e. inl (rw (← q, t.0, t.1, e) refl, omega (arith, q), omega (arith, q, z (ltb-true 0 k e))))
     (λ e. inr (rw (← q, t.0, t.1, e) refl, omega (arith, q))))
-    (λ h. let t = below-is h in inr (rw (t.0, t.1) refl, omega (arith, h))))
+    (λ h. let t = below_is h in inr (rw (t.0, t.1) refl, omega (arith, h))))
 
 pub given-fair : (v k : ℕ) (l : List ℕ) → (0 < k → 0 < v) → Fair v l (given v k l)
 given-fair v k [] z = tt

@@ -16,23 +16,23 @@ module _ (fee : ℕ) (ws : List ℕ) (p : 0 < sum ws) where
   pub one_each : length (shares fee ws) ≡ length ws
   one_each = proportions.shares-length fee ws
 
-  pub shares-add-up : sum (shares fee ws) ≡ fee
-  shares-add-up = proportions.shares_sum fee ws p
+  pub shares-add_up : sum (shares fee ws) ≡ fee
+  shares-add_up = proportions.shares_sum fee ws p
 
   -- Each differs from the exact proportion by less than a cent.
-  pub less-than-a-cent : (i : ℕ) → i < length ws → apart (get_or (shares fee ws) i 0 * sum ws) (fee * get_or ws i 0) < sum ws
-  less-than-a-cent i h =
-      let s = proportions.share-threshold fee ws p in
+  pub less_than_a_cent : (i : ℕ) → i < length ws → apart (get_or (shares fee ws) i 0 * sum ws) (fee * get_or ws i 0) < sum ws
+  less_than_a_cent i h =
+      let s = proportions.share_threshold fee ws p in
       let cs : List ℕ = given s.0 (left fee ws - count (ltb s.0) (rests fee ws)) (rests fee ws) in
       subst (λ (l : List ℕ). apart (get_or l i 0 * sum ws) (fee * get_or ws i 0) < sum ws) (sym (proportions.shares-given fee ws s.0 s.2))
-      (best.ours-near (sum ws) fee s.0 p s.1 ws cs i (proportions.shares-fair fee ws s.0 p) h)
+      (best.ours_near (sum ws) fee s.0 p s.1 ws cs i (proportions.shares-fair fee ws s.0 p) h)
 
   -- No split into whole cents that adds up to the fee, cents below zero too, has a smaller total of such differences.
-  pub no-better : (ys : List ℤ) → length ys ≡ length ws → sumℤ ys ≡ pos fee → off (sum ws) fee ws (map pos (shares fee ws)) ≤ off (sum ws) fee ws ys
-  no-better ys h e =
-      let s = proportions.share-threshold fee ws p in
+  pub no_better : (ys : List ℤ) → length ys ≡ length ws → sumℤ ys ≡ pos fee → off (sum ws) fee ws (map pos (shares fee ws)) ≤ off (sum ws) fee ws ys
+  no_better ys h e =
+      let s = proportions.share_threshold fee ws p in
       let cs : List ℕ = given s.0 (left fee ws - count (ltb s.0) (rests fee ws)) (rests fee ws) in
       let q = proportions.shares-given fee ws s.0 s.2 in
       subst (λ (l : List ℕ). off (sum ws) fee ws (map pos l) ≤ off (sum ws) fee ws ys) (sym q)
-      (best.ours-best (sum ws) fee s.0 p s.1 ws cs ys (proportions.shares-fair fee ws s.0 p) h
-      (e ∙ ap pos (sym shares-add-up ∙ ap sum q)))
+      (best.ours_best (sum ws) fee s.0 p s.1 ws cs ys (proportions.shares-fair fee ws s.0 p) h
+      (e ∙ ap pos (sym shares-add_up ∙ ap sum q)))

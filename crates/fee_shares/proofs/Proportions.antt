@@ -11,7 +11,7 @@ use Rattle.lists.specs.Lists.{sum}
 use Rattle.lists.proofs.Members.{keep-length}
 use Rattle.fee_shares.specs.Shares.{count, quota, rest, quotas, rests, left, cent, cents, added, shares}
 use Rattle.fee_shares.specs.Given.{Threshold, given}
-use Rattle.fee_shares.proofs.Counts.{count-cons, count-split}
+use Rattle.fee_shares.proofs.Counts.{count-cons, count_split}
 use Rattle.fee_shares.proofs.Given.{Fair, cents-all, threshold, given-sum, given-length, given-fair}
 
 module _ (t fee : ℕ) where
@@ -66,8 +66,8 @@ module _ (fee : ℕ) (ws : List ℕ) (p : 0 < sum ws) where
   rests-low = rest-low (sum ws) fee p ws
 
   -- the cents left are given out by a threshold
-  pub share-threshold : (v : ℕ) × (v ≤ sum ws) × Threshold v (left fee ws) (rests fee ws)
-  share-threshold = threshold (sum ws) (left fee ws) (rests fee ws) left-few (omega (arith, rests-low, count-split (sum ws) (rests fee ws)))
+  pub share_threshold : (v : ℕ) × (v ≤ sum ws) × Threshold v (left fee ws) (rests fee ws)
+  share_threshold = threshold (sum ws) (left fee ws) (rests fee ws) left-few (omega (arith, rests-low, count_split (sum ws) (rests fee ws)))
 
 pub added-sum : (qs cs : List ℕ) → length qs ≡ length cs → sum (added qs cs) ≡ sum qs + sum cs
 added-sum [] [] h = refl
@@ -96,11 +96,11 @@ shares-fair fee ws v p = given-fair v (left fee ws - count (ltb v) (rests fee ws
 
 pub shares_sum : (fee : ℕ) (ws : List ℕ) → 0 < sum ws → sum (shares fee ws) ≡ fee
 shares_sum fee ws p =
-    let s = share-threshold fee ws p in
+    let s = share_threshold fee ws p in
     let v : ℕ = s.0 in
     let rs : List ℕ = rests fee ws in
     let k : ℕ = left fee ws - count (ltb v) rs in
-    let few : k ≤ count (eqb v) rs = omega (arith, s.2.enough, count-split v rs) in
+    let few : k ≤ count (eqb v) rs = omega (arith, s.2.enough, count_split v rs) in
     let long : length (quotas fee ws) ≡ length (given v k rs) = length-map ws (quota (sum ws) fee) ∙ sym (given-length v k rs ∙ rests-length fee ws p) in
     ap sum (shares-given fee ws v s.2) ∙ added-sum (quotas fee ws) (given v k rs) long ∙ omega (arith, given-sum v k rs few, s.2.above, left_is fee ws p)
 

@@ -26,35 +26,35 @@ module _ {fee : ℕ} {ws : List ℕ} {total : ℕ} {s rs : List ℕ} {q : ℕ} (
   over-is : rs ≡ rests fee ws
   over-is = d.over ∙ ap (λ (t : ℕ). map (rest t fee) ws) d.all
 
-  cents-is : q ≡ sum (quotas fee ws)
-  cents-is = d.cents ∙ ap sum whole_is
+  cents_is : q ≡ sum (quotas fee ws)
+  cents_is = d.cents ∙ ap sum whole_is
 
   left_is : fee - q ≡ left fee ws
   unfolding left
-  left_is = ap (λ (n : ℕ). fee - n) cents-is
+  left_is = ap (λ (n : ℕ). fee - n) cents_is
 
-  pub divided-le : q ≤ fee
-  divided-le = omega (arith, cents-is, quotas-le fee ws d.some)
+  pub divided_le : q ≤ fee
+  divided_le = omega (arith, cents_is, quotas-le fee ws d.some)
 
   -- what a threshold needs
-  pub divided-few : fee - q ≤ length rs
-  divided-few = omega (arith, left_is, left-few fee ws d.some, ap length over-is)
+  pub divided_few : fee - q ≤ length rs
+  divided_few = omega (arith, left_is, left-few fee ws d.some, ap length over-is)
 
-  pub divided-low : count (leb total) rs ≤ fee - q
-  divided-low =
+  pub divided_low : count (leb total) rs ≤ fee - q
+  divided_low =
       let e : count (leb total) rs ≡ count (leb (sum ws)) (rests fee ws) = ap₂ (λ (t : ℕ) (l : List ℕ). count (leb t) l) d.all over-is in
       omega (arith, e, rests-low fee ws d.some)
 
   -- the cents left, given out
   module _ {v above : ℕ} (t : Threshold v (fee - q) rs) (e : above ≡ count (leb (v + 1)) rs) where
-    above-is : above ≡ count (ltb v) rs
-    above-is = e ∙ ap (λ (n : ℕ). count (leb n) rs) (add-one v)
+    above_is : above ≡ count (ltb v) rs
+    above_is = e ∙ ap (λ (n : ℕ). count (leb n) rs) (add-one v)
 
-    pub divided-above : above ≤ fee - q
-    divided-above = omega (arith, above-is, t.above)
+    pub divided_above : above ≤ fee - q
+    divided_above = omega (arith, above_is, t.above)
 
-    pub divided-given : added s (given v (fee - q - above) rs) ≡ shares fee ws
-    divided-given =
-        ap₂ (λ (l : List ℕ) (k : ℕ). added l (given v k rs)) whole_is (ap₂ ◌-◌ left_is above-is)
+    pub divided_given : added s (given v (fee - q - above) rs) ≡ shares fee ws
+    divided_given =
+        ap₂ (λ (l : List ℕ) (k : ℕ). added l (given v k rs)) whole_is (ap₂ ◌-◌ left_is above_is)
         ∙ ap (λ (l : List ℕ). added (quotas fee ws) (given v (left fee ws - count (ltb v) l) l)) over-is
         ∙ sym (shares-given fee ws v (subst (λ (l : List ℕ). Threshold v (left fee ws) l) over-is (subst (λ (m : ℕ). Threshold v m rs) left_is t)))

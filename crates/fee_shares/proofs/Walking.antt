@@ -31,13 +31,13 @@ count-done p l i h = rw (drop_of_length-le l h)
 
 -- ---- one weight
 
-pub weight-low : (l : List ℕ) (i : ℕ) → get_or l i 0 ≤ sum l
-weight-low [] i = omega arith
-weight-low (w ∷ l) zero = omega arith
-weight-low (w ∷ l) (suc i) = omega (arith, weight-low l i)
+pub weight_low : (l : List ℕ) (i : ℕ) → get_or l i 0 ≤ sum l
+weight_low [] i = omega arith
+weight_low (w ∷ l) zero = omega arith
+weight_low (w ∷ l) (suc i) = omega (arith, weight_low l i)
 
-pub product-low : {fee w : ℕ} (t : ℕ) → fee ≤ 1000000000 → w ≤ t → t ≤ 1048576 → fee * w ≤ 1048576000000000
-product-low {fee} {w} t h k m = let p : fee * w ≤ 1000000000 * 1048576 = mul-le-mul h (le_trans k m) in omega (arith, p)
+pub product_low : {fee w : ℕ} (t : ℕ) → fee ≤ 1000000000 → w ≤ t → t ≤ 1048576 → fee * w ≤ 1048576000000000
+product_low {fee} {w} t h k m = let p : fee * w ≤ 1000000000 * 1048576 = mul-le-mul h (le_trans k m) in omega (arith, p)
 
 pub quota-low : {fee w : ℕ} (t : ℕ) → fee ≤ 1000000000 → w ≤ t → quota t fee w ≤ 1000000000
 quota-low {fee} {w} t h k = let p : fee * w ≤ 1000000000 * t = mul-le-mul h k in div-le_of_le-mul t (omega (arith, p))

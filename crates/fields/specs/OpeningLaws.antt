@@ -7,9 +7,9 @@ use Rattle.lists.proofs.Tests.{both}
 use Rattle.fields.specs.Opening.{starts_with}
 
 -- a list begins with its front
-pub starts-append : (o l : List ℕ) → starts_with (o ++ l) o ≡ true
-starts-append [] l = refl
-starts-append (x ∷ o) l = rw (eq-eqb x x refl, starts-append o l)
+pub starts_append : (o l : List ℕ) → starts_with (o ++ l) o ≡ true
+starts_append [] l = refl
+starts_append (x ∷ o) l = rw (eq-eqb x x refl, starts_append o l)
 
 -- and what begins with it is it and the rest
 pub starts_is : (s o : List ℕ) → starts_with s o ≡ true → s ≡ o ++ drop (length o) s
@@ -20,8 +20,8 @@ starts_is (y ∷ s) (x ∷ o) e =
     ap₂ ◌∷◌ (eqb-true y x r.0) (starts_is s o r.1)
 
 -- which is no longer than the list
-pub starts-length : (s o : List ℕ) → starts_with s o ≡ true → length o ≤ length s
-starts-length s o e = omega (arith, ap length (starts_is s o e), length-append o (drop (length o) s))
+pub starts_length : (s o : List ℕ) → starts_with s o ≡ true → length o ≤ length s
+starts_length s o e = omega (arith, ap length (starts_is s o e), length-append o (drop (length o) s))
 
 -- two parts one straight after the other
 pub starts_with_append : (s o p : List ℕ) → starts_with s (o ++ p) ≡ starts_with s o && starts_with (drop (length o) s) p
@@ -31,10 +31,10 @@ starts_with_append (y ∷ s) (x ∷ o) p =
     ap (λ (b : Bool). eqb y x && b) (starts_with_append s o p) ∙ sym (and_assoc (eqb y x) (starts_with s o) (starts_with (drop (length o) s) p))
 
 -- the test at place i, and what is left after it
-pub starts-at : (s o : List ℕ) (i : ℕ) → i < length s → i < length o
+pub starts_at : (s o : List ℕ) (i : ℕ) → i < length s → i < length o
     → starts_with (drop i s) (drop i o) ≡ eqb (get_or s i 0) (get_or o i 0) && starts_with (drop (i + 1) s) (drop (i + 1) o)
-starts-at s o i h k = rw (add-one, drop-cons s i 0 h, drop-cons o i 0 k)
+starts_at s o i h k = rw (add-one, drop-cons s i 0 h, drop-cons o i 0 k)
 
 -- the list ends before the opening does
-pub starts-ended : (s o : List ℕ) (i : ℕ) → length s ≤ i → i < length o → starts_with (drop i s) (drop i o) ≡ false
-starts-ended s o i h k = rw (drop_of_length-le s {i = i} h, drop-cons o i 0 k)
+pub starts_ended : (s o : List ℕ) (i : ℕ) → length s ≤ i → i < length o → starts_with (drop i s) (drop i o) ≡ false
+starts_ended s o i h k = rw (drop_of_length-le s {i = i} h, drop-cons o i 0 k)

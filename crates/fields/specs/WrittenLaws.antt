@@ -7,35 +7,35 @@ use Rattle.std.proofs.Math.Numerals.{add-one}
 use Rattle.std.proofs.Math.ListN.{length, drop, get_or, set, length-set, length-append, length-drop, drop_of_length-le}
 use Rattle.std.proofs.Math.Seq.{take_all, take_at, drop_at, set_at}
 use borrow.Rule.Slice.PartMut.{mid_of, put_mid, same_len_mid}
-use Rattle.fields.specs.Written.{written, writtenAt, Wrote}
+use Rattle.fields.specs.Written.{written, written_at, Wrote}
 
 module _ {A : Type 0} where
   -- ---- the lists
 
-  pub length-written : (xs l : List A) → length xs ≤ length l → length (written xs l) ≡ length l
+  pub length_written : (xs l : List A) → length xs ≤ length l → length (written xs l) ≡ length l
   unfolding written
-  length-written xs l h = simp (length-append, length-drop) (omega arith)
+  length_written xs l h = simp (length-append, length-drop) (omega arith)
 
   -- what was written stands at the front, and the rest is as it was
-  pub take-written : (xs l : List A) (n : ℕ) → length xs ≡ n → take n (written xs l) ≡ xs
+  pub take_written : (xs l : List A) (n : ℕ) → length xs ≡ n → take n (written xs l) ≡ xs
   unfolding written
-  take-written xs l n e = take_at xs (drop (length xs) l) n e
+  take_written xs l n e = take_at xs (drop (length xs) l) n e
 
-  pub drop-writtenAt : (at : ℕ) (xs l : List A) → at ≤ length l → drop at (writtenAt at xs l) ≡ written xs (drop at l)
-  unfolding writtenAt
-  drop-writtenAt at xs l h = drop_at (take at l) (written xs (drop at l)) at (length-take-le at l h)
+  pub drop_written_at : (at : ℕ) (xs l : List A) → at ≤ length l → drop at (written_at at xs l) ≡ written xs (drop at l)
+  unfolding written_at
+  drop_written_at at xs l h = drop_at (take at l) (written xs (drop at l)) at (length-take-le at l h)
 
   -- what is written straight after a front that is written already
-  pub written_then : (at : ℕ) (a b l : List A) → length a ≡ at → writtenAt at b (written a l) ≡ written (a ++ b) l
-  unfolding written writtenAt
+  pub written_then : (at : ℕ) (a b l : List A) → length a ≡ at → written_at at b (written a l) ≡ written (a ++ b) l
+  unfolding written written_at
   written_then at a b l e =
       simp (take_at a (drop (length a) l) at e, drop_at a (drop (length a) l) at e, append_assoc, length-append, drop-drop)
 
   -- ---- the writers
 
   -- A callee that is lent the rest of m, from a place on, and writes xs over its front, leaves m with xs written there.
-  pub lent_at : (at : ℕ) (m xs r : List A) → r ≡ written xs (mid_of at (length m - at) m) → put_mid at (length m - at) m r ≡ writtenAt at xs m
-  unfolding writtenAt
+  pub lent_at : (at : ℕ) (m xs r : List A) → r ≡ written xs (mid_of at (length m - at) m) → put_mid at (length m - at) m r ≡ written_at at xs m
+  unfolding written_at
   lent_at at m xs r e =
       let all : mid_of at (length m - at) m ≡ drop at m = take_all (length m - at) (drop at m) (simp length-drop (omega arith)) in
       let none : drop (length m - at) (drop at m) ≡ [] = drop_of_length-le (drop at m) {i = length m - at} (simp length-drop (omega arith)) in
@@ -66,14 +66,14 @@ module _ {A : Type 0} where
       record {
         count = simp length-append (omega arith);
         same = same_len_mid at (length m - at) m r s.same ∙ f.same;
-        list = lent_at at m b r s.list ∙ ap (writtenAt at b) f.list ∙ written_then at a b l (sym f.count);
+        list = lent_at at m b r s.list ∙ ap (written_at at b) f.list ∙ written_then at a b l (sym f.count);
       }
 
   -- what was written stands at the front
-  pub wrote-front : {xs l m : List A} {n : ℕ} → Wrote xs l m n → take n m ≡ xs
-  wrote-front {xs} {l} {m} {n} w = ap (take n) w.list ∙ take-written xs l n (sym w.count)
+  pub wrote_front : {xs l m : List A} {n : ℕ} → Wrote xs l m n → take n m ≡ xs
+  wrote_front {xs} {l} {m} {n} w = ap (take n) w.list ∙ take_written xs l n (sym w.count)
 
   -- no more was written than there is room for
-  pub wrote-within : {xs l m : List A} {n : ℕ} → Wrote xs l m n → n ≤ length m
+  pub wrote_within : {xs l m : List A} {n : ℕ} → Wrote xs l m n → n ≤ length m
   unfolding written
-  wrote-within {xs} {l} w = omega (arith, w.count, ap length w.list, length-append xs (drop (length xs) l))
+  wrote_within {xs} {l} w = omega (arith, w.count, ap length w.list, length-append xs (drop (length xs) l))

@@ -1,7 +1,7 @@
 // The fields of the two files: words and the opening bytes, read from and written to lent bytes.
 // A writer writes over the front of what it is lent and returns how much it wrote.
 ghost use Rattle.std.specs.Prelude.{◌≡◌, ◌+◌, ◌*◌, ◌≤◌, ◌<◌, length, drop};
-ghost use Rattle.fields.specs.Words.{word_at, wordsAt, word_bytes, wordsBytes};
+ghost use Rattle.fields.specs.Words.{word_at, words_at, word_bytes, words_bytes};
 ghost use Rattle.fields.specs.Opening.{starts_with};
 ghost use Rattle.fields.specs.Written.{Wrote};
 
@@ -35,7 +35,7 @@ pub fn word_is(s: &[u8], at: usize, w: u32) -> bool
 // The words from a byte offset on, as many as out has room for.
 pub fn read_words(s: &[u8], at: usize, out: &mut [u32])
     requires { at + 4 * length out.old ≤ length s.now }
-    ensures { out.new ≡ wordsAt s.now (length out.old) at }
+    ensures { out.new ≡ words_at s.now (length out.old) at }
 {
     let mut i = 0;
     while i < out.len() {
@@ -58,8 +58,8 @@ pub fn put_word(out: &mut [u8], w: u32) -> usize
 
 // Writes the words ws over the front of out.
 pub fn put_words(out: &mut [u8], ws: &[u32]) -> usize
-    requires { length (wordsBytes ws.now) ≤ length out.old }
-    ensures { Wrote (wordsBytes ws.now) out.old out.new result }
+    requires { length (words_bytes ws.now) ≤ length out.old }
+    ensures { Wrote (words_bytes ws.now) out.old out.new result }
 {
     let mut at = 0;
     let mut i = 0;

@@ -15,23 +15,23 @@ use Rattle.fields_sums.specs.Twos.{signed_of, bits_of}
 use Rattle.fields_sums.specs.TwosLaws.{signed_low, signed_high}
 
 -- the machine's 64 bits of an integer are those of `bits_of`
-pub bits-ofZ : (z : ℤ) → of_z w64 z ≡ bits_of 64 z
-bits-ofZ (pos n) = refl
-bits-ofZ (negsuc n) = refl
+pub bits_of_z : (z : ℤ) → of_z w64 z ≡ bits_of 64 z
+bits_of_z (pos n) = refl
+bits_of_z (negsuc n) = refl
 
 -- -1 - x is -(x + 1), and -1 - (-(n + 1)) is n
-less-pos : (x : ℕ) → negsuc 0 -ℤ pos x ≡ negsuc x
-less-pos zero = refl
-less-pos (suc x) = rw zero-add
+less_pos : (x : ℕ) → negsuc 0 -ℤ pos x ≡ negsuc x
+less_pos zero = refl
+less_pos (suc x) = rw zero-add
 
-less-neg : (n : ℕ) → negsuc 0 -ℤ negsuc n ≡ pos n
-less-neg n = simp (le-ltb (suc n) 1 (omega arith)) (ap pos (omega arith))
+less_neg : (n : ℕ) → negsuc 0 -ℤ negsuc n ≡ pos n
+less_neg n = simp (le-ltb (suc n) 1 (omega arith)) (ap pos (omega arith))
 
 -- what the code computes of a number in the upper half
 pub upper : (n : ℕ) → 2 ^ 63 ≤ n → n < 2 ^ 64 → negsuc 0 -ℤ to_z w64 (0xffff_ffff_ffff_ffff - n) ≡ signed_of 64 n
 upper n lo hi =
     ap (λ (z : ℤ). negsuc 0 -ℤ z) (to_z_pos w64 (0xffff_ffff_ffff_ffff - n) (omega arith))
-    ∙ less-pos (0xffff_ffff_ffff_ffff - n)
+    ∙ less_pos (0xffff_ffff_ffff_ffff - n)
     ∙ ap negsuc (omega arith)
     ∙ sym (signed_high 63 n lo)
 
@@ -49,16 +49,16 @@ module _ (z : ℤ) (fits : SFits w64 z) (neg : lt_z (to_z w64 (of_z w64 z)) (pos
   negative = below-zero z (rw (to_z-of_z fits) at neg)
 
   less : negsuc 0 -ℤ to_z w64 (of_z w64 z) ≡ pos (mag z)
-  less = ap (λ (y : ℤ). negsuc 0 -ℤ y) (to_z-of_z fits ∙ negative) ∙ less-neg (mag z)
+  less = ap (λ (y : ℤ). negsuc 0 -ℤ y) (to_z-of_z fits ∙ negative) ∙ less_neg (mag z)
 
-  pub less-fits : SFits w64 (negsuc 0 -ℤ to_z w64 (of_z w64 z))
-  less-fits = rw less (record { sfits = fits.sfits })
+  pub less_fits : SFits w64 (negsuc 0 -ℤ to_z w64 (of_z w64 z))
+  less_fits = rw less (record { sfits = fits.sfits })
 
   pub lower : to_z w64 (of_z w64 (negsuc 0 -ℤ to_z w64 (of_z w64 z))) ≡ pos (mag z)
-  lower = to_z-of_z {w = w64} less-fits ∙ less
+  lower = to_z-of_z {w = w64} less_fits ∙ less
 
-  pub lower-bits : 0xffff_ffff_ffff_ffff - mag z ≡ bits_of 64 z
-  lower-bits = omega (arith, ap (bits_of 64) negative)
+  pub lower_bits : 0xffff_ffff_ffff_ffff - mag z ≡ bits_of 64 z
+  lower_bits = omega (arith, ap (bits_of 64) negative)
 
 -- and of another
 pub same : (z : ℤ) → SFits w64 z → lt_z (to_z w64 (of_z w64 z)) (pos 0) ≡ false → to_z w64 (of_z w64 z) ≡ pos (bits_of 64 z)

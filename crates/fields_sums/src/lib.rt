@@ -1,6 +1,6 @@
 // Sums and readings: two words, and one, in two's complement, read from and written to lent bytes.
 ghost use Rattle.std.specs.Prelude.{◌≡◌, ◌+◌, ◌≤◌, length, drop};
-ghost use Rattle.fields_sums.specs.Twos.{signed_of, bits_of, sumOf, lowOf, high_of, sum_at, sumBytes, readingAt};
+ghost use Rattle.fields_sums.specs.Twos.{signed_of, bits_of, sum_of, low_of, high_of, sum_at, sum_bytes, reading_at};
 ghost use Rattle.fields.specs.Opening.{starts_with};
 ghost use Rattle.fields.specs.Written.{Wrote};
 
@@ -28,14 +28,14 @@ fn unsigned(z: i64) -> u64
 
 // The sum of two words.
 pub fn sum_of(low: u32, high: u32) -> i64
-    ensures { result ≡ sumOf low high }
+    ensures { result ≡ sum_of low high }
 {
     signed(low as u64 + 0x1_0000_0000 * high as u64)
 }
 
 // The low word of a sum.
 pub fn low_of(sum: i64) -> u32
-    ensures { result ≡ lowOf sum }
+    ensures { result ≡ low_of sum }
 {
     (unsigned(sum) % 0x1_0000_0000) as u32
 }
@@ -58,7 +58,7 @@ pub fn sum_at(s: &[u8], at: usize) -> i64
 // Writes a sum over the front of out.
 pub fn put_sum(out: &mut [u8], sum: i64) -> usize
     requires { 8 ≤ length out.old }
-    ensures { Wrote (sumBytes sum) out.old out.new result }
+    ensures { Wrote (sum_bytes sum) out.old out.new result }
 {
     let at = fields::put_word(out, low_of(sum));
     at + fields::put_word(&mut out[at..], high_of(sum))
@@ -67,7 +67,7 @@ pub fn put_sum(out: &mut [u8], sum: i64) -> usize
 // Whether a sum stands at a byte offset.
 pub fn sum_is(s: &[u8], at: usize, sum: i64) -> bool
     requires { at + 8 ≤ length s.now }
-    ensures { result ≡ starts_with (drop at s.now) (sumBytes sum) }
+    ensures { result ≡ starts_with (drop at s.now) (sum_bytes sum) }
 {
     if fields::word_is(s, at, low_of(sum)) {
         return fields::word_is(s, at + 4, high_of(sum));
@@ -78,7 +78,7 @@ pub fn sum_is(s: &[u8], at: usize, sum: i64) -> bool
 // The reading at a byte offset.
 pub fn reading_at(s: &[u8], at: usize) -> i64
     requires { at + 4 ≤ length s.now }
-    ensures { result ≡ readingAt s.now at }
+    ensures { result ≡ reading_at s.now at }
 {
     let w = fields::word_at(s, at) as u64;
     if w < 0x8000_0000 {

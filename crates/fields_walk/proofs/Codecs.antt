@@ -13,18 +13,18 @@ use lib.Signed.{mag}
 use Rattle.lists.specs.Lists.{◌∈◌}
 use Rattle.lists.proofs.Members.{at_in}
 use Rattle.lists.proofs.Pigeonhole.{no_more}
-use Rattle.fields.specs.Words.{word as word_of, word_at, word_bytes, wordsBytes}
-use Rattle.fields.specs.WordsLaws.{word_back, wordAt-drop}
-use Rattle.fields_sums.specs.Twos.{signed_of, bits_of, sum_at, sumBytes, readingAt, readingBytes}
-use Rattle.fields_sums.specs.TwosLaws.{bits-lt, signed-bits, bits-signed, signed-fits}
+use Rattle.fields.specs.Words.{word as word_of, word_at, word_bytes, words_bytes}
+use Rattle.fields.specs.WordsLaws.{word_back, word_at_drop}
+use Rattle.fields_sums.specs.Twos.{signed_of, bits_of, sum_at, sum_bytes, reading_at, reading_bytes}
+use Rattle.fields_sums.specs.TwosLaws.{bits_lt, signed_bits, bits_signed, signed-fits}
 use Rattle.fields_walk.specs.Parsed.{got, and_then}
 use Rattle.fields_walk.specs.Fields.{room, word, sum, reading, field, codes}
 use Rattle.fields_walk.specs.Limits.{Below, Bytes}
-use Rattle.fields_walk.proofs.Steps.{then-assoc}
+use Rattle.fields_walk.proofs.Steps.{then_assoc}
 use Rattle.fields_walk.proofs.Fields.{within}
 use Rattle.fields_walk.proofs.Lengths.{length-below}
-use Rattle.fields_walk.proofs.Codec.{Codec, bytes-behind, codec-same, codec-as, codec-value, codec-test, codec-map}
-use Rattle.fields_walk.proofs.Many.{flat-words, Cons, codec-nil, codec-cons}
+use Rattle.fields_walk.proofs.Codec.{Codec, bytes_behind, codec_same, codec_as, codec_value, codec_test, codec_map}
+use Rattle.fields_walk.proofs.Many.{flat-words, Cons, codec_nil, codec_cons}
 
 -- one byte of a word, and the others
 byte_step : (w a q : ℕ) → a < 256 → w ≡ a + 256 * q → (w % 256 ≡ a) × (w / 256 ≡ q)
@@ -52,66 +52,66 @@ front_bytes (a ∷ c ∷ d ∷ e ∷ l) h b =
     (r.0, sym (ap (λ (k : List ℕ). k ++ l) r.1))
 
 -- a word
-pub word-codec : Codec word word_bytes (λ w. w < 2 ^ 32)
+pub word_codec : Codec word word_bytes (λ w. w < 2 ^ 32)
 unfolding word word_at
-word-codec = codec-value 4 (λ l. word_at l 0) (λ w. refl) (λ w l h. word_back w h) front_bytes
+word_codec = codec_value 4 (λ l. word_at l 0) (λ w. refl) (λ w l h. word_back w h) front_bytes
 
 -- two words as one number, the low one first
-abbrev longAt : List ℕ → ℕ
-longAt l = word_at l 0 + 2 ^ 32 * word_at l 4
+abbrev long_at : List ℕ → ℕ
+long_at l = word_at l 0 + 2 ^ 32 * word_at l 4
 
-abbrev longBytes : ℕ → List ℕ
-longBytes n = word_bytes (n % 2 ^ 32) ++ word_bytes (n / 2 ^ 32)
+abbrev long_bytes : ℕ → List ℕ
+long_bytes n = word_bytes (n % 2 ^ 32) ++ word_bytes (n / 2 ^ 32)
 
-long-back : (n : ℕ) (l : List ℕ) → n < 2 ^ 64 → longAt (longBytes n ++ l) ≡ n
+long_back : (n : ℕ) (l : List ℕ) → n < 2 ^ 64 → long_at (long_bytes n ++ l) ≡ n
 unfolding word_at
-long-back n l h =
+long_back n l h =
     let all : n % 2 ^ 32 + 2 ^ 32 * (n / 2 ^ 32) ≡ n = omega arith in
     ap₂ (λ a b. a + 2 ^ 32 * b) (word_back (n % 2 ^ 32) (omega arith)) (word_back (n / 2 ^ 32) (omega arith)) ∙ all
 
 halves : (a b : ℕ) → a < 2 ^ 32 → b < 2 ^ 32 → (a + 2 ^ 32 * b < 2 ^ 64) × ((a + 2 ^ 32 * b) % 2 ^ 32 ≡ a) × ((a + 2 ^ 32 * b) / 2 ^ 32 ≡ b)
 halves a b h k = (omega arith, omega arith, omega arith)
 
-long-bytes : (l : List ℕ) → 8 ≤ length l → Bytes l → (longAt l < 2 ^ 64) × (l ≡ longBytes (longAt l) ++ drop 8 l)
+long-bytes : (l : List ℕ) → 8 ≤ length l → Bytes l → (long_at l < 2 ^ 64) × (l ≡ long_bytes (long_at l) ++ drop 8 l)
 long-bytes l h b =
     let f = front_bytes l (omega arith) b in
-    let r : Bytes (drop 4 l) = bytes-behind (word_bytes (word_at l 0)) (drop 4 l) f.1 b in
-    let g = rw (wordAt-drop, drop-drop) at (front_bytes (drop 4 l) (rw length-drop (omega arith)) r) in
+    let r : Bytes (drop 4 l) = bytes_behind (word_bytes (word_at l 0)) (drop 4 l) f.1 b in
+    let g = rw (word_at_drop, drop-drop) at (front_bytes (drop 4 l) (rw length-drop (omega arith)) r) in
     let x = halves (word_at l 0) (word_at l 4) f.0 g.0 in
     (x.0, rw (x.1, x.2) (f.1 ∙ ap (λ (m : List ℕ). word_bytes (word_at l 0) ++ m) g.1))
 
-long-codec : Codec (λ l. and_then (room 8 l) (λ u rest. got (longAt l) rest)) longBytes (λ n. n < 2 ^ 64)
-long-codec = codec-value 8 longAt (λ n. refl) long-back long-bytes
+long_codec : Codec (λ l. and_then (room 8 l) (λ u rest. got (long_at l) rest)) long_bytes (λ n. n < 2 ^ 64)
+long_codec = codec_value 8 long_at (λ n. refl) long_back long-bytes
 
 -- an integer of so many bits
-signed-codec : (k width : ℕ) (value : List ℕ → ℕ) {bytes : ℕ → List ℕ} → Codec (λ l. and_then (room width l) (λ u rest. got (value l) rest)) bytes (λ n. n < 2 ^ suc k)
+signed_codec : (k width : ℕ) (value : List ℕ → ℕ) {bytes : ℕ → List ℕ} → Codec (λ l. and_then (room width l) (λ u rest. got (value l) rest)) bytes (λ n. n < 2 ^ suc k)
     → Codec (λ l. and_then (room width l) (λ u rest. got (signed_of (suc k) (value l)) rest)) (λ z. bytes (bits_of (suc k) z)) (λ z. mag z < 2 ^ k)
-signed-codec k width value c =
-    codec-same (λ l. sym (then-assoc (room width l) (λ u. got (value l)) (λ n. got (signed_of (suc k) n))))
-    (codec-as (λ z. (λ p. subst (λ y. mag y < 2 ^ k) p.1 (signed-fits k (bits_of (suc k) z)), λ h. (bits-lt k z h, signed-bits k z h)))
-    (codec-map (signed_of (suc k)) (bits_of (suc k)) (bits-signed (suc k)) c))
+signed_codec k width value c =
+    codec_same (λ l. sym (then_assoc (room width l) (λ u. got (value l)) (λ n. got (signed_of (suc k) n))))
+    (codec_as (λ z. (λ p. subst (λ y. mag y < 2 ^ k) p.1 (signed-fits k (bits_of (suc k) z)), λ h. (bits_lt k z h, signed_bits k z h)))
+    (codec_map (signed_of (suc k)) (bits_of (suc k)) (bits_signed (suc k)) c))
 
 -- a reading, and a sum
-pub reading-codec : Codec reading readingBytes (λ z. mag z < 2 ^ 31)
-unfolding reading readingAt word
-reading-codec = signed-codec 31 4 (λ l. word_at l 0) word-codec
+pub reading_codec : Codec reading reading_bytes (λ z. mag z < 2 ^ 31)
+unfolding reading reading_at word
+reading_codec = signed_codec 31 4 (λ l. word_at l 0) word_codec
 
-pub sum-codec : Codec sum sumBytes (λ z. mag z < 2 ^ 63)
+pub sum_codec : Codec sum sum_bytes (λ z. mag z < 2 ^ 63)
 unfolding sum sum_at
-sum-codec = signed-codec 63 8 longAt long-codec
+sum_codec = signed_codec 63 8 long_at long_codec
 
 -- a field whose value is tested
-pub field-codec : (low limit n : ℕ) → limit ≤ 2 ^ 32 → Codec (field low limit n) word_bytes (λ v. (low ≤ v) × (v < limit))
+pub field_codec : (low limit n : ℕ) → limit ≤ 2 ^ 32 → Codec (field low limit n) word_bytes (λ v. (low ≤ v) × (v < limit))
 unfolding field
-field-codec low limit n h =
-    codec-as (λ v. (λ p. (within low limit v).0 p.1, λ p. (omega (arith, p.1), (within low limit v).1 p)))
-    (codec-test (λ w. leb low w && ltb w limit) n word-codec)
+field_codec low limit n h =
+    codec_as (λ v. (λ p. (within low limit v).0 p.1, λ p. (omega (arith, p.1), (within low limit v).1 p)))
+    (codec_test (λ w. leb low w && ltb w limit) n word_codec)
 
 -- codes below their sizes
-pub codes-codec : (zs : List ℕ) → ((z : ℕ) → z ∈ zs → z ≤ 2 ^ 32) → Codec (codes zs) wordsBytes (Below zs)
+pub codes_codec : (zs : List ℕ) → ((z : ℕ) → z ∈ zs → z ≤ 2 ^ 32) → Codec (codes zs) words_bytes (Below zs)
 unfolding codes
-codes-codec [] h = codec-as (λ x. (λ e. subst (Below []) (sym e) tt, λ b. no_more x (length-below [] x b))) (codec-nil flat-words)
-codes-codec (z ∷ zs) h = codec-as below (codec-cons flat-words (field-codec 0 z 6 (h z (Memᴰ.head refl))) (λ a p. codes-codec zs (λ y m. h y (Memᴰ.tail m))))
+codes_codec [] h = codec_as (λ x. (λ e. subst (Below []) (sym e) tt, λ b. no_more x (length-below [] x b))) (codec_nil flat-words)
+codes_codec (z ∷ zs) h = codec_as below (codec_cons flat-words (field_codec 0 z 6 (h z (Memᴰ.head refl))) (λ a p. codes_codec zs (λ y m. h y (Memᴰ.tail m))))
   where
     below : (x : List ℕ) → Cons (λ a. (0 ≤ a) × (a < z)) (λ a. Below zs) x ↔ Below (z ∷ zs) x
     below [] = (λ p. p, λ b. b)

@@ -11,33 +11,33 @@ use lib.ListN.{length, take, drop, length-drop}
 use borrow.Author.Tests.{le-leb, lt-leb, lt-ltb, le-ltb, leb-true, ltb-true, eq-eqb, ne_eqb}
 use Rattle.lists.proofs.Tests.{both, both_of}
 use Rattle.fields.specs.Words.{word_at}
-use Rattle.fields.specs.WordsLaws.{wordAt-drop}
+use Rattle.fields.specs.WordsLaws.{word_at_drop}
 use Rattle.fields.specs.Opening.{starts_with}
-use Rattle.fields_check.specs.Check.{checkOf}
+use Rattle.fields_check.specs.Check.{check_of}
 use Rattle.fields_walk.specs.declared.Walk.TheVariants.{At}
-use Rattle.fields_walk.specs.Parsed.{Parsed, stop, got, and_then, stopUnless}
+use Rattle.fields_walk.specs.Parsed.{Parsed, stop, got, and_then, stop_unless}
 use Rattle.fields_walk.specs.Fields.{room, word, field, sizes, header, ended, close}
 use Rattle.fields_walk.specs.Walked.{Says}
-use Rattle.fields_walk.proofs.Steps.{then-on, then-off, through-test, place_is, value-rest}
+use Rattle.fields_walk.proofs.Steps.{then_on, then_off, through_test, place_is, value_rest}
 
 -- a word at a place
 pub word-at-place : (s : List ℕ) (at : ℕ) → word_at (drop at s) 0 ≡ word_at s at
-word-at-place s at = wordAt-drop s at 0 ∙ rw add-zero
+word-at-place s at = word_at_drop s at 0 ∙ rw add-zero
 
 pub word-rest : (s : List ℕ) (at : ℕ) {v : ℕ} {rest : List ℕ} → at ≤ length s → word (drop at s) ≡ got v rest
     → (at + 4 ≤ length s) × (rest ≡ drop (at + 4) s) × (v ≡ word_at s at)
 unfolding word
 word-rest s at h e =
-    let r = value-rest s at 4 h (λ l. word_at l 0) e in
+    let r = value_rest s at 4 h (λ l. word_at l 0) e in
     (r.0, r.1, r.2 ∙ word-at-place s at)
 
 pub word_on : (l : List ℕ) {u : Unit {0}} {rest : List ℕ} → room 4 l ≡ got u rest → word l ≡ got (word_at l 0) rest
 unfolding word
-word_on l e = then-on (λ u rest. got (word_at l 0) rest) e
+word_on l e = then_on (λ u rest. got (word_at l 0) rest) e
 
 pub word-off : (l : List ℕ) {n : ℕ} → room 4 l ≡ stop n → word l ≡ stop n
 unfolding word
-word-off l e = then-off (λ u rest. got (word_at l 0) rest) e
+word-off l e = then_off (λ u rest. got (word_at l 0) rest) e
 
 -- ---- a field whose value is tested
 
@@ -49,31 +49,31 @@ within low limit w = (
 
 module _ (low limit n : ℕ) (l : List ℕ) where
   abbrev tested : ℕ → List ℕ → Parsed ℕ
-  tested w rest = stopUnless (leb low w && ltb w limit) n (got w rest)
+  tested w rest = stop_unless (leb low w && ltb w limit) n (got w rest)
 
   pub field_off : {m : ℕ} → room 4 l ≡ stop m → field low limit n l ≡ stop m
   unfolding field
-  field_off e = then-off tested (word-off l e)
+  field_off e = then_off tested (word-off l e)
 
   module _ {u : Unit {0}} {rest : List ℕ} (whole : room 4 l ≡ got u rest) where
-    field-on : field low limit n l ≡ tested (word_at l 0) rest
+    field_on : field low limit n l ≡ tested (word_at l 0) rest
     unfolding field
-    field-on = then-on tested (word_on l whole)
+    field_on = then_on tested (word_on l whole)
 
     pub field-low : word_at l 0 < low → field low limit n l ≡ stop n
-    field-low h = field-on ∙ rw (lt-leb low (word_at l 0) h)
+    field-low h = field_on ∙ rw (lt-leb low (word_at l 0) h)
 
     pub field-high : limit ≤ word_at l 0 → field low limit n l ≡ stop n
-    field-high h = field-on ∙ rw (le-ltb (word_at l 0) limit h, and-false)
+    field-high h = field_on ∙ rw (le-ltb (word_at l 0) limit h, and-false)
 
     pub field_in : low ≤ word_at l 0 → word_at l 0 < limit → field low limit n l ≡ got (word_at l 0) rest
-    field_in h k = field-on ∙ rw (le-leb low (word_at l 0) h, lt-ltb (word_at l 0) limit k)
+    field_in h k = field_on ∙ rw (le-leb low (word_at l 0) h, lt-ltb (word_at l 0) limit k)
 
 -- a field that was read is a word within its limits
 pub field-got : (low limit n : ℕ) (l : List ℕ) {v : ℕ} {rest : List ℕ} → field low limit n l ≡ got v rest → (word l ≡ got v rest) × (low ≤ v) × (v < limit)
 unfolding field
 field-got low limit n l {v} e =
-    let t = through-test (λ w. leb low w && ltb w limit) n (word l) e in
+    let t = through_test (λ w. leb low w && ltb w limit) n (word l) e in
     let b = (within low limit v).0 t.1 in
     (t.0, b.0, b.1)
 
@@ -98,34 +98,34 @@ module _ (s opening : List ℕ) where
   unfolding header
   header-off e = rw e
 
-  pub header-on : starts_with s opening ≡ true → header opening s ≡ and_then (field 1 9 3 (drop 4 s)) sizes
+  pub header_on : starts_with s opening ≡ true → header opening s ≡ and_then (field 1 9 3 (drop 4 s)) sizes
   unfolding header
-  header-on e = rw e
+  header_on e = rw e
 
 -- ---- the check word
 
 module _ (s : List ℕ) (at : ℕ) (h : at ≤ length s) where
   pub close-off : {n : ℕ} → room 4 (drop at s) ≡ stop n → close s (drop at s) ≡ stop n
   unfolding close
-  close-off e = then-off (ended (take (length s - length (drop at s)) s)) (word-off (drop at s) e)
+  close-off e = then_off (ended (take (length s - length (drop at s)) s)) (word-off (drop at s) e)
 
   -- the bytes before the check word
   before : length s - length (drop at s) ≡ at
   before = rw length-drop (omega arith)
 
   module _ {k : ℕ} (g : Says s (room 4 (drop at s)) (At k)) where
-    close-on : close s (drop at s) ≡ ended (take (length s - length (drop at s)) s) (word_at s at) (drop k s)
+    close_on : close s (drop at s) ≡ ended (take (length s - length (drop at s)) s) (word_at s at) (drop k s)
     unfolding close
-    close-on = then-on (ended (take (length s - length (drop at s)) s)) (word_on (drop at s) g.1) ∙ rw (word-at-place s at)
+    close_on = then_on (ended (take (length s - length (drop at s)) s)) (word_on (drop at s) g.1) ∙ rw (word-at-place s at)
 
-    pub close-follow : k < length s → close s (drop at s) ≡ stop 10
-    close-follow l = close-on ∙ rw (ne_eqb (length (drop k s)) 0 (λ e. let f : length s - k ≡ 0 = rw length-drop at e in omega arith))
+    pub close_follow : k < length s → close s (drop at s) ≡ stop 10
+    close_follow l = close_on ∙ rw (ne_eqb (length (drop k s)) 0 (λ e. let f : length s - k ≡ 0 = rw length-drop at e in omega arith))
 
     none : length s ≤ k → eqb (length (drop k s)) 0 ≡ true
     none l = eq-eqb (length (drop k s)) 0 (rw length-drop (omega arith))
 
-    pub close-right : length s ≤ k → word_at s at ≡ checkOf (take at s) → Says s (close s (drop at s)) (At k)
-    close-right l e = (tt, close-on ∙ rw (none l, before, eq-eqb (word_at s at) (checkOf (take at s)) e), g.2)
+    pub close_right : length s ≤ k → word_at s at ≡ check_of (take at s) → Says s (close s (drop at s)) (At k)
+    close_right l e = (tt, close_on ∙ rw (none l, before, eq-eqb (word_at s at) (check_of (take at s)) e), g.2)
 
-    pub close-wrong : length s ≤ k → (word_at s at ≡ checkOf (take at s) → ⊥) → close s (drop at s) ≡ stop 11
-    close-wrong l e = close-on ∙ rw (none l, before, ne_eqb (word_at s at) (checkOf (take at s)) e)
+    pub close_wrong : length s ≤ k → (word_at s at ≡ check_of (take at s) → ⊥) → close s (drop at s) ≡ stop 11
+    close_wrong l e = close_on ∙ rw (none l, before, ne_eqb (word_at s at) (check_of (take at s)) e)

@@ -7,9 +7,9 @@ use native.Mathlib.Nat.{zero-mul, suc-mul}
 use native.Mathlib.Omega.{arith}
 use lib.ListN.{length, length-append}
 use Rattle.lists.specs.Lists.{◌∈◌}
-use Rattle.fields.specs.Words.{word_bytes, wordsBytes}
-use Rattle.fields.specs.WordsLaws.{length-wordsBytes}
-use Rattle.fields_walk.specs.Fields.{headerBytes}
+use Rattle.fields.specs.Words.{word_bytes, words_bytes}
+use Rattle.fields.specs.WordsLaws.{length_words_bytes}
+use Rattle.fields_walk.specs.Fields.{header_bytes}
 use Rattle.fields_walk.specs.Limits.{Below}
 
 pub length-flat : {A : Type 0} (bytes : A → List ℕ) (k : ℕ) (xs : List A) → ((x : A) → x ∈ xs → length (bytes x) ≡ k) → length (flat_map bytes xs) ≡ length xs * k
@@ -21,8 +21,8 @@ length-flat bytes k (x ∷ xs) h =
     let g : k + length xs * k ≡ suc (length xs) * k = rw suc-mul (omega arith) in
     omega (arith, length-append (bytes x) (flat_map bytes xs), e, f, g)
 
-pub length-header : (opening zs : List ℕ) → length (headerBytes opening zs) ≡ length opening + 4 + 4 * length zs
-length-header opening zs = omega (arith, length-append opening (word_bytes (length zs) ++ wordsBytes zs), length-wordsBytes zs)
+pub length-header : (opening zs : List ℕ) → length (header_bytes opening zs) ≡ length opening + 4 + 4 * length zs
+length-header opening zs = omega (arith, length-append opening (word_bytes (length zs) ++ words_bytes zs), length_words_bytes zs)
 
 -- one code for each size
 pub length-below : (zs x : List ℕ) → Below zs x → length x ≡ length zs

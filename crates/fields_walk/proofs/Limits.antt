@@ -6,7 +6,7 @@ use Prim.Native.Nat.{ℕ, ◌≤◌, ◌<◌}
 use native.Mathlib.Omega.{arith}
 use lib.ListN.{length, get_or}
 use Rattle.lists.specs.Lists.{◌∈◌}
-use Rattle.lists.proofs.Members.{in-at}
+use Rattle.lists.proofs.Members.{in_at}
 use Rattle.cube.specs.Codes.{Coded}
 use Rattle.fields_walk.specs.Limits.{Below, Bytes}
 
@@ -18,4 +18,4 @@ below-coded (z ∷ zs) (a ∷ x) h b = (omega (arith, b.0, h z (Memᴰ.head refl
 
 -- what a slice of bytes has are bytes
 pub bytes_of : (s : List ℕ) → ((i : ℕ) → get_or s i 0 < 256) → Bytes s
-bytes_of s h b m = let r = in-at 0 m in subst (λ (x : ℕ). x < 256) r.2 (h r.0)
+bytes_of s h b m = let r = in_at 0 m in subst (λ (x : ℕ). x < 256) r.2 (h r.0)

@@ -11,26 +11,26 @@ use Rattle.fields_walk.specs.declared.Walk.TheVariants.{Stop, At}
 use Rattle.fields_walk.specs.Parsed.{Parsed, stop, got, consed, many}
 use Rattle.fields_walk.specs.Fields.{field, codes}
 use Rattle.fields_walk.specs.Walked.{Says}
-use Rattle.fields_walk.proofs.Steps.{Reader, then-on, then-off, behind}
+use Rattle.fields_walk.proofs.Steps.{Reader, then_on, then_off, behind}
 
 -- what is read from the second place on ends as what is read from the first
 pub record Follows {A : Type 0} (s : List ℕ) (p q : Parsed A) : Type 0 where
   pub ends : (w : Walk) → Says s p w → Says s q w
 
-pub follows-self : {A : Type 0} (s : List ℕ) (p : Parsed A) → Follows s p p
-follows-self s p = record { ends = λ w h. h }
+pub follows_self : {A : Type 0} (s : List ℕ) (p : Parsed A) → Follows s p p
+follows_self s p = record { ends = λ w h. h }
 
 -- a first thing and more behind it: where the first was read, and where it stopped
 module _ {A : Type 0} {s : List ℕ} {p whole : Parsed (List A)} (i : Follows s p whole) {q : Parsed A} (more : A → Reader (List A)) (e : p ≡ consed q more) where
-  pub step-on : {x : A} {rest : List ℕ} → q ≡ got x rest → Follows s (more x rest) whole
-  step-on {x} {rest} f = record { ends = go }
+  pub step_on : {x : A} {rest : List ℕ} → q ≡ got x rest → Follows s (more x rest) whole
+  step_on {x} {rest} f = record { ends = go }
     where
       go : (w : Walk) → Says s (more x rest) w → Says s whole w
-      go (Stop n) h = i.ends (Stop n) (e ∙ then-on (behind more) f ∙ then-off (λ xs rest'. got (x ∷ xs) rest') h)
-      go (At k) h = i.ends (At k) (x ∷ h.0, e ∙ then-on (behind more) f ∙ then-on (λ xs rest'. got (x ∷ xs) rest') h.1, h.2)
+      go (Stop n) h = i.ends (Stop n) (e ∙ then_on (behind more) f ∙ then_off (λ xs rest'. got (x ∷ xs) rest') h)
+      go (At k) h = i.ends (At k) (x ∷ h.0, e ∙ then_on (behind more) f ∙ then_on (λ xs rest'. got (x ∷ xs) rest') h.1, h.2)
 
   pub step-off : {n : ℕ} → q ≡ stop n → whole ≡ stop n
-  step-off {n} f = i.ends (Stop n) (e ∙ then-off (behind more) f)
+  step-off {n} f = i.ends (Stop n) (e ∙ then_off (behind more) f)
 
 -- nothing is left to read
 pub step-done : {A : Type 0} {s : List ℕ} {at : ℕ} {p whole : Parsed (List A)} → Follows s p whole → p ≡ got [] (drop at s) → at ≤ length s → Says s whole (At at)
@@ -42,8 +42,8 @@ module _ {A : Type 0} {s : List ℕ} (f : Reader A) (at i n : ℕ) {whole : Pars
   unfolding many
   many-left h = let e : n - i ≡ suc (n - (i + 1)) = omega arith in ap (λ k. many k f (drop at s)) e
 
-  pub many-on : {x : A} {rest : List ℕ} → i < n → f (drop at s) ≡ got x rest → Follows s (many (n - (i + 1)) f rest) whole
-  many-on h e = step-on v (λ x. many (n - (i + 1)) f) (many-left h) e
+  pub many_on : {x : A} {rest : List ℕ} → i < n → f (drop at s) ≡ got x rest → Follows s (many (n - (i + 1)) f rest) whole
+  many_on h e = step_on v (λ x. many (n - (i + 1)) f) (many-left h) e
 
   pub many-off : {k : ℕ} → i < n → f (drop at s) ≡ stop k → whole ≡ stop k
   many-off h e = step-off v (λ x. many (n - (i + 1)) f) (many-left h) e
@@ -58,8 +58,8 @@ module _ {s : List ℕ} (zs : List ℕ) (at i : ℕ) {whole : Parsed (List ℕ)}
   unfolding codes
   codes-left h = rw (add-one, drop-cons zs i 0 h)
 
-  pub codes-on : {x : ℕ} {rest : List ℕ} → i < length zs → field 0 (get_or zs i 0) 6 (drop at s) ≡ got x rest → Follows s (codes (drop (i + 1) zs) rest) whole
-  codes-on h e = step-on v (λ a. codes (drop (i + 1) zs)) (codes-left h) e
+  pub codes_on : {x : ℕ} {rest : List ℕ} → i < length zs → field 0 (get_or zs i 0) 6 (drop at s) ≡ got x rest → Follows s (codes (drop (i + 1) zs) rest) whole
+  codes_on h e = step_on v (λ a. codes (drop (i + 1) zs)) (codes-left h) e
 
   pub codes-off : {k : ℕ} → i < length zs → field 0 (get_or zs i 0) 6 (drop at s) ≡ stop k → whole ≡ stop k
   codes-off h e = step-off v (λ a. codes (drop (i + 1) zs)) (codes-left h) e

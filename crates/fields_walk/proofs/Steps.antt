@@ -10,7 +10,7 @@ use lib.Seq.{drop-drop}
 use borrow.Author.Tests.{le-leb, lt-leb, leb-true}
 use Rattle.fields_walk.specs.declared.Walk.{Walk}
 use Rattle.fields_walk.specs.declared.Walk.TheVariants.{Stop, At}
-use Rattle.fields_walk.specs.Parsed.{Parsed, stop, got, and_then, stopUnless, consed}
+use Rattle.fields_walk.specs.Parsed.{Parsed, stop, got, and_then, stop_unless, consed}
 use Rattle.fields_walk.specs.Fields.{room}
 use Rattle.fields_walk.specs.Walked.{Says, Walked}
 
@@ -19,54 +19,54 @@ abbrev pub Reader : Type 0 → Type 0
 Reader A = List ℕ → Parsed A
 
 module _ {A B : Type 0} {p : Parsed A} (next : A → Reader B) where
-  pub then-on : {v : A} {rest : List ℕ} → p ≡ got v rest → and_then p next ≡ next v rest
-  then-on e = ap (λ (q : Parsed A). and_then q next) e
+  pub then_on : {v : A} {rest : List ℕ} → p ≡ got v rest → and_then p next ≡ next v rest
+  then_on e = ap (λ (q : Parsed A). and_then q next) e
 
-  pub then-off : {n : ℕ} → p ≡ stop n → and_then p next ≡ stop n
-  then-off e = ap (λ (q : Parsed A). and_then q next) e
+  pub then_off : {n : ℕ} → p ≡ stop n → and_then p next ≡ stop n
+  then_off e = ap (λ (q : Parsed A). and_then q next) e
 
-pub then-assoc : {A B C : Type 0} (p : Parsed A) (g : A → Reader B) (h : B → Reader C)
+pub then_assoc : {A B C : Type 0} (p : Parsed A) (g : A → Reader B) (h : B → Reader C)
     → and_then (and_then p g) h ≡ and_then p (λ v rest. and_then (g v rest) h)
-then-assoc (stop n) g h = refl
-then-assoc (got v rest) g h = refl
+then_assoc (stop n) g h = refl
+then_assoc (got v rest) g h = refl
 
 -- reading goes on with a thing made of two as with the two
-pub then-made : {A B C D : Type 0} (make : A → B → C) (p : Parsed A) (g : A → Reader B) (h : C → Reader D)
+pub then_made : {A B C D : Type 0} (make : A → B → C) (p : Parsed A) (g : A → Reader B) (h : C → Reader D)
     → and_then p (λ a rest. and_then (g a rest) (λ b rest'. h (make a b) rest')) ≡ and_then (and_then p (λ a rest. and_then (g a rest) (λ b rest'. got (make a b) rest'))) h
-then-made make (stop n) g h = refl
-then-made make (got a rest) g h = sym (then-assoc (g a rest) (λ b. got (make a b)) h)
+then_made make (stop n) g h = refl
+then_made make (got a rest) g h = sym (then_assoc (g a rest) (λ b. got (make a b)) h)
 
 -- what came through two parts came through each, and a test that was passed
-abbrev is-got : {A : Type 0} → Parsed A → Bool
-is-got (stop n) = false
-is-got (got v rest) = true
+abbrev is_got : {A : Type 0} → Parsed A → Bool
+is_got (stop n) = false
+is_got (got v rest) = true
 
 pub through : {A B : Type 0} (p : Parsed A) (next : A → Reader B) {w : B} {end : List ℕ} → and_then p next ≡ got w end
     → (v : A) × (rest : List ℕ) × (p ≡ got v rest) × (next v rest ≡ got w end)
-through (stop n) next e = absurd (false≢true (ap is-got e))
+through (stop n) next e = absurd (false≢true (ap is_got e))
 through (got v rest) next e = (v, rest, refl, e)
 
-pub passed : {A : Type 0} (b : Bool) (p : Parsed A) (n : ℕ) {w : A} {end : List ℕ} → stopUnless b n p ≡ got w end → (b ≡ true) × (p ≡ got w end)
+pub passed : {A : Type 0} (b : Bool) (p : Parsed A) (n : ℕ) {w : A} {end : List ℕ} → stop_unless b n p ≡ got w end → (b ≡ true) × (p ≡ got w end)
 passed true p n e = (refl, e)
-passed false p n e = absurd (false≢true (ap is-got e))
+passed false p n e = absurd (false≢true (ap is_got e))
 
 -- the same of a value made of what was read, of a value that was tested, and of two made into one
-pub through-map : {A B : Type 0} (g : A → B) (p : Parsed A) {w : B} {end : List ℕ} → and_then p (λ v rest. got (g v) rest) ≡ got w end
+pub through_map : {A B : Type 0} (g : A → B) (p : Parsed A) {w : B} {end : List ℕ} → and_then p (λ v rest. got (g v) rest) ≡ got w end
     → (v : A) × (p ≡ got v end) × (g v ≡ w)
-through-map g (stop n) e = absurd (false≢true (ap is-got e))
-through-map g (got v rest) e = (v, ap (got v) cc, cc)
+through_map g (stop n) e = absurd (false≢true (ap is_got e))
+through_map g (got v rest) e = (v, ap (got v) cc, cc)
 
-pub through-test : {A : Type 0} (t : A → Bool) (n : ℕ) (p : Parsed A) {w : A} {end : List ℕ} → and_then p (λ v rest. stopUnless (t v) n (got v rest)) ≡ got w end
+pub through_test : {A : Type 0} (t : A → Bool) (n : ℕ) (p : Parsed A) {w : A} {end : List ℕ} → and_then p (λ v rest. stop_unless (t v) n (got v rest)) ≡ got w end
     → (p ≡ got w end) × (t w ≡ true)
-through-test t n (stop m) e = absurd (false≢true (ap is-got e))
-through-test t n (got v rest) {w} e = let r = passed (t v) (got v rest) n e in let q : w ≡ v = cc r.1 in (r.1, ap t q ∙ r.0)
+through_test t n (stop m) e = absurd (false≢true (ap is_got e))
+through_test t n (got v rest) {w} e = let r = passed (t v) (got v rest) n e in let q : w ≡ v = cc r.1 in (r.1, ap t q ∙ r.0)
 
-pub through-pair : {A B C : Type 0} (make : A → B → C) (p : Parsed A) (g : A → Reader B) {c : C} {end : List ℕ}
+pub through_pair : {A B C : Type 0} (make : A → B → C) (p : Parsed A) (g : A → Reader B) {c : C} {end : List ℕ}
     → and_then p (λ a rest. and_then (g a rest) (λ b rest'. got (make a b) rest')) ≡ got c end
     → (a : A) × (b : B) × (rest : List ℕ) × (p ≡ got a rest) × (g a rest ≡ got b end) × (make a b ≡ c)
-through-pair make p g e =
+through_pair make p g e =
     let t = through p (λ a rest. and_then (g a rest) (λ b rest'. got (make a b) rest')) e in
-    let u = through-map (make t.0) (g t.0 t.1) t.3 in
+    let u = through_map (make t.0) (g t.0 t.1) t.3 in
     (t.0, u.0, t.1, t.2, u.1, u.2)
 
 abbrev pub behind : {A : Type 0} → (A → Reader (List A)) → A → Reader (List A)
@@ -74,12 +74,12 @@ behind more x rest = and_then (more x rest) (λ xs rest'. got (x ∷ xs) rest')
 
 -- a list that was read was read thing by thing
 module _ {A : Type 0} (more : A → Reader (List A)) where
-  pub cons-back : {p : Parsed A} {x : A} {xs : List A} {rest end : List ℕ} → p ≡ got x rest → more x rest ≡ got xs end → consed p more ≡ got (x ∷ xs) end
-  cons-back {x = x} e f = then-on (behind more) e ∙ then-on (λ xs rest'. got (x ∷ xs) rest') f
+  pub cons_back : {p : Parsed A} {x : A} {xs : List A} {rest end : List ℕ} → p ≡ got x rest → more x rest ≡ got xs end → consed p more ≡ got (x ∷ xs) end
+  cons_back {x = x} e f = then_on (behind more) e ∙ then_on (λ xs rest'. got (x ∷ xs) rest') f
 
-  pub cons-forth : (p : Parsed A) {xs : List A} {end : List ℕ} → consed p more ≡ got xs end
+  pub cons_forth : (p : Parsed A) {xs : List A} {end : List ℕ} → consed p more ≡ got xs end
       → (x : A) × (ys : List A) × (rest : List ℕ) × (p ≡ got x rest) × (more x rest ≡ got ys end) × (xs ≡ x ∷ ys)
-  cons-forth p e = let t = through-pair ◌∷◌ p more e in (t.0, t.1, t.2, t.3, t.4, sym t.5)
+  cons_forth p e = let t = through_pair ◌∷◌ p more e in (t.0, t.1, t.2, t.3, t.4, sym t.5)
 
 -- ---- so many bytes
 
@@ -97,10 +97,10 @@ module _ (width : ℕ) (l : List ℕ) where
   room-got e = let t = passed (leb width (length l)) (got tt (drop width l)) 2 e in (leb-true width (length l) t.0, cc)
 
   -- and their value
-  pub value-got : {A : Type 0} (value : List ℕ → A) {v : A} {rest : List ℕ} → and_then (room width l) (λ u rest. got (value l) rest) ≡ got v rest
+  pub value_got : {A : Type 0} (value : List ℕ → A) {v : A} {rest : List ℕ} → and_then (room width l) (λ u rest. got (value l) rest) ≡ got v rest
       → (width ≤ length l) × (rest ≡ drop width l) × (v ≡ value l)
-  value-got value e =
-      let t = through-map (λ u. value l) (room width l) e in
+  value_got value e =
+      let t = through_map (λ u. value l) (room width l) e in
       let r = room-got t.1 in
       (r.0, r.1, sym t.2)
 
@@ -116,10 +116,10 @@ module _ (s : List ℕ) (at width : ℕ) (h : at ≤ length s) where
   pub place-whole : at + width ≤ length s → Says s (room width (drop at s)) (At (at + width))
   place-whole k = (tt, room_whole width (drop at s) (rw length-drop (omega arith)) ∙ rw drop-drop, k)
 
-  pub value-rest : {A : Type 0} (value : List ℕ → A) {v : A} {rest : List ℕ} → and_then (room width (drop at s)) (λ u rest. got (value (drop at s)) rest) ≡ got v rest
+  pub value_rest : {A : Type 0} (value : List ℕ → A) {v : A} {rest : List ℕ} → and_then (room width (drop at s)) (λ u rest. got (value (drop at s)) rest) ≡ got v rest
       → (at + width ≤ length s) × (rest ≡ drop (at + width) s) × (v ≡ value (drop at s))
-  value-rest value e =
-      let r = value-got width (drop at s) value e in
+  value_rest value e =
+      let r = value_got width (drop at s) value e in
       (omega (arith, r.0, length-drop at s), r.1 ∙ drop-drop width at s, r.2)
 
   pub place-got : {u : Unit {0}} {k : ℕ} → room width (drop at s) ≡ got u (drop k s) → k ≤ length s → (at + width ≤ length s) × (k ≡ at + width)
@@ -140,5 +140,5 @@ pub walked-map : {A B : Type 0} {s : List ℕ} {p : Parsed A} {w : Walk} (g : A 
 walked-map {A} {B} {s} {p} {w} g h = record { says = go w h.says }
   where
     go : (w : Walk) → Says s p w → Says s (and_then p (λ v rest. got (g v) rest)) w
-    go (Stop n) e = then-off (λ v rest. got (g v) rest) e
-    go (At k) e = (g e.0, then-on (λ v rest. got (g v) rest) e.1, e.2)
+    go (Stop n) e = then_off (λ v rest. got (g v) rest) e
+    go (At k) e = (g e.0, then_on (λ v rest. got (g v) rest) e.1, e.2)

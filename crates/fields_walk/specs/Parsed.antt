@@ -2,7 +2,7 @@
 --
 --   Parsed A          a stop's number, or a value with the bytes behind it
 --   and_then p next    goes on with the value and the bytes behind it; a stop stays
---   stopUnless b n p  stop n, unless the test b passed
+--   stop_unless b n p  stop n, unless the test b passed
 --   consed p more     a first thing, and more behind it: the list of them
 --   many n f          n things one after the other
 use Rattle.std.specs.Prelude.{Bool, cond, List, [], ◌∷◌, ℕ, zero, suc}
@@ -15,8 +15,8 @@ abbrev pub and_then : {A B : Type 0} → Parsed A → (A → List ℕ → Parsed
 and_then (stop n) next = stop n
 and_then (got v rest) next = next v rest
 
-abbrev pub stopUnless : {A : Type 0} → Bool → ℕ → Parsed A → Parsed A
-stopUnless b n p = cond b p (stop n)
+abbrev pub stop_unless : {A : Type 0} → Bool → ℕ → Parsed A → Parsed A
+stop_unless b n p = cond b p (stop n)
 
 abbrev pub consed : {A : Type 0} → Parsed A → (A → List ℕ → Parsed (List A)) → Parsed (List A)
 consed p more = and_then p (λ x rest. and_then (more x rest) (λ xs rest'. got (x ∷ xs) rest'))

@@ -17,6 +17,6 @@ mask_step s t rest = go (leb (t % 2) (s % 2)) refl (eqb rest (t / 2)) refl
     go true e false f = ne_eqb (rest * 2 + min (s % 2) (t % 2)) t (λ q. eqb-false rest (t / 2) f (omega (arith, leb-true (t % 2) (s % 2) e)))
     go false e b f = ne_eqb (rest * 2 + min (s % 2) (t % 2)) t (λ q. omega (arith, leb-false (t % 2) (s % 2) e))
 
-pub mask-holds : (d s t : ℕ) → t < 2 ^ d → eqb (bit_and s t) t ≡ holds d s t
-mask-holds zero s t h = let e : t ≡ 0 = omega arith in rw (e, and_zero_r s)
-mask-holds (suc d) s t h = rw (and_step s t, mask_step s t (bit_and (s / 2) (t / 2)), mask-holds d (s / 2) (t / 2) (omega arith))
+pub mask_holds : (d s t : ℕ) → t < 2 ^ d → eqb (bit_and s t) t ≡ holds d s t
+mask_holds zero s t h = let e : t ≡ 0 = omega arith in rw (e, and_zero_r s)
+mask_holds (suc d) s t h = rw (and_step s t, mask_step s t (bit_and (s / 2) (t / 2)), mask_holds d (s / 2) (t / 2) (omega arith))

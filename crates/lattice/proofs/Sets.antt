@@ -13,26 +13,26 @@ use borrow.Author.Tests.{leb-true, le-leb, lt-ltb, ltb-true}
 use Rattle.lists.specs.Lists.{◌∈◌, keep, below}
 use Rattle.lists.specs.Order.{Strict, Rising}
 use Rattle.lists.proofs.Tests.{cases, both, both_of}
-use Rattle.lists.proofs.Members.{keep-in, keep-of, below_in, below_of, below_length, below-distinct}
+use Rattle.lists.proofs.Members.{keep_in, keep_of, below_in, below_of, below_length, below-distinct}
 use Rattle.lists.proofs.Pigeonhole.{fewest}
-use Rattle.lists.proofs.Pairwise.{pairwise-keep}
-use Rattle.lists.proofs.Order.{earlier-cons, by_codes}
-use Rattle.lists.proofs.Sorted.{sort-in, sort-of, sort-rising, sort-length, rising-unique}
+use Rattle.lists.proofs.Pairwise.{pairwise_keep}
+use Rattle.lists.proofs.Order.{earlier_cons, by_codes}
+use Rattle.lists.proofs.Sorted.{sort_in, sort_of, sort-rising, sort-length, rising_unique}
 use Rattle.lattice.specs.Sets.{rank, before, full, sets, holds}
 
 -- ---- lattice order
 
-pub by-lattice : Strict before
-by-lattice = record {
+pub by_lattice : Strict before
+by_lattice = record {
   trans = λ x y z. by_codes.trans (rank x) (rank y) (rank z);
   total = λ x y e f. cc (by_codes.total (rank x) (rank y) e f);
   irrefl = λ x. by_codes.irrefl (rank x);
 }
 
 -- a set comes before another if it has fewer dimensions, or as many and the smaller number
-pub before-is : (s t : ℕ) → before s t ≡ true → (ones s < ones t) ⊎ ((ones s ≡ ones t) × (s < t))
-before-is s t e = cases (earlier-cons (ones s) (ones t) (s ∷ []) (t ∷ []) e) inl
-    (λ h. inr (h.0, cases (earlier-cons s t [] [] h.1) (λ k. k) (λ k. absurd (false≢true k.1))))
+pub before_is : (s t : ℕ) → before s t ≡ true → (ones s < ones t) ⊎ ((ones s ≡ ones t) × (s < t))
+before_is s t e = cases (earlier_cons (ones s) (ones t) (s ∷ []) (t ∷ []) e) inl
+    (λ h. inr (h.0, cases (earlier_cons s t [] [] h.1) (λ k. k) (λ k. absurd (false≢true k.1))))
 
 -- ---- the full set
 
@@ -49,20 +49,20 @@ full-lt d = ones_lt d
 
 -- ---- one set holds another
 
-pub holds-refl : (d s : ℕ) → holds d s s ≡ true
-holds-refl zero s = refl
-holds-refl (suc d) s = both_of (le-leb (s % 2) (s % 2) (omega arith)) (holds-refl d (s / 2))
+pub holds_refl : (d s : ℕ) → holds d s s ≡ true
+holds_refl zero s = refl
+holds_refl (suc d) s = both_of (le-leb (s % 2) (s % 2) (omega arith)) (holds_refl d (s / 2))
 
 -- the two parts of a step
 pub holds-suc : (d s t : ℕ) → holds (suc d) s t ≡ true → (t % 2 ≤ s % 2) × (holds d (s / 2) (t / 2) ≡ true)
 holds-suc d s t e = let r = both (leb (t % 2) (s % 2)) (holds d (s / 2) (t / 2)) e in (leb-true (t % 2) (s % 2) r.0, r.1)
 
-pub holds-trans : (d s t u : ℕ) → holds d s t ≡ true → holds d t u ≡ true → holds d s u ≡ true
-holds-trans zero s t u e f = refl
-holds-trans (suc d) s t u e f =
+pub holds_trans : (d s t u : ℕ) → holds d s t ≡ true → holds d t u ≡ true → holds d s u ≡ true
+holds_trans zero s t u e f = refl
+holds_trans (suc d) s t u e f =
     let p = holds-suc d s t e in
     let q = holds-suc d t u f in
-    both_of (le-leb (u % 2) (s % 2) (omega (arith, p.0, q.0))) (holds-trans d (s / 2) (t / 2) (u / 2) p.1 q.1)
+    both_of (le-leb (u % 2) (s % 2) (omega (arith, p.0, q.0))) (holds_trans d (s / 2) (t / 2) (u / 2) p.1 q.1)
 
 -- what a set holds has no larger number and no more dimensions
 pub holds-le : (d s t : ℕ) → t < 2 ^ d → holds d s t ≡ true → (t ≤ s) × (ones t ≤ ones s)
@@ -83,15 +83,15 @@ holds-enough (suc d) (suc e) s t h k = ap (λ (b : Bool). leb (t % 2) (s % 2) &&
 
 pub sets-in : (d : ℕ) {s : ℕ} → s ∈ sets d → s < 2 ^ d
 unfolding sets
-sets-in d m = below_in (2 ^ d) (sort-in before (below (2 ^ d)) m)
+sets-in d m = below_in (2 ^ d) (sort_in before (below (2 ^ d)) m)
 
 pub sets_of : (d : ℕ) {s : ℕ} → s < 2 ^ d → s ∈ sets d
 unfolding sets
-sets_of d h = sort-of before by-lattice (below_of (2 ^ d) h)
+sets_of d h = sort_of before by_lattice (below_of (2 ^ d) h)
 
 pub sets-rising : (d : ℕ) → Rising before (sets d)
 unfolding sets
-sets-rising d = sort-rising before by-lattice (below (2 ^ d))
+sets-rising d = sort-rising before by_lattice (below (2 ^ d))
 
 pub sets-length : (d : ℕ) → length (sets d) ≤ 2 ^ d
 unfolding sets
@@ -103,8 +103,8 @@ sets-count d = omega (arith, sets-length d, below_length (2 ^ d), fewest (below 
 
 -- the sets of fewer dimensions are those below 2 to that power, in the same order
 pub sets-part : (d e : ℕ) → d ≤ e → sets d ≡ keep (λ s. ltb s (2 ^ d)) (sets e)
-sets-part d e h = rising-unique before by-lattice (sets d) (keep (λ s. ltb s (2 ^ d)) (sets e))
+sets-part d e h = rising_unique before by_lattice (sets d) (keep (λ s. ltb s (2 ^ d)) (sets e))
     (sets-rising d)
-    (pairwise-keep (λ s t. before s t ≡ true) (λ s. ltb s (2 ^ d)) (sets e) (sets-rising e))
-    (λ s m. let p = sets-in d m in keep-of (λ s. ltb s (2 ^ d)) (sets_of e (omega (arith, pow_mono h))) (lt-ltb s (2 ^ d) p))
-    (λ s m. sets_of d (ltb-true s (2 ^ d) (keep-in (λ s. ltb s (2 ^ d)) (sets e) m).1))
+    (pairwise_keep (λ s t. before s t ≡ true) (λ s. ltb s (2 ^ d)) (sets e) (sets-rising e))
+    (λ s m. let p = sets-in d m in keep_of (λ s. ltb s (2 ^ d)) (sets_of e (omega (arith, pow_mono h))) (lt-ltb s (2 ^ d) p))
+    (λ s m. sets_of d (ltb-true s (2 ^ d) (keep_in (λ s. ltb s (2 ^ d)) (sets e) m).1))

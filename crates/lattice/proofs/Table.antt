@@ -13,9 +13,9 @@ use Rattle.lists.specs.Lists.{every, some, below}
 use Rattle.lists.specs.Order.{Rising}
 use Rattle.lists.proofs.Tests.{both, every_in, some_in}
 use Rattle.lists.proofs.Members.{below_of, at_in}
-use Rattle.lists.proofs.Sorted.{rising-one, rising-cons, rising-unique}
+use Rattle.lists.proofs.Sorted.{rising-one, rising_cons, rising_unique}
 use Rattle.lattice.specs.Sets.{before, sets}
-use Rattle.lattice.proofs.Sets.{by-lattice, sets-in, sets_of, sets-rising}
+use Rattle.lattice.proofs.Sets.{by_lattice, sets-in, sets_of, sets-rising}
 
 -- each set comes before the next
 abbrev ordered : List ℕ → Bool
@@ -27,16 +27,16 @@ ordered (s ∷ t ∷ l) = before s t && ordered (t ∷ l)
 abbrev pub right : List ℕ → Bool
 right l = ordered l && (every (λ s. some (eqb s) l) (below 256) && every (λ s. ltb s 256) l)
 
-ordered-rising : (l : List ℕ) → ordered l ≡ true → Rising before l
-ordered-rising [] e = tt
-ordered-rising (s ∷ []) e = rising-one before s
-ordered-rising (s ∷ t ∷ l) e = let p = both (before s t) (ordered (t ∷ l)) e in rising-cons before by-lattice s t l p.0 (ordered-rising (t ∷ l) p.1)
+ordered_rising : (l : List ℕ) → ordered l ≡ true → Rising before l
+ordered_rising [] e = tt
+ordered_rising (s ∷ []) e = rising-one before s
+ordered_rising (s ∷ t ∷ l) e = let p = both (before s t) (ordered (t ∷ l)) e in rising_cons before by_lattice s t l p.0 (ordered_rising (t ∷ l) p.1)
 
 pub table_is : (l : List ℕ) → right l ≡ true → l ≡ sets 8
 table_is l e =
     let p = both (ordered l) (every (λ s. some (eqb s) l) (below 256) && every (λ s. ltb s 256) l) e in
     let q = both (every (λ s. some (eqb s) l) (below 256)) (every (λ s. ltb s 256) l) p.1 in
-    rising-unique before by-lattice l (sets 8) (ordered-rising l p.0) (sets-rising 8)
+    rising_unique before by_lattice l (sets 8) (ordered_rising l p.0) (sets-rising 8)
     (λ s m. sets_of 8 (ltb-true s 256 (every_in (λ s. ltb s 256) q.1 m)))
     (λ s m. let r = some_in (eqb s) l (every_in (λ s. some (eqb s) l) q.0 (below_of 256 (sets-in 8 m))) in Memᴰ.cast (eqb-true s r.0 r.2) r.1)
 

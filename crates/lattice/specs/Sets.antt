@@ -6,7 +6,7 @@
 --   before s t      s comes before t in lattice order: fewer dimensions first, then the smaller number
 --   full d          the full set of d dimensions
 --   sets d          the sets of d dimensions, in lattice order
---   setsFrom m k    of the 256 sets in lattice order, those from place k on that are below m
+--   sets_from m k    of the 256 sets in lattice order, those from place k on that are below m
 --   holds d s t     among d dimensions, each one of set t is one of set s
 use Rattle.std.specs.Prelude.{Bool, true, ◌&&◌, List, [], ◌∷◌, ℕ, zero, suc, ◌-◌, ◌/◌, ◌%◌, ◌^◌, leb, ltb, drop}
 use Rattle.std.specs.Int.Count.{ones}
@@ -28,8 +28,8 @@ full d = 2 ^ d - 1
 unfoldable pub sets : ℕ → List ℕ
 sets d = sort before (below (2 ^ d))
 
-unfoldable pub setsFrom : ℕ → ℕ → List ℕ
-setsFrom m k = keep (λ s. ltb s m) (drop k (sets 8))
+unfoldable pub sets_from : ℕ → ℕ → List ℕ
+sets_from m k = keep (λ s. ltb s m) (drop k (sets 8))
 
 abbrev pub holds : ℕ → ℕ → ℕ → Bool
 holds zero s t = true

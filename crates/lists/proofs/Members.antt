@@ -14,24 +14,25 @@ use Rattle.lists.specs.Lists.{◌∈◌, only, keep, below, Distinct}
 use Rattle.lists.proofs.Tests.{cases, truth}
 
 module _ {A : Type 0} where
-  pub only-in : {x y : A} {l : List A} (b : Bool) → x ∈ only b y l → ((x ≡ y) × (b ≡ true)) ⊎ (x ∈ l)
-  only-in true (Memᴰ.head e) = inl (e, refl)
-  only-in true (Memᴰ.tail m) = inr m
-  only-in false m = inr m
+  pub only_in : {x y : A} {l : List A} (b : Bool) → x ∈ only b y l → ((x ≡ y) × (b ≡ true)) ⊎ (x ∈ l)
+  only_in true (Memᴰ.head e) = inl (e, refl)
+  only_in true (Memᴰ.tail m) = inr m
+  only_in false m = inr m
 
-  only-old : {x : A} {l : List A} (b : Bool) (y : A) → x ∈ l → x ∈ only b y l
-  only-old true y m = Memᴰ.tail m
-  only-old false y m = m
+  only_old : {x : A} {l : List A} (b : Bool) (y : A) → x ∈ l → x ∈ only b y l
+  only_old true y m = Memᴰ.tail m
+  only_old false y m = m
 
-  pub keep-in : (p : A → Bool) {x : A} (l : List A) → x ∈ keep p l → (x ∈ l) × (p x ≡ true)
-  keep-in p [] m = absurd (Memᴰ.not-nil m)
-  keep-in p (y ∷ l) m = cases (only-in (p y) m)
+  pub keep_in : (p : A → Bool) {x : A} (l : List A) → x ∈ keep p l → (x ∈ l) × (p x ≡ true)
+  keep_in p [] m = absurd (Memᴰ.not-nil m)
+  keep_in p (y ∷ l) m = cases (only_in (p y) m)
       (λ h. (Memᴰ.head h.0, rw h.0 h.1))
-      (λ h. let r = keep-in p l h in (Memᴰ.tail r.0, r.1))
+      (λ h. let r = keep_in p l h in (Memᴰ.tail r.0, r.1))
 
-  pub keep-of : (p : A → Bool) {x : A} {l : List A} → x ∈ l → p x ≡ true → x ∈ keep p l
-  keep-of p {x} {l = y ∷ l} (Memᴰ.head h) e = rw (rw h at e) (Memᴰ.head h)
-  keep-of p {x} {l = y ∷ l} (Memᴰ.tail m) e = only-old (p y) y (keep-of p m e)
+  pub keep_of : (p : A → Bool) {x : A} {l : List A} → x ∈ l → p x ≡ true → x ∈ keep p l
+  keep_of p {x = x} {l = []} x6 e = elim x6 [ ]
+  keep_of p {x} {l = y ∷ l} (Memᴰ.head h) e = rw (rw h at e) (Memᴰ.head h)
+  keep_of p {x} {l = y ∷ l} (Memᴰ.tail m) e = only_old (p y) y (keep_of p m e)
 
   -- nothing passes
   pub keep-none : (p : A → Bool) (l : List A) → ((x : A) → x ∈ l → p x ≢ true) → keep p l ≡ []
@@ -46,9 +47,10 @@ module _ {A : Type 0} where
   at_in a (x ∷ l) zero h = Memᴰ.head refl
   at_in a (x ∷ l) (suc k) h = Memᴰ.tail (at_in a l k (omega arith))
 
-  pub in-at : (a : A) {x : A} {l : List A} → x ∈ l → (k : ℕ) × (k < length l) × (get_or l k a ≡ x)
-  in-at a {l = y ∷ l} (Memᴰ.head e) = (0, omega arith, sym e)
-  in-at a {l = y ∷ l} (Memᴰ.tail m) = let r = in-at a m in (suc r.0, omega (arith, r.1), r.2)
+  pub in_at : (a : A) {x : A} {l : List A} → x ∈ l → (k : ℕ) × (k < length l) × (get_or l k a ≡ x)
+  in_at a {l = []} x3 = elim x3 [ ]
+  in_at a {l = y ∷ l} (Memᴰ.head e) = (0, omega arith, sym e)
+  in_at a {l = y ∷ l} (Memᴰ.tail m) = let r = in_at a m in (suc r.0, omega (arith, r.1), r.2)
 
   pub keep_append : (p : A → Bool) (l m : List A) → keep p (l ++ m) ≡ keep p l ++ keep p m
   keep_append p [] m = refl
@@ -86,10 +88,11 @@ module _ {A B : Type 0} where
       (λ h. (x, Memᴰ.head refl, h))
       (λ h. let r = flat_in f l h in (r.0, Memᴰ.tail r.1, r.2))
 
-  pub flat-of : (f : A → List B) {x : A} {y : B} {l : List A} → x ∈ l → y ∈ f x → y ∈ flat_map f l
+  pub flat_of : (f : A → List B) {x : A} {y : B} {l : List A} → x ∈ l → y ∈ f x → y ∈ flat_map f l
   unfolding flat_map
-  flat-of f {x} {y} {l = z ∷ l} (Memᴰ.head e) n = let k : y ∈ f z = rw e at n in Memᴰ.append_left (flat_map f l) k
-  flat-of f {l = z ∷ l} (Memᴰ.tail m) n = Memᴰ.append_right (f z) (flat-of f m n)
+  flat_of f {x = x} {y = y} {l = []} x6 n = elim x6 [ ]
+  flat_of f {x} {y} {l = z ∷ l} (Memᴰ.head e) n = let k : y ∈ f z = rw e at n in Memᴰ.append_left (flat_map f l) k
+  flat_of f {l = z ∷ l} (Memᴰ.tail m) n = Memᴰ.append_right (f z) (flat_of f m n)
 
   -- functions that agree on the members make the same list
   pub map_same : (f g : A → B) (l : List A) → ((x : A) → x ∈ l → f x ≡ g x) → map f l ≡ map g l

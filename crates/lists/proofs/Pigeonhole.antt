@@ -11,11 +11,11 @@ use Rattle.lists.specs.Lists.{◌∈◌, Distinct}
 use Rattle.lists.proofs.Tests.{cases}
 
 module _ {A : Type 0} where
-  pub perm-length : {l m : List A} → Permᴰ l m → length l ≡ length m
-  perm-length Permᴰ.nil = refl
-  perm-length (Permᴰ.cons e d) = ap suc (perm-length d)
-  perm-length (Permᴰ.swap e f) = refl
-  perm-length (Permᴰ.trans d e) = perm-length d ∙ perm-length e
+  pub perm_length : {l m : List A} → Permᴰ l m → length l ≡ length m
+  perm_length Permᴰ.nil = refl
+  perm_length (Permᴰ.cons e d) = ap suc (perm_length d)
+  perm_length (Permᴰ.swap e f) = refl
+  perm_length (Permᴰ.trans d e) = perm_length d ∙ perm_length e
 
   pub no_more : (l : List A) → length l ≡ 0 → l ≡ []
   no_more [] e = refl
@@ -23,6 +23,7 @@ module _ {A : Type 0} where
 
   -- a list without one of its members
   take_out : {x : A} {l : List A} → x ∈ l → (m : List A) × Permᴰ l (x ∷ m) × ((y : A) → y ∈ l → (y ≡ x) ⊎ (y ∈ m))
+  take_out {x = x} {l = []} x3 = elim x3 [ ]
   take_out {x} {l = z ∷ l} (Memᴰ.head e) =
       (l, Permᴰ.cons (sym e) (Permᴰ.refl l), λ y h. cases (Memᴰ.cases_cons h) (λ f. inl (f ∙ sym e)) inr)
   take_out {x} {l = z ∷ l} (Memᴰ.tail m) =
@@ -42,22 +43,22 @@ module _ {A : Type 0} where
 
   -- So the other list is at least as long, and just as long exactly when it has the same elements, each as often.
   pub fewest : (l m : List A) → Distinct l → ((x : A) → x ∈ l → x ∈ m) → length l ≤ length m
-  fewest l m d f = let r = pigeonhole l m d f in omega (arith, perm-length r.1, length-append l r.0)
+  fewest l m d f = let r = pigeonhole l m d f in omega (arith, perm_length r.1, length-append l r.0)
 
-  pub fewest-only : (l m : List A) → Distinct l → ((x : A) → x ∈ l → x ∈ m) → length l ≡ length m → Permᴰ m l
-  fewest-only l m d f e = go (pigeonhole l m d f)
+  pub fewest_only : (l m : List A) → Distinct l → ((x : A) → x ∈ l → x ∈ m) → length l ≡ length m → Permᴰ m l
+  fewest_only l m d f e = go (pigeonhole l m d f)
     where
       go : (rest : List A) × Permᴰ m (l ++ rest) → Permᴰ m l
-      go r = let z : length r.0 ≡ 0 = omega (arith, perm-length r.1, length-append l r.0) in
+      go r = let z : length r.0 ≡ 0 = omega (arith, perm_length r.1, length-append l r.0) in
           rw (no_more r.0 z, append-nil) at r.1
 
 module _ {A : Type 0} where
   -- two different members make a length of 2; a length of 1 makes a member
-  pub two-long : {x y : A} {l : List A} → x ∈ l → y ∈ l → x ≢ y → 2 ≤ length l
-  two-long {x} {y} {l} m n d = fewest (x ∷ y ∷ []) l
+  pub two_long : {x y : A} {l : List A} → x ∈ l → y ∈ l → x ≢ y → 2 ≤ length l
+  two_long {x} {y} {l} m n d = fewest (x ∷ y ∷ []) l
       (λ z i e. d (e ∙ Memᴰ.eq_of_singleton i), (λ z i. absurd (Memᴰ.not-nil i), tt))
       (λ z i. cases (Memᴰ.cases_cons i) (λ e. Memᴰ.cast e m) (λ j. Memᴰ.cast (Memᴰ.eq_of_singleton j) n))
 
-  pub one-long : (l : List A) → 1 ≤ length l → (x : A) × (x ∈ l)
-  one-long [] h = absurd (omega arith)
-  one-long (x ∷ l) h = (x, Memᴰ.head refl)
+  pub one_long : (l : List A) → 1 ≤ length l → (x : A) × (x ∈ l)
+  one_long [] h = absurd (omega arith)
+  one_long (x ∷ l) h = (x, Memᴰ.head refl)

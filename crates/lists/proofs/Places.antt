@@ -22,6 +22,7 @@ at-member (y ∷ l) (suc n) h = Memᴰ.tail (at-member l n h)
 
 -- each member has a place
 pub member-at : {A : Type 0} {x : A} {l : List A} → x ∈ l → (n : ℕ) × (get_elem? l n ≡ just x)
+member-at {A = A} {l = []} x3 = elim x3 [ ]
 member-at {l = y ∷ l} (Memᴰ.head e) = (0, rw e)
 member-at {l = y ∷ l} (Memᴰ.tail m) = let r = member-at m in (suc r.0, r.1)
 
@@ -40,27 +41,27 @@ at_right f [] m n = rw zero-add
 at_right f (x ∷ l) m n = rw suc-add (at_right f l m n)
 
 -- members at two places are at one place, or in the relation one way or the other
-pub pairwise-places : {A : Type 0} (R : A → A → Type 0) {x y : A} (l : List A) (m n : ℕ) → Pairwise R l → get_elem? l m ≡ just x → get_elem? l n ≡ just y
+pub pairwise_places : {A : Type 0} (R : A → A → Type 0) {x y : A} (l : List A) (m n : ℕ) → Pairwise R l → get_elem? l m ≡ just x → get_elem? l n ≡ just y
     → (m ≡ n) ⊎ (R x y ⊎ R y x)
-pairwise-places R {x} [] m n p h k = absurd (none-ne-some x h)
-pairwise-places R (z ∷ l) zero zero p h k = inl refl
-pairwise-places R {x} {y} (z ∷ l) zero (suc n) p h k = let q : z ≡ x = cc in inr (inl (rw (← q) (p.0 y (at-member l n k))))
-pairwise-places R {x} {y} (z ∷ l) (suc m) zero p h k = let q : z ≡ y = cc in inr (inr (rw (← q) (p.0 x (at-member l m h))))
-pairwise-places R (z ∷ l) (suc m) (suc n) p h k = cases (pairwise-places R l m n p.1 h k) (λ e. inl (ap suc e)) inr
+pairwise_places R {x} [] m n p h k = absurd (none-ne-some x h)
+pairwise_places R (z ∷ l) zero zero p h k = inl refl
+pairwise_places R {x} {y} (z ∷ l) zero (suc n) p h k = let q : z ≡ x = cc in inr (inl (rw (← q) (p.0 y (at-member l n k))))
+pairwise_places R {x} {y} (z ∷ l) (suc m) zero p h k = let q : z ≡ y = cc in inr (inr (rw (← q) (p.0 x (at-member l m h))))
+pairwise_places R (z ∷ l) (suc m) (suc n) p h k = cases (pairwise_places R l m n p.1 h k) (λ e. inl (ap suc e)) inr
 
 -- the same of `get_or`, whose value beyond the end is a
 module _ {A : Type 0} (a : A) where
   -- the member at an earlier place is in the relation to that at a later one
-  pub pairwise-at : (R : A → A → Type 0) (l : List A) (k j : ℕ) → Pairwise R l → k < j → j < length l → R (get_or l k a) (get_or l j a)
-  pairwise-at R [] k j p h m = absurd (omega arith)
-  pairwise-at R (x ∷ l) k zero p h m = absurd (omega arith)
-  pairwise-at R (x ∷ l) zero (suc j) p h m = p.0 (get_or l j a) (at_in a l j (omega arith))
-  pairwise-at R (x ∷ l) (suc k) (suc j) p h m = pairwise-at R l k j p.1 (omega arith) (omega arith)
+  pub pairwise_at : (R : A → A → Type 0) (l : List A) (k j : ℕ) → Pairwise R l → k < j → j < length l → R (get_or l k a) (get_or l j a)
+  pairwise_at R [] k j p h m = absurd (omega arith)
+  pairwise_at R (x ∷ l) k zero p h m = absurd (omega arith)
+  pairwise_at R (x ∷ l) zero (suc j) p h m = p.0 (get_or l j a) (at_in a l j (omega arith))
+  pairwise_at R (x ∷ l) (suc k) (suc j) p h m = pairwise_at R l k j p.1 (omega arith) (omega arith)
 
   pub distinct-at : (l : List A) (k j : ℕ) → Distinct l → k < length l → j < length l → k ≢ j → get_or l k a ≢ get_or l j a
   distinct-at l k j p h m d = cases (truth (ltb k j))
-      (λ e. pairwise-at ◌≢◌ l k j p (ltb-true k j e) m)
-      (λ e. let g : j < k = omega (arith, ltb-false k j e) in λ q. pairwise-at ◌≢◌ l j k p g h (sym q))
+      (λ e. pairwise_at ◌≢◌ l k j p (ltb-true k j e) m)
+      (λ e. let g : j < k = omega (arith, ltb-false k j e) in λ q. pairwise_at ◌≢◌ l j k p g h (sym q))
 
 -- the member at a place of a list that f made
 pub map_at : {A B : Type 0} (f : A → B) (a : A) (b : B) (l : List A) (k : ℕ) → k < length l → get_or (map f l) k b ≡ f (get_or l k a)

@@ -39,6 +39,7 @@ refuted {b = false} n = refl
 
 module _ {A : Type 0} where
   pub every_in : (p : A → Bool) {x : A} {l : List A} → every p l ≡ true → x ∈ l → p x ≡ true
+  every_in p {l = []} e x6 = elim x6 [ ]
   every_in p {l = y ∷ l} e (Memᴰ.head h) = rw h (both (p y) (every p l) e).0
   every_in p {l = y ∷ l} e (Memᴰ.tail m) = every_in p (both (p y) (every p l) e).1 m
 
@@ -53,11 +54,12 @@ module _ {A : Type 0} where
       (λ h. let r = some_in p l h in (r.0, Memᴰ.tail r.1, r.2))
 
   pub some_of : (p : A → Bool) {x : A} {l : List A} → x ∈ l → p x ≡ true → some p l ≡ true
+  some_of p {l = []} x6 e = elim x6 [ ]
   some_of p {l = y ∷ l} (Memᴰ.head h) e = let t : p y ≡ true = rw (← h) e in cc
   some_of p {l = y ∷ l} (Memᴰ.tail m) e = let t : some p l ≡ true = some_of p m e in rw (t, or-true)
 
-  pub some-not : (p : A → Bool) {x : A} {l : List A} → some p l ≡ false → x ∈ l → p x ≡ false
-  some-not p e m = refuted (λ h. false≢true (sym e ∙ some_of p m h))
+  pub some_not : (p : A → Bool) {x : A} {l : List A} → some p l ≡ false → x ∈ l → p x ≡ false
+  some_not p e m = refuted (λ h. false≢true (sym e ∙ some_of p m h))
 
   -- tests that agree on the members
   pub some_same : (p q : A → Bool) (l : List A) → ((x : A) → x ∈ l → p x ≡ q x) → some p l ≡ some q l
@@ -65,10 +67,10 @@ module _ {A : Type 0} where
   some_same p q (x ∷ l) f = ap₂ ◌||◌ (f x (Memᴰ.head refl)) (some_same p q l (λ y m. f y (Memᴰ.tail m)))
 
   -- some element fails where not all pass
-  pub every-not : (p : A → Bool) (l : List A) → every p l ≡ false → (x : A) × (x ∈ l) × (p x ≡ false)
-  every-not p [] e = absurd (false≢true (sym e))
-  every-not p (y ∷ l) e = cases (truth (p y))
-      (λ h. let r = every-not p l (rw h at e) in (r.0, Memᴰ.tail r.1, r.2))
+  pub every_not : (p : A → Bool) (l : List A) → every p l ≡ false → (x : A) × (x ∈ l) × (p x ≡ false)
+  every_not p [] e = absurd (false≢true (sym e))
+  every_not p (y ∷ l) e = cases (truth (p y))
+      (λ h. let r = every_not p l (rw h at e) in (r.0, Memᴰ.tail r.1, r.2))
       (λ h. (y, Memᴰ.head refl, h))
 
   pub every_append : (p : A → Bool) (l m : List A) → every p (l ++ m) ≡ every p l && every p m

@@ -9,39 +9,39 @@ use lib.ListN.{length}
 use borrow.Author.Tests.{le-leb, leb-true}
 use Rattle.lists.proofs.Tests.{cases, truth}
 use Rattle.fields.specs.Written.{written, Wrote}
-use Rattle.fields.specs.WrittenLaws.{length-written}
+use Rattle.fields.specs.WrittenLaws.{length_written}
 use Rattle.archive_cells.specs.WritingLaws.{wrote_as}
 use Rattle.text_decimals.specs.Decimals.{ascii, decimal}
 use Rattle.fields_walk.specs.Parsed.{Parsed, stop, got}
 use Rattle.archive_entries.specs.Layout.{Held}
-use Rattle.archive_entries.specs.Reading.{readArchive}
+use Rattle.archive_entries.specs.Reading.{read_archive}
 use Rattle.call_answers.specs.declared.Written.{Written}
 use Rattle.call_answers.specs.declared.Written.TheVariants as Write
 use Rattle.call_answers.specs.declared.Checked.TheVariants as Check
 use Rattle.call_answers.specs.Answers.{Outcome, stop as stopped, bytes, within, answer_of, left_of, Answered}
 use Rattle.call_answers.specs.Calls.{builds, counted, checks}
-use Rattle.text_listing.specs.Listing.{listing, heldBy, Accepted}
-use Rattle.program_texts.specs.Programs.{longest, refused, limited, builtText, builder, listedText, lister}
+use Rattle.text_listing.specs.Listing.{listing, held_by, Accepted}
+use Rattle.program_texts.specs.Programs.{longest, refused, limited, built_text, builder, listed_text, lister}
 
 -- ---- the line of a stop, by the parts that are written
-pub refused-is : (n : ℕ) → refused n ≡ (ascii "refused " ++ decimal n) ++ ascii "\n"
+pub refused_is : (n : ℕ) → refused n ≡ (ascii "refused " ++ decimal n) ++ ascii "\n"
 unfolding refused
-refused-is n = sym (append_assoc (ascii "refused ") (decimal n) (ascii "\n"))
+refused_is n = sym (append_assoc (ascii "refused ") (decimal n) (ascii "\n"))
 
 -- ---- an input that is too long, and one that is not
-long-text : (s text : List ℕ) → longest < length s → limited s text ≡ ascii "too long\n"
-long-text s text h = cases (truth (leb (length s) longest)) (λ e. let z = leb-true (length s) longest e in absurd (omega (arith, z))) (λ e. rw e)
+long_text : (s text : List ℕ) → longest < length s → limited s text ≡ ascii "too long\n"
+long_text s text h = cases (truth (leb (length s) longest)) (λ e. let z = leb-true (length s) longest e in absurd (omega (arith, z))) (λ e. rw e)
 
-pub short-text : (s text : List ℕ) → length s ≤ longest → limited s text ≡ text
-short-text s text h = rw (le-leb (length s) longest h)
+pub short_text : (s text : List ℕ) → length s ≤ longest → limited s text ≡ text
+short_text s text h = rw (le-leb (length s) longest h)
 
-pub builder-long : (s : List ℕ) → longest < length s → builder s ≡ ascii "too long\n"
+pub builder_long : (s : List ℕ) → longest < length s → builder s ≡ ascii "too long\n"
 unfolding builder
-builder-long s h = long-text s (builtText (within longest (builds s))) h
+builder_long s h = long_text s (built_text (within longest (builds s))) h
 
-pub lister-long : (s : List ℕ) → longest < length s → lister s ≡ ascii "too long\n"
+pub lister_long : (s : List ℕ) → longest < length s → lister s ≡ ascii "too long\n"
 unfolding lister
-lister-long s h = long-text s (listedText (readArchive s)) h
+lister_long s h = long_text s (listed_text (read_archive s)) h
 
 -- ---- the builder
 
@@ -53,15 +53,15 @@ within-fits room (bytes ys) {xs} e = cases (truth (leb (length ys) room))
     (λ f. let g : stopped 15 ≡ bytes xs = rw f at e in let z : false ≡ true = cc g in absurd (false≢true z))
 
 module _ (s : List ℕ) {l m : List ℕ} (h : length s ≤ longest) (k : length l ≡ longest) {r : Written} (w : Answered (builds s) l m r) where
-  short-builder : builder s ≡ builtText (within (length l) (builds s))
+  short-builder : builder s ≡ built_text (within (length l) (builds s))
   unfolding builder
-  short-builder = short-text s (builtText (within longest (builds s))) h ∙ ap (λ (n : ℕ). builtText (within n (builds s))) (sym k)
+  short-builder = short_text s (built_text (within longest (builds s))) h ∙ ap (λ (n : ℕ). built_text (within n (builds s))) (sym k)
 
   pub builder-refused : {n : ℕ} → r ≡ Write.Stop n → (builder s ≡ refused n) × (m ≡ l)
   builder-refused {n} e = go (within (length l) (builds s)) refl
     where
       go : (o : Outcome) → within (length l) (builds s) ≡ o → (builder s ≡ refused n) × (m ≡ l)
-      go (stopped j) q = let f : Write.Stop j ≡ Write.Stop n = sym (ap answer_of q) ∙ sym w.answer ∙ e in (short-builder ∙ ap builtText q ∙ ap refused (cc f), w.output ∙ ap (λ (p : Outcome). left_of p l) q)
+      go (stopped j) q = let f : Write.Stop j ≡ Write.Stop n = sym (ap answer_of q) ∙ sym w.answer ∙ e in (short-builder ∙ ap built_text q ∙ ap refused (cc f), w.output ∙ ap (λ (p : Outcome). left_of p l) q)
       go (bytes xs) q = let f : Write.Length (length xs) ≡ Write.Stop n = sym (ap answer_of q) ∙ sym w.answer ∙ e in let z : false ≡ true = cc f in absurd (false≢true z)
 
   pub builder-wrote : {n : ℕ} → r ≡ Write.Length n → Wrote (builder s) l m n
@@ -72,29 +72,29 @@ module _ (s : List ℕ) {l m : List ℕ} (h : length s ≤ longest) (k : length 
       go (bytes xs) q =
           let f : Write.Length (length xs) ≡ Write.Length n = sym (ap answer_of q) ∙ sym w.answer ∙ e in
           let g : m ≡ written xs l = w.output ∙ ap (λ (p : Outcome). left_of p l) q in
-          let t : xs ≡ builder s = sym (short-builder ∙ ap builtText q) in
-          wrote_as t (record { count = cc f; same = ap length g ∙ length-written xs l (within-fits (length l) (builds s) q); list = g })
+          let t : xs ≡ builder s = sym (short-builder ∙ ap built_text q) in
+          wrote_as t (record { count = cc f; same = ap length g ∙ length_written xs l (within-fits (length l) (builds s) q); list = g })
 
 -- ---- the lister
-pub lister-short : (s : List ℕ) → length s ≤ longest → lister s ≡ listedText (readArchive s)
+pub lister-short : (s : List ℕ) → length s ≤ longest → lister s ≡ listed_text (read_archive s)
 unfolding lister
-lister-short s h = short-text s (listedText (readArchive s)) h
+lister-short s h = short_text s (listed_text (read_archive s)) h
 
 pub lister-refused : (s : List ℕ) {n : ℕ} → length s ≤ longest → checks s ≡ Check.Stop n → lister s ≡ refused n
 unfolding checks
-lister-refused s {n} h e = lister-short s h ∙ go (readArchive s) e
+lister-refused s {n} h e = lister-short s h ∙ go (read_archive s) e
   where
-    go : (p : Parsed Held) → counted p ≡ Check.Stop n → listedText p ≡ refused n
+    go : (p : Parsed Held) → counted p ≡ Check.Stop n → listed_text p ≡ refused n
     go (stop k) q = ap refused (cc q)
     go (got a rest) q = let z : false ≡ true = cc q in absurd (false≢true z)
 
 pub accepted : (s : List ℕ) {n m : ℕ} → checks s ≡ Check.Entries n m → (d : ℕ) × Accepted s d n m
 unfolding checks
-accepted s {n} {m} e = go (readArchive s) refl e
+accepted s {n} {m} e = go (read_archive s) refl e
   where
-    go : (p : Parsed Held) → readArchive s ≡ p → counted p ≡ Check.Entries n m → (d : ℕ) × Accepted s d n m
+    go : (p : Parsed Held) → read_archive s ≡ p → counted p ≡ Check.Entries n m → (d : ℕ) × Accepted s d n m
     go (stop k) q f = let z : false ≡ true = cc f in absurd (false≢true z)
     go (got a rest) q f = (length a.sizes, record { held = a; rest = rest; read = q; dims = refl; bases = cc f; cells = cc f })
 
-pub lister-listing : (s : List ℕ) {d n m : ℕ} → length s ≤ longest → Accepted s d n m → lister s ≡ listing (heldBy (readArchive s))
+pub lister-listing : (s : List ℕ) {d n m : ℕ} → length s ≤ longest → Accepted s d n m → lister s ≡ listing (held_by (read_archive s))
 lister-listing s h x = lister-short s h ∙ rw x.read

@@ -4,15 +4,15 @@
 --   longest        how many bytes the programs read, and the builder lends
 --   refused n      the line for stop n
 --   limited s t    the text t for an input s that is not too long
---   builtText o    what is printed for the outcome of a build
---   listedText p   what is printed for what was read of an archive
+--   built_text o    what is printed for the outcome of a build
+--   listed_text p   what is printed for what was read of an archive
 --   builder s      what the builder prints for the input s
 --   lister s       what the lister prints for the input s
 use Rattle.std.specs.Prelude.{cond, List, ◌++◌, ℕ, leb, length}
 use Rattle.text_decimals.specs.Decimals.{ascii, decimal}
 use Rattle.fields_walk.specs.Parsed.{Parsed, stop, got}
 use Rattle.archive_entries.specs.Layout.{Held}
-use Rattle.archive_entries.specs.Reading.{readArchive}
+use Rattle.archive_entries.specs.Reading.{read_archive}
 use Rattle.call_answers.specs.Answers.{Outcome, stop as stopped, bytes, within}
 use Rattle.call_answers.specs.Calls.{builds}
 use Rattle.text_listing.specs.Listing.{listing}
@@ -26,16 +26,16 @@ refused n = ascii "refused " ++ (decimal n ++ ascii "\n")
 abbrev pub limited : List ℕ → List ℕ → List ℕ
 limited s text = cond (leb (length s) longest) text (ascii "too long\n")
 
-abbrev pub builtText : Outcome → List ℕ
-builtText (stopped n) = refused n
-builtText (bytes xs) = xs
+abbrev pub built_text : Outcome → List ℕ
+built_text (stopped n) = refused n
+built_text (bytes xs) = xs
 
 unfoldable pub builder : List ℕ → List ℕ
-builder s = limited s (builtText (within longest (builds s)))
+builder s = limited s (built_text (within longest (builds s)))
 
-abbrev pub listedText : Parsed Held → List ℕ
-listedText (stop n) = refused n
-listedText (got a rest) = listing a
+abbrev pub listed_text : Parsed Held → List ℕ
+listed_text (stop n) = refused n
+listed_text (got a rest) = listing a
 
 unfoldable pub lister : List ℕ → List ℕ
-lister s = limited s (listedText (readArchive s))
+lister s = limited s (listed_text (read_archive s))

@@ -14,49 +14,49 @@ use Rattle.fields_walk.specs.Parsed.{got}
 use Rattle.fields_walk.specs.Limits.{Bytes}
 use Rattle.cube.specs.Measure.{codes_of}
 use Rattle.cube.specs.Codes.{agree, plain}
-use Rattle.cube.specs.Keys.{key, leastKeys, dimension}
+use Rattle.cube.specs.Keys.{key, least_keys, dimension}
 use Rattle.cube.proofs.Promises as theory
 use Rattle.archive_entries.specs.Layout.{Held}
-use Rattle.archive_entries.specs.Reading.{readArchive, rowsIn}
-use Rattle.archive_cells.specs.ListBytes.{listBytes}
+use Rattle.archive_entries.specs.Reading.{read_archive, rows_in}
+use Rattle.archive_cells.specs.ListBytes.{list_bytes}
 use Rattle.call_answers.specs.declared.Fixed.TheVariants.{Yes}
 use Rattle.call_answers.specs.declared.Written.TheVariants.{Length}
 use Rattle.call_answers.specs.Answers.{bytes, Answered}
-use Rattle.call_answers.specs.Keys.{listsKeys, tellsFixed}
+use Rattle.call_answers.specs.Keys.{lists_keys, tells_fixed}
 use Rattle.call_answers.proofs.Answers.{answered-bytes}
 use Rattle.call_answers.proofs.Keys as keyed
 use Rattle.promises.proofs.Promises.{rows-base}
 
-module _ (s : List ℕ) (a : Held) (b : Bytes s) (e : readArchive s ≡ got a []) where
+module _ (s : List ℕ) (a : Held) (b : Bytes s) (e : read_archive s ≡ got a []) where
   -- its dimensions
   abbrev d : ℕ
   d = length a.sizes
 
   -- the codes of its base rows
   abbrev codes : List (List ℕ)
-  codes = codes_of (rowsIn a)
+  codes = codes_of (rows_in a)
 
   -- The one call lists the smallest keys, how many there are, then their set numbers
-  pub keys-listed : listsKeys s ≡ bytes (listBytes (leastKeys (plain d) codes))
+  pub keys-listed : lists_keys s ≡ bytes (list_bytes (least_keys (plain d) codes))
   keys-listed = keyed.keys-listed s a b e
 
   -- in lattice order (the fields that it wrote are these):
-  pub keys-read : {n : ℕ} {l m : List ℕ} → Answered (listsKeys s) l m (Length n) → words (take n m) ≡ length (leastKeys (plain d) codes) ∷ leastKeys (plain d) codes
+  pub keys-read : {n : ℕ} {l m : List ℕ} → Answered (lists_keys s) l m (Length n) → words (take n m) ≡ length (least_keys (plain d) codes) ∷ least_keys (plain d) codes
   keys-read {n} {l} {m} w =
-      let x : bytes (listBytes (leastKeys (plain d) codes)) ≡ bytes (take n m) = sym keys-listed ∙ answered-bytes w in
-      let y : take n m ≡ listBytes (leastKeys (plain d) codes) = cc x in
+      let x : bytes (list_bytes (least_keys (plain d) codes)) ≡ bytes (take n m) = sym keys-listed ∙ answered-bytes w in
+      let y : take n m ≡ list_bytes (least_keys (plain d) codes) = cc x in
       ap words y ∙ keyed.keys-words s a b e
 
-  pub keys-order : Rising before (leastKeys (plain d) codes)
+  pub keys-order : Rising before (least_keys (plain d) codes)
   keys-order = theory.keys-order d codes (rows-base s a b e)
 
   -- each key that holds no other key, and nothing else;
-  pub keys-smallest : (m : ℕ) → (m ∈ leastKeys (plain d) codes) ↔ ((m ∈ sets d) × (key (plain d) codes m ≡ true) × ((t : ℕ) → t ∈ sets d → key (plain d) codes t ≡ true → holds d m t ≡ true → t ≡ m))
+  pub keys-smallest : (m : ℕ) → (m ∈ least_keys (plain d) codes) ↔ ((m ∈ sets d) × (key (plain d) codes m ≡ true) × ((t : ℕ) → t ∈ sets d → key (plain d) codes t ≡ true → holds d m t ≡ true → t ≡ m))
   keys-smallest = theory.smallest-keys d codes (rows-base s a b e)
 
   -- with no base row or one, the empty set alone.
-  pub keys-of-few : length (rowsIn a) ≤ 1 → listsKeys s ≡ bytes (listBytes (0 ∷ []))
-  keys-of-few = keyed.keys-of-few s a b e
+  pub keys_of_few : length (rows_in a) ≤ 1 → lists_keys s ≡ bytes (list_bytes (0 ∷ []))
+  keys_of_few = keyed.keys_of_few s a b e
 
   -- The full set is always a key.
   pub full-key : key (plain d) codes (full d) ≡ true
@@ -65,20 +65,20 @@ module _ (s : List ℕ) (a : Held) (b : Bytes s) (e : readArchive s ≡ got a []
   module _ {set : ℕ} (h : set < 2 ^ d) where
     -- A set is a key just if no two base rows agree on it,
     pub key_apart : (key (plain d) codes set ≡ true) ↔ ((x y : List ℕ) → x ∈ codes → y ∈ codes → x ≢ y → agree set x y ≡ false)
-    key_apart = theory.key-iff d codes (rows-base s a b e) set
+    key_apart = theory.key_iff d codes (rows-base s a b e) set
 
     -- just if it holds a listed one,
-    pub key-holds : (key (plain d) codes set ≡ true) ↔ ((m : ℕ) × (m ∈ leastKeys (plain d) codes) × (holds d set m ≡ true))
+    pub key-holds : (key (plain d) codes set ≡ true) ↔ ((m : ℕ) × (m ∈ least_keys (plain d) codes) × (holds d set m ≡ true))
     key-holds = theory.key-holds d codes (rows-base s a b e) (sets_of d h)
 
     -- and just if the other call says yes for every dimension.
-    pub key-fixes : (key (plain d) codes set ≡ true) ↔ ((i : ℕ) → 1 ≤ i → i ≤ d → tellsFixed s set i ≡ Yes)
+    pub key-fixes : (key (plain d) codes set ≡ true) ↔ ((i : ℕ) → 1 ≤ i → i ≤ d → tells_fixed s set i ≡ Yes)
     key-fixes = keyed.key-fixes s a b e h
 
     -- It says yes just if base rows that agree on the set agree on the dimension,
-    pub fixes-yes : (i : ℕ) → 1 ≤ i → i ≤ d → (tellsFixed s set i ≡ Yes) ↔ ((x y : List ℕ) → x ∈ codes → y ∈ codes → agree set x y ≡ true → agree (dimension i) x y ≡ true)
-    fixes-yes = keyed.fixes-yes s a b e h
+    pub fixes_yes : (i : ℕ) → 1 ≤ i → i ≤ d → (tells_fixed s set i ≡ Yes) ↔ ((x y : List ℕ) → x ∈ codes → y ∈ codes → agree set x y ≡ true → agree (dimension i) x y ≡ true)
+    fixes_yes = keyed.fixes_yes s a b e h
 
     -- and so for each of the set's own dimensions.
-    pub fixes-own : (i : ℕ) → 1 ≤ i → i ≤ d → holds d set (dimension i) ≡ true → tellsFixed s set i ≡ Yes
+    pub fixes-own : (i : ℕ) → 1 ≤ i → i ≤ d → holds d set (dimension i) ≡ true → tells_fixed s set i ≡ Yes
     fixes-own = keyed.fixes-own s a b e h

@@ -18,17 +18,17 @@ use Rattle.cube.specs.Codes.{plain}
 use Rattle.cube.specs.Cube.{filled}
 use Rattle.cube.specs.Condensed.{listed, normals}
 use Rattle.archive_entries.specs.Layout.{Based, based, Held, required}
-use Rattle.archive_entries.specs.Reading.{amount, walkArchive, rowsIn, readArchive}
+use Rattle.archive_entries.specs.Reading.{amount, walk_archive, rows_in, read_archive}
 use Rattle.archive_entries.proofs.Stops as stops
 
 -- Where a base entry's sum z and count n stand, behind entries whose counts are `before` in all: it stops with 8 just if the count is 0, or no n readings make the sum, or the total count passes 1,048,576.
-pub eight-just-if : (before : ℕ) (l : List ℕ) {z : ℤ} {n : ℕ} {rest end : List ℕ} → sum l ≡ got z rest → word rest ≡ got n end
+pub eight_just_if : (before : ℕ) (l : List ℕ) {z : ℤ} {n : ℕ} {rest end : List ℕ} → sum l ≡ got z rest → word rest ≡ got n end
     → (amount before l ≡ stop 8) ↔ ((n ≡ 0) ⊎ (((zs : List ℤ) → Make zs (record { sum = z; count = n }) → ⊥) ⊎ (1048576 < before + n)))
-eight-just-if = stops.eight-iff
+eight_just_if = stops.eight_iff
 
 -- Bytes that pass stops 1 to 11 stop with 12 just if their lists and normal entries are not those that their sizes and base rows require.
-pub twelve-just-if : (s : List ℕ) (a : Held) → Bytes s → walkArchive s ≡ got a [] → (readArchive s ≡ stop 12) ↔ (a ≢ required a.sizes (rowsIn a))
-twelve-just-if s a = stops.twelve-iff s a []
+pub twelve_just_if : (s : List ℕ) (a : Held) → Bytes s → walk_archive s ≡ got a [] → (read_archive s ≡ stop 12) ↔ (a ≢ required a.sizes (rows_in a))
+twelve_just_if s a = stops.twelve_iff s a []
 
 -- These are: for each base row the list of the smallest sets on which it is single, and the normal cells with their sums and counts.
 module _ (a : Held) where
@@ -36,13 +36,13 @@ module _ (a : Held) where
   d = length a.sizes
 
   abbrev rows : List (Row Total)
-  rows = rowsIn a
+  rows = rows_in a
 
   abbrev Lists : Type 0
   Lists = (b : Based) → b ∈ a.bases → b.list ≡ listed (plain d) (codes_of rows) b.row.codes
 
-  abbrev ourCells : List (Row Total)
-  ourCells = map (filled (plain d) sums rows) (normals (plain d) (codes_of rows))
+  abbrev our_cells : List (Row Total)
+  our_cells = map (filled (plain d) sums rows) (normals (plain d) (codes_of rows))
 
   lists-required : a ≡ required a.sizes rows → Lists
   unfolding required
@@ -56,9 +56,9 @@ module _ (a : Held) where
       ∙ map_same (λ b. based d rows b.row) (λ b. b) a.bases (λ b m i. record { row = b.row; list = sym (h b m) i })
       ∙ map-id a.bases)
 
-  pub required-iff : (a ≡ required a.sizes rows) ↔ (Lists × (a.cells ≡ ourCells))
+  pub required_iff : (a ≡ required a.sizes rows) ↔ (Lists × (a.cells ≡ our_cells))
   unfolding required
-  required-iff = (
+  required_iff = (
     λ e. (lists-required e, ap (λ (h : Held). h.cells) e),
     λ p i. record { sizes = a.sizes; bases = bases-ours p.0 i; cells = p.1 i },
   )

@@ -10,17 +10,17 @@ use lib.Signed.{mag}
 use lib.ListN.{length, get_or, take, drop, set, take-append-drop, length-set}
 use lib.Seq.{drop-drop, get_or-take, get_or-drop, get_or-set_same, get_or-set_other, take-set-le, take-take, take_at, drop_at, length-take-le}
 use borrow.Rule.Slice.PartMut.{put_mid}
-use Rattle.fields_sums.specs.Twos.{sumOf, lowOf, high_of}
+use Rattle.fields_sums.specs.Twos.{sum_of, low_of, high_of}
 use Rattle.fields_sums.specs.TwosLaws.{sum-words}
 use Rattle.cube.specs.declared.Total.{Total}
 use Rattle.cube.specs.Measure.{Row, nothing}
-use Rattle.rows.specs.Rows.{width, row_of, cut, row_at, rows_of, rowTotal}
+use Rattle.rows.specs.Rows.{width, row_of, cut, row_at, rows_of, row_total}
 use Rattle.rows.proofs.Rows.{row_within, row-at}
 use Rattle.lists.proofs.Parts.{part-front}
 
 -- the words of the row at a place
-abbrev pub wordsOf : ℕ → List ℕ → ℕ → List ℕ
-wordsOf d ws i = take (width d) (drop (i * width d) ws)
+abbrev pub words_of : ℕ → List ℕ → ℕ → List ℕ
+words_of d ws i = take (width d) (drop (i * width d) ws)
 
 -- the row at a place of a flat list
 abbrev pub placed : ℕ → List ℕ → ℕ → Row Total
@@ -30,8 +30,8 @@ placed d ws i = row_of d (drop (i * width d) ws)
 abbrev pub blank : Row Total
 blank = record { codes = []; total = nothing }
 
-placed-next : (d i : ℕ) (ws : List ℕ) → placed d (drop (width d) ws) i ≡ placed d ws (suc i)
-placed-next d i ws = ap (row_of d) (simp (drop-drop, suc-mul, add_comm (width d) (i * width d)))
+placed_next : (d i : ℕ) (ws : List ℕ) → placed d (drop (width d) ws) i ≡ placed d ws (suc i)
+placed_next d i ws = ap (row_of d) (simp (drop-drop, suc-mul, add_comm (width d) (i * width d)))
 
 pub rows-length : (d n : ℕ) (ws : List ℕ) → length (rows_of d n ws) ≡ n
 unfolding rows_of
@@ -42,10 +42,10 @@ pub rows_at : (d n i : ℕ) (ws : List ℕ) → i < n → get_or (rows_of d n ws
 unfolding rows_of
 rows_at d zero i ws h = absurd (not-suc-le-zero h)
 rows_at d (suc n) zero ws h = simp zero-mul
-rows_at d (suc n) (suc i) ws h = rows_at d n i (drop (width d) ws) (le_of_suc-le-suc h) ∙ placed-next d i ws
+rows_at d (suc n) (suc i) ws h = rows_at d n i (drop (width d) ws) (le_of_suc-le-suc h) ∙ placed_next d i ws
 
-pub total-at : (d n i : ℕ) (ws : List ℕ) → i < n → rowTotal d n ws i ≡ (placed d ws i).total
-unfolding rowTotal
+pub total-at : (d n i : ℕ) (ws : List ℕ) → i < n → row_total d n ws i ≡ (placed d ws i).total
+unfolding row_total
 total-at d n i ws h = ap (λ (r : Row Total). r.total) (rows_at d n i ws h)
 
 -- one row more
@@ -54,10 +54,10 @@ unfolding rows_of
 rows_more d zero ws = simp zero-mul
 rows_more d (suc n) ws =
     ap (λ (l : List (Row Total)). row_of d ws ∷ l)
-    (rows_more d n (drop (width d) ws) ∙ ap (λ (r : Row Total). rows_of d n (drop (width d) ws) ++ r ∷ []) (placed-next d n ws))
+    (rows_more d n (drop (width d) ws) ∙ ap (λ (r : Row Total). rows_of d n (drop (width d) ws) ++ r ∷ []) (placed_next d n ws))
 
 -- the codes and the total of a row by its words
-pub row_words : (d n i : ℕ) (ws : List ℕ) → i < n → take d (wordsOf d ws i) ≡ row_at (cut d n ws) i
+pub row_words : (d n i : ℕ) (ws : List ℕ) → i < n → take d (words_of d ws i) ≡ row_at (cut d n ws) i
 row_words d n i ws h = take-take d (width d) (drop (i * width d) ws) (omega arith) ∙ sym (row-at d n i ws h)
 
 word_in : (d k : ℕ) (l : List ℕ) → k < 3 → get_or (take (width d) l) (d + k) 0 ≡ get_or (drop d l) k 0
@@ -67,7 +67,7 @@ word_first : (d : ℕ) (l : List ℕ) → get_or (take (width d) l) d 0 ≡ get_
 word_first d l = ap (λ (k : ℕ). get_or (take (width d) l) k 0) (sym (add-zero d)) ∙ word_in d 0 l (omega arith)
 
 pub total-words : (d n i : ℕ) (ws : List ℕ) → i < n
-    → record { sum = sumOf (get_or (wordsOf d ws i) d 0) (get_or (wordsOf d ws i) (d + 1) 0); count = get_or (wordsOf d ws i) (d + 2) 0 } ≡ rowTotal d n ws i
+    → record { sum = sum_of (get_or (words_of d ws i) d 0) (get_or (words_of d ws i) (d + 1) 0); count = get_or (words_of d ws i) (d + 2) 0 } ≡ row_total d n ws i
 total-words d n i ws h =
     let l = drop (i * width d) ws in
     rw (word_first d l, word_in d 1 l (omega arith), word_in d 2 l (omega arith)) (sym (total-at d n i ws h))
@@ -79,7 +79,7 @@ back-words d k l h = get_or-drop d (take (width d) l) k 0 ∙ word_in d k l h
 pub row-front : (d : ℕ) (l : List ℕ) → row_of d (take (width d) l) ≡ row_of d l
 row-front d l =
     let f = take-take d (width d) l (omega arith) in
-    let p = ap₂ sumOf (back-words d 0 l (omega arith)) (back-words d 1 l (omega arith)) in
+    let p = ap₂ sum_of (back-words d 0 l (omega arith)) (back-words d 1 l (omega arith)) in
     let q = back-words d 2 l (omega arith) in
     λ j. record { codes = f j; total = record { sum = p j; count = q j } }
 
@@ -101,36 +101,36 @@ module _ (d k : ℕ) (ws m : List ℕ) (e : length m ≡ width d) (h : k * width
   front = length-take-le (k * width d) ws (omega (arith, h))
 
   -- the rows before it are as they were
-  put-before : (i : ℕ) → i < k → placed d over i ≡ placed d ws i
-  put-before i l =
+  put_before : (i : ℕ) → i < k → placed d over i ≡ placed d ws i
+  put_before i l =
       let w : i * width d + width d ≤ length (take (k * width d) ws) = rw front (row_within (width d) k i l) in
-      let same : wordsOf d over i ≡ wordsOf d ws i =
+      let same : words_of d over i ≡ words_of d ws i =
       part-front (take (k * width d) ws) (m ++ drop (width d) (drop (k * width d) ws)) (i * width d) (width d) w
       ∙ sym (part-front (take (k * width d) ws) (drop (k * width d) ws) (i * width d) (width d) w)
-      ∙ ap (λ (l : List ℕ). wordsOf d l i) (take-append-drop (k * width d) ws) in
+      ∙ ap (λ (l : List ℕ). words_of d l i) (take-append-drop (k * width d) ws) in
       sym (row-front d (drop (i * width d) over)) ∙ ap (row_of d) same ∙ row-front d (drop (i * width d) ws)
 
-  put-here : placed d over k ≡ row_of d m
-  put-here =
+  put_here : placed d over k ≡ row_of d m
+  put_here =
       let rest = drop (width d) (drop (k * width d) ws) in
       ap (row_of d) (drop_at (take (k * width d) ws) (m ++ rest) (k * width d) front)
       ∙ sym (row-front d (m ++ rest)) ∙ ap (row_of d) (take_at m rest (width d) e)
 
-  rows-put : rows_of d (suc k) over ≡ rows_of d k ws ++ row_of d m ∷ []
-  rows-put =
-      rows_more d k over ∙ ap₂ (λ (l : List (Row Total)) (r : Row Total). l ++ r ∷ []) (rows_same d k over ws put-before) put-here
+  rows_put : rows_of d (suc k) over ≡ rows_of d k ws ++ row_of d m ∷ []
+  rows_put =
+      rows_more d k over ∙ ap₂ (λ (l : List (Row Total)) (r : Row Total). l ++ r ∷ []) (rows_same d k over ws put_before) put_here
 
 -- the same of the part that row k has
 pub row-stored : (d k : ℕ) (ws m : List ℕ) → length m ≡ width d → k * width d + width d ≤ length ws
     → rows_of d (k + 1) (put_mid (k * width d) (k * width d + width d - k * width d) ws m) ≡ rows_of d k ws ++ row_of d m ∷ []
 row-stored d k ws m e h =
     let w : k * width d + width d - k * width d ≡ width d = omega arith in
-    rw (w, add-one) (rows-put d k ws m e h)
+    rw (w, add-one) (rows_put d k ws m e h)
 
 -- A total written behind the d codes of a row.
 module _ (d : ℕ) (l : List ℕ) (z : ℤ) (n : ℕ) (e : length l ≡ width d) where
   abbrev low : List ℕ
-  low = set l d (lowOf z)
+  low = set l d (low_of z)
 
   abbrev high : List ℕ
   high = set low (d + 1) (high_of z)
@@ -138,24 +138,24 @@ module _ (d : ℕ) (l : List ℕ) (z : ℤ) (n : ℕ) (e : length l ≡ width d)
   abbrev written : List ℕ
   written = set high (d + 2) n
 
-  codes-kept : take d written ≡ take d l
-  codes-kept =
-      take-set-le d high (d + 2) n (omega arith) ∙ take-set-le d low (d + 1) (high_of z) (omega arith) ∙ take-set-le d l d (lowOf z) (omega arith)
+  codes_kept : take d written ≡ take d l
+  codes_kept =
+      take-set-le d high (d + 2) n (omega arith) ∙ take-set-le d low (d + 1) (high_of z) (omega arith) ∙ take-set-le d l d (low_of z) (omega arith)
 
-  low-there : get_or (drop d written) 0 0 ≡ lowOf z
-  low-there =
+  low_there : get_or (drop d written) 0 0 ≡ low_of z
+  low_there =
       get_or-drop d written 0 0 ∙ ap (λ (k : ℕ). get_or written k 0) (add-zero d)
-      ∙ get_or-set_other high (d + 2) d n 0 (λ g. omega (arith, g)) ∙ get_or-set_other low (d + 1) d (high_of z) 0 (λ g. omega (arith, g)) ∙ get_or-set_same l d (lowOf z) 0 (omega (arith, e))
+      ∙ get_or-set_other high (d + 2) d n 0 (λ g. omega (arith, g)) ∙ get_or-set_other low (d + 1) d (high_of z) 0 (λ g. omega (arith, g)) ∙ get_or-set_same l d (low_of z) 0 (omega (arith, e))
 
-  high-there : get_or (drop d written) 1 0 ≡ high_of z
-  high-there =
+  high_there : get_or (drop d written) 1 0 ≡ high_of z
+  high_there =
       get_or-drop d written 1 0 ∙ get_or-set_other high (d + 2) (d + 1) n 0 (λ g. omega (arith, g))
       ∙ get_or-set_same low (d + 1) (high_of z) 0 (simp length-set (omega (arith, e)))
 
-  count-there : get_or (drop d written) 2 0 ≡ n
-  count-there = get_or-drop d written 2 0 ∙ get_or-set_same high (d + 2) n 0 (simp length-set (omega (arith, e)))
+  count_there : get_or (drop d written) 2 0 ≡ n
+  count_there = get_or-drop d written 2 0 ∙ get_or-set_same high (d + 2) n 0 (simp length-set (omega (arith, e)))
 
-  pub total-put : mag z < 2 ^ 63 → row_of d written ≡ record { codes = take d l; total = record { sum = z; count = n } }
-  total-put h =
-      let s = ap₂ sumOf low-there high-there ∙ sum-words z h in
-      λ j. record { codes = codes-kept j; total = record { sum = s j; count = count-there j } }
+  pub total_put : mag z < 2 ^ 63 → row_of d written ≡ record { codes = take d l; total = record { sum = z; count = n } }
+  total_put h =
+      let s = ap₂ sum_of low_there high_there ∙ sum-words z h in
+      λ j. record { codes = codes_kept j; total = record { sum = s j; count = count_there j } }

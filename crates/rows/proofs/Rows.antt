@@ -14,8 +14,8 @@ pub row_within : (w n i : ℕ) → i < n → i * w + w ≤ n * w
 row_within w n i h = rw (← suc-mul i w) (mul-le-mul_right w h)
 
 -- as many rows as an archive can have, of as many codes, have room in 11,264 words
-pub rows-small : (d n : ℕ) → d ≤ 8 → n ≤ 1024 → n * width d ≤ 11264
-rows-small d n h k =
+pub rows_small : (d n : ℕ) → d ≤ 8 → n ≤ 1024 → n * width d ≤ 11264
+rows_small d n h k =
     let wide : width d ≤ 11 = omega (arith, h) in
     let all = mul-le-mul k wide in
     omega (arith, all)

@@ -1,6 +1,6 @@
 // Rows in one flat slice of words: row i of `dims` codes starts at i * (dims + 3); its codes, the low and the high word of its sum, its count.
 ghost use Rattle.std.specs.Prelude.{◌≡◌, ◌*◌, ◌<◌, length, take, drop};
-ghost use Rattle.rows.specs.Rows.{width, row_of, cut, row_at, rowTotal};
+ghost use Rattle.rows.specs.Rows.{width, row_of, cut, row_at, row_total};
 
 use cube::Total;
 
@@ -33,7 +33,7 @@ pub fn row_of(rows: &[u32], n: usize, dims: usize, row: usize) -> &[u32]
 // The total of a row.
 pub fn total_at(rows: &[u32], n: usize, dims: usize, row: usize) -> Total
     requires { (n * width dims ≡ length rows.now) × (row < n) }
-    ensures { result ≡ rowTotal dims n rows.now row }
+    ensures { result ≡ row_total dims n rows.now row }
 {
     let words = words_of(rows, n, dims, row);
     let sum = fields_sums::sum_of(words[dims], words[dims + 1]);

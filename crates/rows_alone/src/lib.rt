@@ -3,12 +3,12 @@ ghost use Rattle.std.specs.Prelude.{◌≡◌, ◌||◌, ℕ, ◌≤◌, ◌<◌
 ghost use Rattle.lists.specs.Lists.{some};
 ghost use Rattle.rows_bits.specs.Rowsets.{has as has_row};
 ghost use Rattle.rows_deals.specs.Deals.{Names};
-ghost use Rattle.rows_alone.specs.Alone.{wordsOf, passes, Stored};
+ghost use Rattle.rows_alone.specs.Alone.{words_of, passes, Stored};
 
 // The words of a set.
 fn words_of<'a>(alone: &'a [u32], set: usize) -> &'a [u32]
     requires { (8192 ≤ length alone.now) × (set < 256) }
-    ensures { result.now ≡ wordsOf alone.now set }
+    ensures { result.now ≡ words_of alone.now set }
 {
     let from = set * 32;
     let to = from + 32;

@@ -23,27 +23,27 @@ bit w i = eqb (w / 2 ^ i % 2) 1
 
 -- ---- the bits of two words
 
-max-one : (a b : ℕ) → a < 2 → b < 2 → eqb (max a b) 1 ≡ eqb a 1 || eqb b 1
-max-one zero b h k = let e : max 0 b ≡ b = omega arith in ap (λ (z : ℕ). eqb z 1) e
-max-one (suc a) b h k = eq-eqb (max (suc a) b) 1 (omega (arith, h, k)) ∙ sym (ap (λ (t : Bool). t || eqb b 1) (eq-eqb (suc a) 1 (omega (arith, h))))
+max_one : (a b : ℕ) → a < 2 → b < 2 → eqb (max a b) 1 ≡ eqb a 1 || eqb b 1
+max_one zero b h k = let e : max 0 b ≡ b = omega arith in ap (λ (z : ℕ). eqb z 1) e
+max_one (suc a) b h k = eq-eqb (max (suc a) b) 1 (omega (arith, h, k)) ∙ sym (ap (λ (t : Bool). t || eqb b 1) (eq-eqb (suc a) 1 (omega (arith, h))))
 
 bit-or : (v w i : ℕ) → bit (bit_or v w) i ≡ bit v i || bit w i
 bit-or v w i =
     let a = v / 2 ^ i in
     let b = w / 2 ^ i in
     let last : bit_or a b % 2 ≡ max (a % 2) (b % 2) = omega (arith, or_step a b) in
-    ap (λ (z : ℕ). eqb (z % 2) 1) (or_shr v w i) ∙ ap (λ (z : ℕ). eqb z 1) last ∙ max-one (a % 2) (b % 2) (omega arith) (omega arith)
+    ap (λ (z : ℕ). eqb (z % 2) 1) (or_shr v w i) ∙ ap (λ (z : ℕ). eqb z 1) last ∙ max_one (a % 2) (b % 2) (omega arith) (omega arith)
 
 -- ---- a word of one bit
 
-bit-power : (k i : ℕ) → bit (2 ^ k) i ≡ eqb k i
-bit-power zero zero = refl
-bit-power zero (suc i) = ap (λ (z : ℕ). eqb (z % 2) 1) (div-eq_of_lt {n = 2 ^ 0} {m = 2 ^ suc i} (omega (arith, pow-suc 2 i, pow_pos i))) ∙ sym (ne_eqb 0 (suc i) (λ e. omega (arith, e)))
-bit-power (suc k) zero = ne_eqb (2 ^ suc k / 2 ^ 0 % 2) 1 (λ e. omega (arith, e, pow-suc 2 k)) ∙ sym (ne_eqb (suc k) 0 (λ e. omega (arith, e)))
-bit-power (suc k) (suc i) =
+bit_power : (k i : ℕ) → bit (2 ^ k) i ≡ eqb k i
+bit_power zero zero = refl
+bit_power zero (suc i) = ap (λ (z : ℕ). eqb (z % 2) 1) (div-eq_of_lt {n = 2 ^ 0} {m = 2 ^ suc i} (omega (arith, pow-suc 2 i, pow_pos i))) ∙ sym (ne_eqb 0 (suc i) (λ e. omega (arith, e)))
+bit_power (suc k) zero = ne_eqb (2 ^ suc k / 2 ^ 0 % 2) 1 (λ e. omega (arith, e, pow-suc 2 k)) ∙ sym (ne_eqb (suc k) 0 (λ e. omega (arith, e)))
+bit_power (suc k) (suc i) =
     let half : 2 ^ suc k / 2 ≡ 2 ^ k = omega (arith, pow-suc 2 k) in
     ap (λ (z : ℕ). eqb (z % 2) 1) (ap (λ (z : ℕ). 2 ^ suc k / 2 ^ z) (omega arith) ∙ sym (shr-shr (2 ^ suc k) 1 i) ∙ ap (λ (z : ℕ). z / 2 ^ i) half)
-    ∙ bit-power k i ∙ sym (eqb-suc-suc k i)
+    ∙ bit_power k i ∙ sym (eqb-suc-suc k i)
 
 -- ---- sets of rows
 
@@ -63,7 +63,7 @@ module _ (words : List ℕ) (row : ℕ) (size : length words ≡ 32) (h : row < 
 
   -- in the word of the row that bit is its own
   same_word : (x : ℕ) → x / 32 ≡ row / 32 → bit (1 * 2 ^ (row % 32) % 2 ^ 32) (x % 32) ≡ eqb row x
-  same_word x e = ap (λ (w : ℕ). bit w (x % 32)) one ∙ bit-power (row % 32) (x % 32) ∙ cases (truth (eqb row x))
+  same_word x e = ap (λ (w : ℕ). bit w (x % 32)) one ∙ bit_power (row % 32) (x % 32) ∙ cases (truth (eqb row x))
       (λ t. eq-eqb (row % 32) (x % 32) (omega (arith, eqb-true row x t)) ∙ sym t)
       (λ t. ne_eqb (row % 32) (x % 32) (λ q. eqb-false row x t (omega (arith, e, q))) ∙ sym t)
 
@@ -86,12 +86,12 @@ pub record Joining (words others l : List ℕ) (i : ℕ) : Type 0 where
   pub left : (k : ℕ) → i ≤ k → get_or l k 0 ≡ get_or words k 0
 
 module _ {words others : List ℕ} (size : length words ≡ 32) where
-  pub joining-start : Joining words others words 0
-  joining-start = record { below = omega arith; size = size; done = λ k h. absurd (omega (arith, h)); left = λ k h. refl }
+  pub joining_start : Joining words others words 0
+  joining_start = record { below = omega arith; size = size; done = λ k h. absurd (omega (arith, h)); left = λ k h. refl }
 
   module _ {l : List ℕ} {i : ℕ} (j : Joining words others l i) where
-    pub joining-more : i < 32 → Joining words others (set l i (bit_or (get_or l i 0) (get_or others i 0))) (i + 1)
-    joining-more h =
+    pub joining_more : i < 32 → Joining words others (set l i (bit_or (get_or l i 0) (get_or others i 0))) (i + 1)
+    joining_more h =
         let word = bit_or (get_or l i 0) (get_or others i 0) in
         record {
           below = omega (arith, h);
@@ -102,8 +102,8 @@ module _ {words others : List ℕ} (size : length words ≡ 32) where
           left = λ k m. let n : k ≢ i = λ e. omega (arith, e, m) in get_or-set_other l i k word 0 n ∙ j.left k (omega (arith, m));
         }
 
-    pub joining-done : length others ≡ 32 → 32 ≤ i → (x : ℕ) → has l x ≡ has words x || has others x
-    joining-done rest h x =
+    pub joining_done : length others ≡ 32 → 32 ≤ i → (x : ℕ) → has l x ≡ has words x || has others x
+    joining_done rest h x =
         let k = x / 32 in
         let word : get_or l k 0 ≡ bit_or (get_or words k 0) (get_or others k 0) = cases (truth (ltb k 32))
         (λ t. j.done k (omega (arith, ltb-true k 32 t, h)))
@@ -120,10 +120,10 @@ or-none (suc v) w =
     ne_eqb (bit_or (suc v) w) 0 (λ e. omega (arith, e, or_add_and (suc v) w, and_le_r (suc v) w))
     ∙ sym (ap (λ (b : Bool). b && (eqb 0 w && true)) (ne_eqb (suc v) 0 (λ e. omega (arith, e))))
 
-words-zero : (words : List ℕ) → every (eqb 0) words ≡ true → (i : ℕ) → get_or words i 0 ≡ 0
-words-zero [] e i = refl
-words-zero (w ∷ words) e zero = sym (eqb-true 0 w (both (eqb 0 w) (every (eqb 0) words) e).0)
-words-zero (w ∷ words) e (suc i) = words-zero words (both (eqb 0 w) (every (eqb 0) words) e).1 i
+words_zero : (words : List ℕ) → every (eqb 0) words ≡ true → (i : ℕ) → get_or words i 0 ≡ 0
+words_zero [] e i = refl
+words_zero (w ∷ words) e zero = sym (eqb-true 0 w (both (eqb 0 w) (every (eqb 0) words) e).0)
+words_zero (w ∷ words) e (suc i) = words_zero words (both (eqb 0 w) (every (eqb 0) words) e).1 i
 
 module _ (words : List ℕ) where
   pub empty-start : eqb 0 0 ≡ empty (take 0 words)
@@ -143,4 +143,4 @@ module _ (words : List ℕ) where
 
   pub empty-none : empty words ≡ true → (x : ℕ) → has words x ≡ false
   unfolding empty
-  empty-none e = has-none words (words-zero words e)
+  empty-none e = has-none words (words_zero words e)

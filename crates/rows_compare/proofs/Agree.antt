@@ -21,8 +21,8 @@ module _ (set : ℕ) (xs ys : List ℕ) (i : ℕ) (h : i < length xs) (k : i < l
   agree-more : agree set (drop i xs) (drop i ys) ≡ alike (set % 2) (get_or xs i 0) (get_or ys i 0) && agree (set / 2) (drop (i + 1) xs) (drop (i + 1) ys)
   agree-more = rw (add-one, drop-cons xs i 0, drop-cons ys i 0)
 
-  pub agree-skip : alike (set % 2) (get_or xs i 0) (get_or ys i 0) ≡ true → agree (set / 2) (drop (i + 1) xs) (drop (i + 1) ys) ≡ agree set (drop i xs) (drop i ys)
-  agree-skip e = rw (agree-more, e)
+  pub agree_skip : alike (set % 2) (get_or xs i 0) (get_or ys i 0) ≡ true → agree (set / 2) (drop (i + 1) xs) (drop (i + 1) ys) ≡ agree set (drop i xs) (drop i ys)
+  agree_skip e = rw (agree-more, e)
 
   pub agree-stop : alike (set % 2) (get_or xs i 0) (get_or ys i 0) ≡ false → agree set (drop i xs) (drop i ys) ≡ false
   agree-stop e = rw (agree-more, e)

@@ -21,19 +21,19 @@ further k (Before i) = Before (k + i)
 further k Equal = Equal
 further k (After i) = After (k + i)
 
-further-next : (k : ℕ) (p : Order) → further (suc k) p ≡ further k (next p)
-further-next k (Before i) = let e : suc k + i ≡ k + suc i = omega arith in ap Before e
-further-next k Equal = refl
-further-next k (After i) = let e : suc k + i ≡ k + suc i = omega arith in ap After e
+further_next : (k : ℕ) (p : Order) → further (suc k) p ≡ further k (next p)
+further_next k (Before i) = let e : suc k + i ≡ k + suc i = omega arith in ap Before e
+further_next k Equal = refl
+further_next k (After i) = let e : suc k + i ≡ k + suc i = omega arith in ap After e
 
 -- at the start all dimensions are left
-pub further-none : (p : Order) → further 0 p ≡ p
-further-none (Before i) = ap Before (zero-add i)
-further-none Equal = refl
-further-none (After i) = ap After (zero-add i)
+pub further_none : (p : Order) → further 0 p ≡ p
+further_none (Before i) = ap Before (zero-add i)
+further_none Equal = refl
+further_none (After i) = ap After (zero-add i)
 
-pub alike-in : (n a b : ℕ) → n % 2 ≡ 1 → a ≡ b → alike (n % 2) a b ≡ true
-alike-in n a b h e = rw h (eq-eqb a b e)
+pub alike_in : (n a b : ℕ) → n % 2 ≡ 1 → a ≡ b → alike (n % 2) a b ≡ true
+alike_in n a b h e = rw h (eq-eqb a b e)
 
 pub compared-done : (set : ℕ) (xs ys : List ℕ) (k : ℕ) → length xs ≤ k → length ys ≤ k → further k (compared set (drop k xs) (drop k ys)) ≡ Equal
 unfolding compared
@@ -41,16 +41,16 @@ compared-done set xs ys k h l = rw (drop_of_length-le xs h, drop_of_length-le ys
 
 -- one dimension more: where the codes are alike, and where one is lower
 module _ (set : ℕ) (xs ys : List ℕ) (k : ℕ) (h : k < length xs) (l : k < length ys) where
-  pub compared-skip : alike (set % 2) (get_or xs k 0) (get_or ys k 0) ≡ true
+  pub compared_skip : alike (set % 2) (get_or xs k 0) (get_or ys k 0) ≡ true
       → further (k + 1) (compared (set / 2) (drop (k + 1) xs) (drop (k + 1) ys)) ≡ further k (compared set (drop k xs) (drop k ys))
   unfolding compared
-  compared-skip e =
+  compared_skip e =
       let p = compared (set / 2) (drop (suc k) xs) (drop (suc k) ys) in
-      rw (add-one k, drop-cons xs k 0, drop-cons ys k 0) (further-next k p ∙ ap (further k) (sym (parts-alike (set % 2) (get_or xs k 0) (get_or ys k 0) (next p) e)))
+      rw (add-one k, drop-cons xs k 0, drop-cons ys k 0) (further_next k p ∙ ap (further k) (sym (parts-alike (set % 2) (get_or xs k 0) (get_or ys k 0) (next p) e)))
 
-  pub compared-less : set % 2 ≡ 1 → get_or xs k 0 < get_or ys k 0 → further k (compared set (drop k xs) (drop k ys)) ≡ Before (k + 1)
+  pub compared_less : set % 2 ≡ 1 → get_or xs k 0 < get_or ys k 0 → further k (compared set (drop k xs) (drop k ys)) ≡ Before (k + 1)
   unfolding compared
-  compared-less e g = rw (drop-cons xs k 0, drop-cons ys k 0, e, lt-ltb (get_or xs k 0) (get_or ys k 0) g)
+  compared_less e g = rw (drop-cons xs k 0, drop-cons ys k 0, e, lt-ltb (get_or xs k 0) (get_or ys k 0) g)
 
   pub compared-more : set % 2 ≡ 1 → get_or ys k 0 < get_or xs k 0 → further k (compared set (drop k xs) (drop k ys)) ≡ After (k + 1)
   unfolding compared

@@ -8,19 +8,19 @@ use Rattle.rows_compare.specs.declared.Order.{Order}
 use Rattle.rows_compare.specs.declared.Order.TheVariants.{Before, Equal, After}
 use Rattle.rows_compare.specs.Compare.{compared, has, added, Longer}
 
-abbrev under-each : List ℕ → List ℕ → List Order
-under-each x y = map (λ s. compared s x y) (0 ∷ 1 ∷ 2 ∷ 3 ∷ 4 ∷ 5 ∷ 6 ∷ 7 ∷ [])
+abbrev under_each : List ℕ → List ℕ → List Order
+under_each x y = map (λ s. compared s x y) (0 ∷ 1 ∷ 2 ∷ 3 ∷ 4 ∷ 5 ∷ 6 ∷ 7 ∷ [])
 
-last-before : under-each (4 ∷ 5 ∷ 1 ∷ []) (6 ∷ 5 ∷ 2 ∷ []) ≡ Equal ∷ Before 1 ∷ Equal ∷ Before 1 ∷ Before 3 ∷ Before 1 ∷ Before 3 ∷ Before 1 ∷ []
+last-before : under_each (4 ∷ 5 ∷ 1 ∷ []) (6 ∷ 5 ∷ 2 ∷ []) ≡ Equal ∷ Before 1 ∷ Equal ∷ Before 1 ∷ Before 3 ∷ Before 1 ∷ Before 3 ∷ Before 1 ∷ []
 unfolding compared
 last-before = refl
 
-third-after : under-each (2 ∷ 3 ∷ 1 ∷ []) (1 ∷ 1 ∷ 1 ∷ []) ≡ Equal ∷ After 1 ∷ After 2 ∷ After 1 ∷ Equal ∷ After 1 ∷ After 2 ∷ After 1 ∷ []
+third_after : under_each (2 ∷ 3 ∷ 1 ∷ []) (1 ∷ 1 ∷ 1 ∷ []) ≡ Equal ∷ After 1 ∷ After 2 ∷ After 1 ∷ Equal ∷ After 1 ∷ After 2 ∷ After 1 ∷ []
 unfolding compared
-third-after = refl
+third_after = refl
 
 -- an earlier dimension decides against a later one
-parted-first : under-each (0 ∷ 2 ∷ 1 ∷ []) (0 ∷ 1 ∷ 2 ∷ []) ≡ Equal ∷ Equal ∷ After 2 ∷ After 2 ∷ Before 3 ∷ Before 3 ∷ After 2 ∷ After 2 ∷ []
+parted-first : under_each (0 ∷ 2 ∷ 1 ∷ []) (0 ∷ 1 ∷ 2 ∷ []) ≡ Equal ∷ Equal ∷ After 2 ∷ After 2 ∷ Before 3 ∷ Before 3 ∷ After 2 ∷ After 2 ∷ []
 unfolding compared
 parted-first = refl
 
@@ -34,8 +34,8 @@ has-none zero = refl
 has-none (suc zero) = refl
 has-none (suc (suc i)) = has-none (suc i)
 
-first-longer : Longer 3 1 7
-first-longer = record { below = omega arith; held = refl; later = λ i j h k. omega (arith, only-first i h, not_first j k) }
+first_longer : Longer 3 1 7
+first_longer = record { below = omega arith; held = refl; later = λ i j h k. omega (arith, only-first i h, not_first j k) }
   where
     only-first : (i : ℕ) → has 1 i ≡ true → i ≡ 1
     only-first zero h = absurd (false≢true h)

@@ -15,12 +15,12 @@ use Rattle.lattice.proofs.Sets.{holds-suc, holds-le}
 use Rattle.cube.specs.Codes.{alike, agree}
 use Rattle.rows_compare.specs.declared.Order.{Order}
 use Rattle.rows_compare.specs.declared.Order.TheVariants.{Before, Equal, After}
-use Rattle.rows_compare.specs.Compare.{parts, next, compared, isEqual, named, has, added, Longer}
+use Rattle.rows_compare.specs.Compare.{parts, next, compared, is_equal, named, has, added, Longer}
 use Rattle.rows_compare.proofs.Parting.{parts-alike, alike-has, compared-agree, compared-first}
 
 -- the first dimension of the added ones, and the others
-added-half : (d s t : ℕ) → s < 2 ^ suc d → holds (suc d) t s ≡ true → (added t s / 2 ≡ added (t / 2) (s / 2)) × (added t s % 2 ≡ t % 2 - s % 2)
-added-half d s t h e =
+added_half : (d s t : ℕ) → s < 2 ^ suc d → holds (suc d) t s ≡ true → (added t s / 2 ≡ added (t / 2) (s / 2)) × (added t s % 2 ≡ t % 2 - s % 2)
+added_half d s t h e =
     let p = holds-suc d t s e in
     let q = holds-le d (t / 2) (s / 2) (omega arith) p.1 in
     omega (arith, p.0, q.0)
@@ -29,7 +29,7 @@ added-half d s t h e =
 pub added-has : (d s t i : ℕ) → i ≤ d → s < 2 ^ d → holds d t s ≡ true → has (added t s) i ≡ has t i && not (has s i)
 added-has d s t zero l b h = refl
 added-has zero s t (suc i) l b h = absurd (omega arith)
-added-has (suc d) s t (suc zero) l b h = rw (added-half d s t b h).1 (go (s % 2) (t % 2) (holds-suc d t s h).0 (omega arith))
+added-has (suc d) s t (suc zero) l b h = rw (added_half d s t b h).1 (go (s % 2) (t % 2) (holds-suc d t s h).0 (omega arith))
   where
     go : (m n : ℕ) → m ≤ n → n < 2 → eqb (n - m) 1 ≡ eqb n 1 && not (eqb m 1)
     go zero zero h k = refl
@@ -39,9 +39,9 @@ added-has (suc d) s t (suc zero) l b h = rw (added-half d s t b h).1 (go (s % 2)
     go (suc m) zero h k = absurd (omega arith)
     go (suc (suc m)) (suc n) h k = absurd (omega arith)
     go (suc zero) (suc (suc n)) h k = absurd (omega arith)
-added-has (suc d) s t (suc (suc i)) l b h = rw (added-half d s t b h).0 (added-has d (s / 2) (t / 2) (suc i) (omega arith) (omega arith) (holds-suc d t s h).1)
+added-has (suc d) s t (suc (suc i)) l b h = rw (added_half d s t b h).0 (added-has d (s / 2) (t / 2) (suc i) (omega arith) (omega arith) (holds-suc d t s h).1)
 
-named-next : (p : Order) → isEqual p ≡ false → named (next p) ≡ suc (named p)
+named-next : (p : Order) → is_equal p ≡ false → named (next p) ≡ suc (named p)
 named-next (Before i) e = refl
 named-next Equal e = absurd (false≢true (sym e))
 named-next (After i) e = refl
@@ -53,9 +53,9 @@ parts_same (suc k) a b p q e = cases (truth (ltb a b))
     (λ h. rw (h, lt-ltb b a (omega (arith, ltb-false a b h, eqb-false a b e))))
 
 -- dimensions after the first n + 1, counted from the second one
-later-half : (u v n : ℕ) → u / 2 ≡ v → ((j : ℕ) → has u j ≡ true → suc n < j) → (j : ℕ) → has v j ≡ true → n < j
-later-half u v n e f zero h = absurd (false≢true h)
-later-half u v n e f (suc j) h = omega (arith, f (suc (suc j)) (subst (λ (w : ℕ). has w (suc j) ≡ true) (sym e) h))
+later_half : (u v n : ℕ) → u / 2 ≡ v → ((j : ℕ) → has u j ≡ true → suc n < j) → (j : ℕ) → has v j ≡ true → n < j
+later_half u v n e f zero h = absurd (false≢true h)
+later_half u v n e f (suc j) h = omega (arith, f (suc (suc j)) (subst (λ (w : ℕ). has w (suc j) ≡ true) (sym e) h))
 
 -- If every added dimension comes after the one named, the result is the same,
 pub compared_same : (d s t : ℕ) (x y : List ℕ) → length x ≤ d → s < 2 ^ d → holds d t s ≡ true → agree s x y ≡ false
@@ -66,7 +66,7 @@ compared_same d s t [] (c ∷ y) l b h e f = refl
 compared_same d s t (a ∷ x) [] l b h e f = refl
 compared_same zero s t (a ∷ x) (c ∷ y) l b h e f = absurd (omega arith)
 compared_same (suc d) s t (a ∷ x) (c ∷ y) l b h e f =
-    let g = added-half d s t b h in
+    let g = added_half d s t b h in
     let r = holds-suc d t s h in
     let p = compared (s / 2) x y in
     cases (truth (alike (s % 2) a c))
@@ -75,7 +75,7 @@ compared_same (suc d) s t (a ∷ x) (c ∷ y) l b h e f =
     let z : (j : ℕ) → has (added t s) j ≡ true → suc (named p) < j = λ j i. omega (arith, n, f j i) in
     let o : added t s % 2 ≢ 1 = λ i. omega (arith, z 1 (eq-eqb (added t s % 2) 1 i)) in
     let m : t % 2 ≡ s % 2 = omega (arith, g.1, r.0, o) in
-    rw (m, compared_same d (s / 2) (t / 2) x y (omega arith) (omega arith) r.1 k (later-half (added t s) (added (t / 2) (s / 2)) (named p) g.0 z)))
+    rw (m, compared_same d (s / 2) (t / 2) x y (omega arith) (omega arith) r.1 k (later_half (added t s) (added (t / 2) (s / 2)) (named p) g.0 z)))
     (λ q. let m : t % 2 ≡ s % 2 = omega (arith, r.0, alike-has (s % 2) a c q) in
     rw m (parts_same (s % 2) a c (next (compared (t / 2) x y)) (next p) q))
 
@@ -87,7 +87,7 @@ agree-added d s t [] (c ∷ y) l b h e = refl
 agree-added d s t (a ∷ x) [] l b h e = refl
 agree-added zero s t (a ∷ x) (c ∷ y) l b h e = absurd (omega arith)
 agree-added (suc d) s t (a ∷ x) (c ∷ y) l b h e =
-    let g = added-half d s t b h in
+    let g = added_half d s t b h in
     let p = holds-suc d t s h in
     let r = both (alike (s % 2) a c) (agree (s / 2) x y) e in
     rw (g.0, g.1, agree-added d (s / 2) (t / 2) x y (omega arith) (omega arith) p.1 r.1) (go (s % 2) (t % 2) (next (compared (added (t / 2) (s / 2)) x y)) p.0 (omega arith) r.0)

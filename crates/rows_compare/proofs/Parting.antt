@@ -13,7 +13,7 @@ use Rattle.lists.proofs.Tests.{cases, truth}
 use Rattle.cube.specs.Codes.{shown, cell, alike, agree}
 use Rattle.rows_compare.specs.declared.Order.{Order}
 use Rattle.rows_compare.specs.declared.Order.TheVariants.{Before, Equal, After}
-use Rattle.rows_compare.specs.Compare.{parts, next, compared, isEqual, isBefore, code, has, FirstDifference}
+use Rattle.rows_compare.specs.Compare.{parts, next, compared, is_equal, is_before, code, has, FirstDifference}
 
 -- ---- one dimension
 
@@ -27,7 +27,7 @@ pub alike-has : (k a b : ℕ) → alike k a b ≡ false → 1 ≤ k
 alike-has zero a b e = absurd (false≢true (sym e))
 alike-has (suc k) a b e = omega arith
 
-parts-equal : (k a b : ℕ) (p : Order) → isEqual (parts k a b p) ≡ alike k a b && isEqual p
+parts-equal : (k a b : ℕ) (p : Order) → is_equal (parts k a b p) ≡ alike k a b && is_equal p
 parts-equal zero a b p = refl
 parts-equal (suc k) a b p = cases (truth (ltb a b))
     (λ h. rw (h, ne_eqb a b (omega (arith, ltb-true a b h))))
@@ -35,7 +35,7 @@ parts-equal (suc k) a b p = cases (truth (ltb a b))
     (λ g. rw (h, g, ne_eqb a b (omega (arith, ltb-true b a g))))
     (λ g. rw (h, g, eq-eqb a b (omega (arith, ltb-false a b h, ltb-false b a g)))))
 
-parts-before : (k a b : ℕ) (p : Order) (x y : List ℕ) → isBefore p ≡ earlier x y → isBefore (parts k a b p) ≡ earlier (shown k a ∷ x) (shown k b ∷ y)
+parts-before : (k a b : ℕ) (p : Order) (x y : List ℕ) → is_before p ≡ earlier x y → is_before (parts k a b p) ≡ earlier (shown k a ∷ x) (shown k b ∷ y)
 parts-before zero a b p x y e = e
 parts-before (suc k) a b p x y e = cases (truth (ltb a b))
     (λ h. rw h)
@@ -45,19 +45,19 @@ parts-before (suc k) a b p x y e = cases (truth (ltb a b))
 
 -- ---- the dimensions after the first
 
-next-equal : (p : Order) → isEqual (next p) ≡ isEqual p
+next-equal : (p : Order) → is_equal (next p) ≡ is_equal p
 next-equal (Before i) = refl
 next-equal Equal = refl
 next-equal (After i) = refl
 
-next-before : (p : Order) → isBefore (next p) ≡ isBefore p
+next-before : (p : Order) → is_before (next p) ≡ is_before p
 next-before (Before i) = refl
 next-before Equal = refl
 next-before (After i) = refl
 
 -- ---- equal just if the rows agree on the set
 
-pub compared-agree : (s : ℕ) (x y : List ℕ) → isEqual (compared s x y) ≡ agree s x y
+pub compared-agree : (s : ℕ) (x y : List ℕ) → is_equal (compared s x y) ≡ agree s x y
 unfolding compared
 compared-agree s [] [] = refl
 compared-agree s [] (b ∷ y) = refl
@@ -65,17 +65,17 @@ compared-agree s (a ∷ x) [] = refl
 compared-agree s (a ∷ x) (b ∷ y) =
     parts-equal (s % 2) a b (next (compared (s / 2) x y)) ∙ ap (λ e. alike (s % 2) a b && e) (next-equal (compared (s / 2) x y) ∙ compared-agree (s / 2) x y)
 
-equal_is : (p : Order) → isEqual p ≡ true → p ≡ Equal
+equal_is : (p : Order) → is_equal p ≡ true → p ≡ Equal
 equal_is (Before i) e = absurd (false≢true e)
 equal_is Equal e = refl
 equal_is (After i) e = absurd (false≢true e)
 
 pub compared-equal : (s : ℕ) (x y : List ℕ) → (compared s x y ≡ Equal) ↔ (agree s x y ≡ true)
-compared-equal s x y = (λ e. sym (compared-agree s x y) ∙ ap isEqual e, λ e. equal_is (compared s x y) (compared-agree s x y ∙ e))
+compared-equal s x y = (λ e. sym (compared-agree s x y) ∙ ap is_equal e, λ e. equal_is (compared s x y) (compared-agree s x y ∙ e))
 
 -- ---- before just if the cell of the one row comes before that of the other
 
-pub compared-before : (s : ℕ) (x y : List ℕ) → isBefore (compared s x y) ≡ earlier (cell s x) (cell s y)
+pub compared-before : (s : ℕ) (x y : List ℕ) → is_before (compared s x y) ≡ earlier (cell s x) (cell s y)
 unfolding compared
 compared-before s [] [] = refl
 compared-before s [] (b ∷ y) = refl

@@ -29,8 +29,8 @@ module _ (L : Lattice) (s : ℕ) (x : List ℕ) (xs : List (List ℕ)) (i : ℕ)
     single-own e = rw (single_more, ← e, same_refl x, or-true)
 
     module _ {y : List ℕ} (e : y ≡ row_at xs i) where
-      pub single-skip : L.agree s x y ≡ false → single L (drop (i + 1) xs) s x ≡ single L (drop i xs) s x
-      single-skip a = rw (single_more, ← e, a)
+      pub single_skip : L.agree s x y ≡ false → single L (drop (i + 1) xs) s x ≡ single L (drop i xs) s x
+      single_skip a = rw (single_more, ← e, a)
 
       -- another that agrees settles it
       pub single-stop : L.agree s x y ≡ true → x ≢ y → single L (drop i xs) s x ≡ false

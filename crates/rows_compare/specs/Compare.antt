@@ -2,8 +2,8 @@
 --
 --   Order                     Before or After at a dimension, or Equal: the enum of src/lib.rt
 --   compared s x y            codes x compared with codes y under set s
---   isEqual o                 o says equal
---   isBefore o                o says before
+--   is_equal o                 o says equal
+--   is_before o                o says before
 --   named o                   the dimension that o names; 0 where it names none
 --   code x i                  the code of dimension i
 --   has s i                   set s has dimension i
@@ -32,15 +32,15 @@ compared s [] (b ∷ y) = Before 1
 compared s (a ∷ x) [] = After 1
 compared s (a ∷ x) (b ∷ y) = parts (s % 2) a b (next (compared (s / 2) x y))
 
-abbrev pub isEqual : Order → Bool
-isEqual (Before i) = false
-isEqual Equal = true
-isEqual (After i) = false
+abbrev pub is_equal : Order → Bool
+is_equal (Before i) = false
+is_equal Equal = true
+is_equal (After i) = false
 
-abbrev pub isBefore : Order → Bool
-isBefore (Before i) = true
-isBefore Equal = false
-isBefore (After i) = false
+abbrev pub is_before : Order → Bool
+is_before (Before i) = true
+is_before Equal = false
+is_before (After i) = false
 
 abbrev pub named : Order → ℕ
 named (Before i) = i

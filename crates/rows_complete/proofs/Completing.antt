@@ -21,17 +21,17 @@ use Rattle.rows_slots.proofs.Groups.{flat-runs}
 use Rattle.rows_slots.proofs.Entries.{slot-length}
 use Rattle.rows_columns.specs.Columns.{part}
 use Rattle.rows_crowds.specs.Crowds.{Holds, AllHold, Filled}
-use Rattle.rows_crowds.proofs.Turns.{Filling, filling-start, filling_skip, filling-more}
+use Rattle.rows_crowds.proofs.Turns.{Filling, filling_start, filling_skip, filling_more}
 
 -- ---- a slot that has every row has all groups
 
-flat-fewer : (q : Run → Bool) (rs : List Run) → length (flat (keep q rs)) ≤ length (flat rs)
-flat-fewer q [] = omega arith
-flat-fewer q (r ∷ rs) =
+flat_fewer : (q : Run → Bool) (rs : List Run) → length (flat (keep q rs)) ≤ length (flat rs)
+flat_fewer q [] = omega arith
+flat_fewer q (r ∷ rs) =
     let more = length-append (members r) (flat rs) in
     cases (truth (q r))
-    (λ t. rw t (omega (arith, flat-fewer q rs, more, length-append (members r) (flat (keep q rs)))))
-    (λ t. rw t (omega (arith, flat-fewer q rs, more)))
+    (λ t. rw t (omega (arith, flat_fewer q rs, more, length-append (members r) (flat (keep q rs)))))
+    (λ t. rw t (omega (arith, flat_fewer q rs, more)))
 
 -- every run has a row
 keep-whole : (q : Run → Bool) (rs : List Run) → length (flat (keep q rs)) ≡ length (flat rs) → keep q rs ≡ rs
@@ -40,7 +40,7 @@ keep-whole q (r ∷ rs) e =
     let more = length-append (members r) (flat rs) in
     cases (truth (q r))
     (λ t. let f = rw t at e in rw t (ap (λ (l : List Run). r ∷ l) (keep-whole q rs (omega (arith, f, more, length-append (members r) (flat (keep q rs)))))))
-    (λ t. let f = rw t at e in absurd (omega (arith, f, more, flat-fewer q rs)))
+    (λ t. let f = rw t at e in absurd (omega (arith, f, more, flat_fewer q rs)))
 
 pub crowds-whole : (least : ℕ) (keys : ℕ → List ℕ) (n : ℕ) → n ≤ 1024 → length (packed (crowds least keys n)) ≡ n → crowds least keys n ≡ crowds 1 keys n
 unfolding crowds
@@ -70,16 +70,16 @@ pub record Completing (d n : ℕ) (ws store sizes : List ℕ) (m k : ℕ) : Type
   pub each : (t : ℕ) → t < m → (least : ℕ) × Holds least d n ws store sizes t
 
 module _ {d n : ℕ} {ws : List ℕ} {m : ℕ} (few : m ≤ 256) where
-  pub completing-start : {store sizes : List ℕ} → AllHold 2 d n ws store sizes m → Completing d n ws store sizes m 0
-  completing-start {store} {sizes} h = record { filling = filling-start few store sizes; each = λ t l. (2, h.all t l) }
+  pub completing_start : {store sizes : List ℕ} → AllHold 2 d n ws store sizes m → Completing d n ws store sizes m 0
+  completing_start {store} {sizes} h = record { filling = filling_start few store sizes; each = λ t l. (2, h.all t l) }
 
   module _ {store sizes : List ℕ} {k s : ℕ} (f : Completing d n ws store sizes m k) (h : k < 256) (e : s ≡ get_or (sets 8) k 0) where
-    pub completing-skip : m ≤ s → Completing d n ws store sizes m (k + 1)
-    completing-skip l = record { filling = filling_skip few f.filling h e l; each = f.each }
+    pub completing_skip : m ≤ s → Completing d n ws store sizes m (k + 1)
+    completing_skip l = record { filling = filling_skip few f.filling h e l; each = f.each }
 
-    pub completing-more : s < m → {store₂ sizes₂ : List ℕ} → Filled 1 d n ws store sizes store₂ sizes₂ s → Completing d n ws store₂ sizes₂ m (k + 1)
-    completing-more l {store₂} {sizes₂} g = record {
-      filling = filling-more few f.filling h e l g;
+    pub completing_more : s < m → {store₂ sizes₂ : List ℕ} → Filled 1 d n ws store sizes store₂ sizes₂ s → Completing d n ws store₂ sizes₂ m (k + 1)
+    completing_more l {store₂} {sizes₂} g = record {
+      filling = filling_more few f.filling h e l g;
       each = λ t b. cases (truth (eqb t s))
           (λ q. (1, subst (Holds 1 d n ws store₂ sizes₂) (sym (eqb-true t s q)) g.here))
           (λ q. let w = f.each t b in (w.0, g.others w.0 t (eqb-false t s q) w.1));

@@ -13,7 +13,7 @@ use borrow.Author.Tests.{eqb-true, eqb-false}
 use Rattle.lists.specs.Lists.{◌∈◌, keep}
 use Rattle.lists.proofs.Tests.{cases, truth}
 use Rattle.lists.proofs.Members.{flat_append}
-use Rattle.lattice.specs.Sets.{full, sets, setsFrom}
+use Rattle.lattice.specs.Sets.{full, sets, sets_from}
 use Rattle.lattice.proofs.Sets.{sets-length}
 use Rattle.lattice.proofs.Turns.{from-full, from_on, from-off, from-done}
 use Rattle.cube.specs.Codes.{plain}
@@ -24,18 +24,18 @@ use Rattle.rows.proofs.Rows.{cut-length}
 use Rattle.rows_bits.specs.Rowsets.{has}
 use Rattle.rows_order.specs.Index.{key}
 use Rattle.rows_slots.specs.Slots.{crowds, packed}
-use Rattle.rows_crowds.specs.Crowds.{leftOut, ends}
+use Rattle.rows_crowds.specs.Crowds.{left_out, ends}
 use Rattle.rows_crowds.proofs.Left.{ends-shared}
-use Rattle.rows_lists.specs.Lists.{lists_of, Short, Empty, Fit, noted, ourLists}
-use Rattle.rows_alone.specs.Alone.{AloneOn, isNew, Lower, Told}
-use Rattle.rows_condense.proofs.Partly.{partly, partly_none, partly-all, partly-fit}
-use Rattle.rows_condense.proofs.Lone.{lone-lower, partly-noted}
+use Rattle.rows_lists.specs.Lists.{lists_of, Short, Empty, Fit, noted, our_lists}
+use Rattle.rows_alone.specs.Alone.{AloneOn, is_new, Lower, Told}
+use Rattle.rows_condense.proofs.Partly.{partly, partly_none, partly_all, partly_fit}
+use Rattle.rows_condense.proofs.Lone.{lone_lower, partly_noted}
 
 pub record Listing (d n : ℕ) (ws alone ls : List ℕ) (cells k : ℕ) : Type 0 where
   pub below : k ≤ 256
   pub short : Short n ls
   pub done : List ℕ
-  pub left : done ++ setsFrom (full d) k ≡ proper (plain d)
+  pub left : done ++ sets_from (full d) k ≡ proper (plain d)
   pub known : (t : ℕ) → t ∈ done → AloneOn d n ws alone t
   pub lists : lists_of n ls ≡ partly d (cut d n ws) done
   pub count : cells ≡ length (flat_map (shared (plain d) (cut d n ws)) done)
@@ -69,22 +69,22 @@ module _ {d n : ℕ} {ws : List ℕ} (given : Given d n ws) where
     unfolding common
     listing-few =
         let f = shared (plain d) xs in
-        let all : length (common (plain d) xs) ≡ length (flat_map f m.done) + length (flat_map f (setsFrom (full d) k)) =
-        ap (λ (l : List ℕ). length (flat_map f l)) (sym m.left) ∙ ap length (flat_append f m.done (setsFrom (full d) k)) ∙ length-append (flat_map f m.done) (flat_map f (setsFrom (full d) k)) in
+        let all : length (common (plain d) xs) ≡ length (flat_map f m.done) + length (flat_map f (sets_from (full d) k)) =
+        ap (λ (l : List ℕ). length (flat_map f l)) (sym m.left) ∙ ap length (flat_append f m.done (sets_from (full d) k)) ∙ length-append (flat_map f m.done) (flat_map f (sets_from (full d) k)) in
         let rows : length xs ≤ 1024 = rw cut-length given.few in
         let few : length (sets d) * length xs ≤ 256 * 1024 = mul-le-mul (le_trans (sets-length d) (pow_mono given.dims)) rows in
         omega (arith, m.count, all, common-length (plain d) xs)
 
-    pub listing-done : 256 ≤ k → (lists_of n ls ≡ ourLists d xs) × (cells ≡ length (common (plain d) xs))
+    pub listing-done : 256 ≤ k → (lists_of n ls ≡ our_lists d xs) × (cells ≡ length (common (plain d) xs))
     unfolding common
     listing-done h =
         let all : m.done ≡ proper (plain d) = sym (append-nil m.done) ∙ ap (λ (l : List ℕ). m.done ++ l) (sym (from-done (full d) k h)) ∙ m.left in
-        (m.lists ∙ ap (partly d xs) all ∙ partly-all d xs, m.count ∙ ap (λ (l : List ℕ). length (flat_map (shared (plain d) xs) l)) all)
+        (m.lists ∙ ap (partly d xs) all ∙ partly_all d xs, m.count ∙ ap (λ (l : List ℕ). length (flat_map (shared (plain d) xs) l)) all)
 
     module _ {s : ℕ} (h : k < 256) (e : s ≡ get_or (sets 8) k 0) where
       -- a set that is not below the full one has no turn
-      pub listing-skip : full d ≤ s → Listing d n ws alone ls cells (k + 1)
-      listing-skip f = record {
+      pub listing_skip : full d ≤ s → Listing d n ws alone ls cells (k + 1)
+      listing_skip f = record {
         below = omega arith;
         short = m.short;
         done = m.done;
@@ -95,30 +95,30 @@ module _ {d n : ℕ} {ws : List ℕ} (given : Given d n ws) where
       }
 
       module _ (f : s < full d) where
-        turn : m.done ++ s ∷ setsFrom (full d) (k + 1) ≡ proper (plain d)
+        turn : m.done ++ s ∷ sets_from (full d) (k + 1) ≡ proper (plain d)
         turn = rw e (ap (λ (l : List ℕ). m.done ++ l) (sym (from_on (full d) k h (rw e at f))) ∙ m.left)
 
-        joined : (m.done ++ s ∷ []) ++ setsFrom (full d) (k + 1) ≡ proper (plain d)
-        joined = append_snoc m.done s (setsFrom (full d) (k + 1)) ∙ turn
+        joined : (m.done ++ s ∷ []) ++ sets_from (full d) (k + 1) ≡ proper (plain d)
+        joined = append_snoc m.done s (sets_from (full d) (k + 1)) ∙ turn
 
         -- the rows that come out alone
         abbrev new : List ℕ
-        new = keep (isNew alone s) (leftOut 2 xs n s)
+        new = keep (is_new alone s) (left_out 2 xs n s)
 
         lists-next : noted s new (lists_of n ls) ≡ partly d xs (m.done ++ s ∷ [])
         lists-next =
             ap (noted s new) m.lists
-            ∙ partly-noted d n ws given.dims given.few given.size given.base m.done (setsFrom (full d) (k + 1)) s turn f alone m.known
+            ∙ partly_noted d n ws given.dims given.few given.size given.base m.done (sets_from (full d) (k + 1)) s turn f alone m.known
 
-        pub listing-lower : Lower d n ws alone s
-        listing-lower = lone-lower d n ws given.dims given.few given.size given.base m.done (setsFrom (full d) (k + 1)) s turn f alone m.known
+        pub listing_lower : Lower d n ws alone s
+        listing_lower = lone_lower d n ws given.dims given.few given.size given.base m.done (sets_from (full d) (k + 1)) s turn f alone m.known
 
         count_next : cells + length (shared (plain d) xs s) ≡ length (flat_map (shared (plain d) xs) (m.done ++ s ∷ []))
         unfolding flat_map
         count_next = rw (flat_append (shared (plain d) xs) m.done (s ∷ []), append-nil, m.count) (sym (length-append (flat_map (shared (plain d) xs) m.done) (shared (plain d) xs s)))
 
-        pub listing-fit : Fit (noted s new (lists_of n ls))
-        listing-fit = subst Fit (sym lists-next) (partly-fit d xs given.dims (m.done ++ s ∷ []) (setsFrom (full d) (k + 1)) joined)
+        pub listing_fit : Fit (noted s new (lists_of n ls))
+        listing_fit = subst Fit (sym lists-next) (partly_fit d xs given.dims (m.done ++ s ∷ []) (sets_from (full d) (k + 1)) joined)
 
         known_next : {alone₂ : List ℕ} → Told d n ws alone alone₂ s → (t : ℕ) → t ∈ m.done ++ s ∷ [] → AloneOn d n ws alone₂ t
         known_next g t i = cases (truth (eqb t s))

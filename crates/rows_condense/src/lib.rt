@@ -8,9 +8,9 @@ ghost use Rattle.rows.specs.Rows.{width, cut};
 ghost use Rattle.rows_order.specs.Index.{key, Valid};
 ghost use Rattle.rows_slots.specs.Slots.{crowds, packed};
 ghost use Rattle.rows_columns.specs.Columns.{Columns};
-ghost use Rattle.rows_crowds.specs.Crowds.{shorter, leftOut, Holds, AllHold, Filled, ends};
-ghost use Rattle.rows_lists.specs.Lists.{lists_of, Short, Fit, noted, ourLists};
-ghost use Rattle.rows_alone.specs.Alone.{isNew, Lower, Told};
+ghost use Rattle.rows_crowds.specs.Crowds.{shorter, left_out, Holds, AllHold, Filled, ends};
+ghost use Rattle.rows_lists.specs.Lists.{lists_of, Short, Fit, noted, our_lists};
+ghost use Rattle.rows_alone.specs.Alone.{is_new, Lower, Told};
 
 // One set more: its slot is filled, and it is put behind the lists of the rows that come out alone there and on no smaller set. Returns how many cells of it rows share. Thirteen parameters: the rows, their lists, and work arrays that are lent once a call.
 fn list_set(
@@ -31,10 +31,10 @@ fn list_set(
     requires n_bound { (n ≤ 1024) × Valid dims (cut dims n rows.now) × (dims ≤ 8) × Columns dims n rows.now columns.now × (set < 2 ^ dims) × (1 ≤ set → Holds 2 dims n rows.now store.old sizes.old (shorter set)) }
     requires in_bounds { (262144 ≤ length store.old) × (256 ≤ length sizes.old) × (length order.old ≡ 1024) × (length marks.old ≡ 1024) × (length lone.old ≡ 1026) }
     requires in_bounds_2 { (8192 ≤ length alone.old) × (length passed.old ≡ 32) × Lower dims n rows.now alone.old set }
-    requires n_in_bounds { (n * 71 ≤ length lists.old) × Short n lists.old × Fit (noted set (keep (isNew alone.old set) (leftOut 2 (cut dims n rows.now) n set)) (lists_of n lists.old)) }
+    requires n_in_bounds { (n * 71 ≤ length lists.old) × Short n lists.old × Fit (noted set (keep (is_new alone.old set) (left_out 2 (cut dims n rows.now) n set)) (lists_of n lists.old)) }
     ensures filled { Filled 2 dims n rows.now store.old sizes.old store.new sizes.new set }
     ensures told { Told dims n rows.now alone.old alone.new set }
-    ensures lists_after { (lists_of n lists.new ≡ noted set (keep (isNew alone.old set) (leftOut 2 (cut dims n rows.now) n set)) (lists_of n lists.old)) × Short n lists.new }
+    ensures lists_after { (lists_of n lists.new ≡ noted set (keep (is_new alone.old set) (left_out 2 (cut dims n rows.now) n set)) (lists_of n lists.old)) × Short n lists.new }
     ensures value { result ≡ ends (packed (crowds 2 (key set (cut dims n rows.now)) n)) }
 {
     rows_alone::pass_rows(alone, set, passed);
@@ -61,7 +61,7 @@ pub fn condense_rows(
     requires n_bound { (n ≤ 1024) × (dims ≤ 8) × (n * width dims ≡ length rows.now) × Base (plain dims) (cut dims n rows.now) }
     requires in_bounds { (262144 ≤ length store.old) × (256 ≤ length sizes.old) × (n * 71 ≤ length lists.old) }
     ensures all_hold { AllHold 2 dims n rows.now store.new sizes.new (full dims) }
-    ensures lists_after { (lists_of n lists.new ≡ ourLists dims (cut dims n rows.now)) × Short n lists.new }
+    ensures lists_after { (lists_of n lists.new ≡ our_lists dims (cut dims n rows.now)) × Short n lists.new }
     ensures value { result ≡ length (normals (plain dims) (cut dims n rows.now)) }
 {
     let mut columns = [0u32; 16384];

@@ -13,19 +13,19 @@ use borrow.Author.Tests.{ltb-true, ltb-false}
 use Rattle.lists.specs.Lists.{◌∈◌, keep}
 use Rattle.lists.specs.Order.{same}
 use Rattle.lists.proofs.Tests.{cases, truth}
-use Rattle.lists.proofs.Members.{at_in, keep-in}
+use Rattle.lists.proofs.Members.{at_in, keep_in}
 use Rattle.rows_deals.specs.Deals.{Names}
 use Rattle.rows_bits.specs.Rowsets.{stays}
 use Rattle.rows_bits.proofs.Bits.{has-none}
 use Rattle.rows.specs.Rows.{cut}
 use Rattle.rows_order.specs.Index.{key, arranged}
-use Rattle.rows_order.proofs.Sorted.{stable-in}
-use Rattle.rows_slots.specs.Slots.{crowds, packed, rowIn, end_in, code_in, slotFrom, loneFrom, out, markIn, markKey, splitOrder, Slot}
-use Rattle.rows_slots.proofs.Split.{slot_same, lone_same, split-kept, split-left}
-use Rattle.rows_split.proofs.Slotted.{slot-few, slot-in}
+use Rattle.rows_order.proofs.Sorted.{stable_in}
+use Rattle.rows_slots.specs.Slots.{crowds, packed, row_in, end_in, code_in, slot_from, lone_from, out, mark_in, mark_key, split_order, Slot}
+use Rattle.rows_slots.proofs.Split.{slot_same, lone_same, split_kept, split_left}
+use Rattle.rows_split.proofs.Slotted.{slot-few, slot_in}
 use Rattle.rows_columns.specs.Columns.{part}
-use Rattle.rows_crowds.specs.Crowds.{Passing, shorter, leftOut, Holds, Filled, ends}
-use Rattle.rows_crowds.proofs.Column.{Turn, left-next, turn-refined, turn_small, turn-column, turn-rising}
+use Rattle.rows_crowds.specs.Crowds.{Passing, shorter, left_out, Holds, Filled, ends}
+use Rattle.rows_crowds.proofs.Column.{Turn, left-next, turn_refined, turn_small, turn-column, turn-rising}
 use Rattle.rows_columns.proofs.Parts.{part-here, part-other}
 
 pub below_all : {s : ℕ} (d : ℕ) → d ≤ 8 → s < 2 ^ d → s < 256
@@ -61,30 +61,30 @@ module _ {least d n : ℕ} {ws columns column rising passed store sizes : List �
   next-few = slot-few few slot
 
   -- the rows that were split, in order and marked
-  module _ (order marks : List ℕ) (e : order ≡ splitOrder (stays passed) column old) (h : (y : ℕ) → y ∈ map rowIn old → get_or marks y 0 ≡ markIn (stays passed) column 0 0 old y out) where
+  module _ (order marks : List ℕ) (e : order ≡ split_order (stays passed) column old) (h : (y : ℕ) → y ∈ map row_in old → get_or marks y 0 ≡ mark_in (stays passed) column 0 0 old y out) where
     abbrev p : ℕ → Bool
     p = stays passed
 
-    inside : {y : ℕ} → y ∈ splitOrder p column old → y ∈ map rowIn old
-    inside m = (keep-in p (map rowIn old) (stable-in (markKey p column old) (keep p (map rowIn old)) m)).0
+    inside : {y : ℕ} → y ∈ split_order p column old → y ∈ map row_in old
+    inside m = (keep_in p (map row_in old) (stable_in (mark_key p column old) (keep p (map row_in old)) m)).0
 
-    tell : (y z : ℕ) → y ∈ splitOrder p column old → z ∈ splitOrder p column old → same (code_in marks y) (code_in marks z) ≡ same (markKey p column old y) (markKey p column old z)
+    tell : (y z : ℕ) → y ∈ split_order p column old → z ∈ split_order p column old → same (code_in marks y) (code_in marks z) ≡ same (mark_key p column old y) (mark_key p column old z)
     tell y z i j = ap₂ (λ (a b : ℕ). same (a ∷ []) (b ∷ [])) (h y (inside i)) (h z (inside j))
 
     pub next-names : Names order n
-    next-names k l = slot-in few slot (get_or order k 0) (inside (subst (λ (z : List ℕ). get_or order k 0 ∈ z) e (at_in 0 order k l)))
+    next-names k l = slot_in few slot (get_or order k 0) (inside (subst (λ (z : List ℕ). get_or order k 0 ∈ z) e (at_in 0 order k l)))
 
-    pub next-kept : slotFrom (code_in marks) least true order ≡ packed (crowds least (key s xs) n)
-    next-kept =
-        ap (slotFrom (code_in marks) least true) e ∙ slot_same (code_in marks) (markKey p column old) least true (splitOrder p column old) tell
-        ∙ ap (λ (l : List ℕ). slotFrom (markKey p column l) least true (splitOrder p column l)) whole
-        ∙ split-kept p column (turn-refined x.turn) (turn_small x.turn) least x.turn.low x.turn.high few x.turn.passing.sound
+    pub next_kept : slot_from (code_in marks) least true order ≡ packed (crowds least (key s xs) n)
+    next_kept =
+        ap (slot_from (code_in marks) least true) e ∙ slot_same (code_in marks) (mark_key p column old) least true (split_order p column old) tell
+        ∙ ap (λ (l : List ℕ). slot_from (mark_key p column l) least true (split_order p column l)) whole
+        ∙ split_kept p column (turn_refined x.turn) (turn_small x.turn) least x.turn.low x.turn.high few x.turn.passing.sound
 
-    pub next-left : loneFrom (code_in marks) least true order ≡ keep p (leftOut least xs n s)
+    pub next-left : lone_from (code_in marks) least true order ≡ keep p (left_out least xs n s)
     next-left =
-        ap (loneFrom (code_in marks) least true) e ∙ lone_same (code_in marks) (markKey p column old) least true (splitOrder p column old) tell
-        ∙ ap (λ (l : List ℕ). loneFrom (markKey p column l) least true (splitOrder p column l)) whole
-        ∙ split-left p column (turn-refined x.turn) (turn_small x.turn) least x.turn.low x.turn.high few x.turn.passing.sound
+        ap (lone_from (code_in marks) least true) e ∙ lone_same (code_in marks) (mark_key p column old) least true (split_order p column old) tell
+        ∙ ap (λ (l : List ℕ). lone_from (mark_key p column l) least true (split_order p column l)) whole
+        ∙ split_left p column (turn_refined x.turn) (turn_small x.turn) least x.turn.low x.turn.high few x.turn.passing.sound
         ∙ ap (keep p) (sym (left-next least xs n s x.turn.one))
 
 -- ---- a slot is filled
@@ -122,8 +122,8 @@ ends-done l i h = rw (drop_of_length-le l h)
 abbrev none : List ℕ
 none = replicate 32 0
 
-none-long : length none ≡ 32
-none-long = length-replicate {A = ℕ} 32 0
+none_long : length none ≡ 32
+none_long = length-replicate {A = ℕ} 32 0
 
 none_passed : (x : ℕ) → stays none x ≡ true
 none_passed x = ap not (has-none none zeros x)
@@ -131,7 +131,7 @@ none_passed x = ap not (has-none none zeros x)
     zeros : (i : ℕ) → get_or none i 0 ≡ 0
     zeros i = cases (truth (ltb i 32))
         (λ t. get_or-replicate 32 i 0 0 (ltb-true i 32 t))
-        (λ t. get_or-eq_default none 0 {n = i} (omega (arith, none-long, ltb-false i 32 t)))
+        (λ t. get_or-eq_default none 0 {n = i} (omega (arith, none_long, ltb-false i 32 t)))
 
-pub passing-none : (least d n : ℕ) (ws : List ℕ) (s : ℕ) → Passing least d n ws none s
-passing-none least d n ws s = record { room = none-long; sound = λ x h t. none_passed x; first = λ e x. none_passed x; next = λ e f x h. none_passed x }
+pub passing_none : (least d n : ℕ) (ws : List ℕ) (s : ℕ) → Passing least d n ws none s
+passing_none least d n ws s = record { room = none_long; sound = λ x h t. none_passed x; first = λ e x. none_passed x; next = λ e f x h. none_passed x }

@@ -11,27 +11,27 @@ use lib.ListN.{length, length-map}
 use borrow.Author.Tests.{not-true}
 use Rattle.lists.specs.Lists.{◌∈◌, keep, Distinct}
 use Rattle.lists.proofs.Tests.{cases, truth, both, both_of}
-use Rattle.lists.proofs.Members.{keep-in, keep-of, at_in}
-use Rattle.lists.proofs.Pairwise.{pairwise-keep}
+use Rattle.lists.proofs.Members.{keep_in, keep_of, at_in}
+use Rattle.lists.proofs.Pairwise.{pairwise_keep}
 use Rattle.lists.proofs.Order.{same-eq}
 use Rattle.lattice.specs.Sets.{sets}
 use Rattle.cube.specs.Codes.{plain}
 use Rattle.cube.specs.Cube.{within}
 use Rattle.cube.specs.Condensed.{single, shared, Base}
-use Rattle.cube.proofs.Codes.{plain-laws}
+use Rattle.cube.proofs.Codes.{plain_laws}
 use Rattle.cube.proofs.Normals.{shared-single}
 use Rattle.rows.specs.Rows.{width, cut, row_at}
 use Rattle.rows.proofs.Rows.{cut-length}
 use Rattle.rows_order.specs.Index.{key, arranged, Indexed}
 use Rattle.rows_runs.specs.Runs.{Run, members, runs}
-use Rattle.rows_order.proofs.Arranged.{alike, arranged-ordered, arranged-in, arranged-of, arranged-distinct, arranged-length}
+use Rattle.rows_order.proofs.Arranged.{alike, arranged_ordered, arranged_in, arranged_of, arranged-distinct, arranged-length}
 use Rattle.rows_runs.proofs.Runs.{cell_of, runs-whole}
-use Rattle.rows_runs.proofs.Indexed.{indexed-length, indexed-shared}
-use Rattle.rows_slots.specs.Slots.{flat, large, crowds, shares, parted, loners, loneRows, pack, packed}
+use Rattle.rows_runs.proofs.Indexed.{indexed_length, indexed_shared}
+use Rattle.rows_slots.specs.Slots.{flat, large, crowds, shares, parted, loners, lone_rows, pack, packed}
 use Rattle.rows_slots.proofs.Groups.{flat-runs, shares-large}
 use Rattle.rows_slots.proofs.Rising.{flat_in}
 use Rattle.rows_slots.proofs.Entries.{crowds-below}
-use Rattle.rows_crowds.specs.Crowds.{shorter, leftOut, ends}
+use Rattle.rows_crowds.specs.Crowds.{shorter, left_out, ends}
 
 -- ---- the rows that are left out
 
@@ -40,27 +40,27 @@ module _ (least : ℕ) (xs : List (List ℕ)) (n : ℕ) where
   abbrev sharing : ℕ → ℕ → Bool
   sharing s x = shares least (key s xs) n x
 
-  pub left_in : (s x : ℕ) → x ∈ leftOut least xs n s → (x < n) × (sharing s x ≡ false) × (1 ≤ s → sharing (shorter s) x ≡ true)
-  unfolding leftOut loners loneRows
+  pub left_in : (s x : ℕ) → x ∈ left_out least xs n s → (x < n) × (sharing s x ≡ false) × (1 ≤ s → sharing (shorter s) x ≡ true)
+  unfolding left_out loners lone_rows
   left_in zero x m =
-      let r = keep-in (λ x. not (sharing 0 x)) (arranged (key 0 xs) n) m in
-      (arranged-in (key 0 xs) n r.0, not-true (sharing 0 x) r.1, λ h. absurd (omega (arith, h)))
+      let r = keep_in (λ x. not (sharing 0 x)) (arranged (key 0 xs) n) m in
+      (arranged_in (key 0 xs) n r.0, not-true (sharing 0 x) r.1, λ h. absurd (omega (arith, h)))
   left_in (suc s) x m =
-      let r = keep-in (parted least (key (shorter (suc s)) xs) (key (suc s) xs) n) (arranged (key (suc s) xs) n) m in
+      let r = keep_in (parted least (key (shorter (suc s)) xs) (key (suc s) xs) n) (arranged (key (suc s) xs) n) m in
       let t = both (sharing (shorter (suc s)) x) (not (sharing (suc s) x)) r.1 in
-      (arranged-in (key (suc s) xs) n r.0, not-true (sharing (suc s) x) t.1, λ h. t.0)
+      (arranged_in (key (suc s) xs) n r.0, not-true (sharing (suc s) x) t.1, λ h. t.0)
 
-  pub left-of : (s x : ℕ) → x < n → sharing s x ≡ false → (x ∈ leftOut least xs n s) ⊎ ((1 ≤ s) × (sharing (shorter s) x ≡ false))
-  unfolding leftOut loners loneRows
-  left-of zero x h e = inl (keep-of (λ x. not (sharing 0 x)) (arranged-of (key 0 xs) n h) (ap not e))
+  pub left-of : (s x : ℕ) → x < n → sharing s x ≡ false → (x ∈ left_out least xs n s) ⊎ ((1 ≤ s) × (sharing (shorter s) x ≡ false))
+  unfolding left_out loners lone_rows
+  left-of zero x h e = inl (keep_of (λ x. not (sharing 0 x)) (arranged_of (key 0 xs) n h) (ap not e))
   left-of (suc s) x h e = cases (truth (sharing (shorter (suc s)) x))
-      (λ t. inl (keep-of (parted least (key (shorter (suc s)) xs) (key (suc s) xs) n) (arranged-of (key (suc s) xs) n h) (both_of t (ap not e))))
+      (λ t. inl (keep_of (parted least (key (shorter (suc s)) xs) (key (suc s) xs) n) (arranged_of (key (suc s) xs) n h) (both_of t (ap not e))))
       (λ t. inr (omega arith, t))
 
-  pub left-distinct : (s : ℕ) → Distinct (leftOut least xs n s)
-  unfolding leftOut loners loneRows
-  left-distinct zero = pairwise-keep (λ x y. x ≢ y) (λ x. not (sharing 0 x)) (arranged (key 0 xs) n) (arranged-distinct (key 0 xs) n)
-  left-distinct (suc s) = pairwise-keep (λ x y. x ≢ y) (parted least (key (shorter (suc s)) xs) (key (suc s) xs) n) (arranged (key (suc s) xs) n) (arranged-distinct (key (suc s) xs) n)
+  pub left-distinct : (s : ℕ) → Distinct (left_out least xs n s)
+  unfolding left_out loners lone_rows
+  left-distinct zero = pairwise_keep (λ x y. x ≢ y) (λ x. not (sharing 0 x)) (arranged (key 0 xs) n) (arranged-distinct (key 0 xs) n)
+  left-distinct (suc s) = pairwise_keep (λ x y. x ≢ y) (parted least (key (shorter (suc s)) xs) (key (suc s) xs) n) (arranged (key (suc s) xs) n) (arranged-distinct (key (suc s) xs) n)
 
 -- ---- groups counted
 
@@ -98,18 +98,18 @@ module _ (d n s : ℕ) (ws : List ℕ) (size : n * width d ≡ length ws) (few :
   ends-shared =
       ends-packed (crowds 2 keys n) (λ y m. omega (arith, crowds-below keys n 2 few y m, few))
       ∙ sym (length-map (keep (large 2) (runs keys (arranged keys n))) (cell_of keys))
-      ∙ ap length (indexed-shared index b.valid)
+      ∙ ap length (indexed_shared index b.valid)
 
   -- a row shares its cell unless it is single
   pub shares-single : (x : ℕ) → x < n → s ∈ sets d → shares 2 keys n x ≡ not (single (plain d) rows s (row_at rows x))
   unfolding key
   shares-single x h node =
       let l = arranged keys n in
-      let m : x ∈ flat (runs keys l) = subst (λ (z : List ℕ). x ∈ z) (sym (flat-runs keys l)) (arranged-of keys n h) in
+      let m : x ∈ flat (runs keys l) = subst (λ (z : List ℕ). x ∈ z) (sym (flat-runs keys l)) (arranged_of keys n h) in
       let r = flat_in (runs keys l) m in
-      let i = subst (λ (z : List ℕ). x ∈ z) (runs-whole keys l (arranged-ordered keys n) r.1) r.2 in
-      let e : cell_of keys r.0 ≡ keys x = same-eq (cell_of keys r.0) (keys x) (keep-in (alike keys (cell_of keys r.0)) l i).1 in
+      let i = subst (λ (z : List ℕ). x ∈ z) (runs-whole keys l (arranged_ordered keys n) r.1) r.2 in
+      let e : cell_of keys r.0 ≡ keys x = same-eq (cell_of keys r.0) (keys x) (keep_in (alike keys (cell_of keys r.0)) l i).1 in
       shares-large keys n 2 r.0 r.1 x r.2
-      ∙ ap (leb 2) (indexed-length index r.1 b.valid)
+      ∙ ap (leb 2) (indexed_length index r.1 b.valid)
       ∙ ap (λ (c : List ℕ). leb 2 (length (within (plain d) rows c))) e
-      ∙ shared-single (plain d) (plain-laws d) rows b node (at_in [] rows x (rw cut-length h))
+      ∙ shared-single (plain d) (plain_laws d) rows b node (at_in [] rows x (rw cut-length h))

@@ -13,16 +13,16 @@ use borrow.Author.Tests.{le-leb, ltb-true, ltb-false}
 use Rattle.lists.specs.Lists.{◌∈◌}
 use Rattle.lists.specs.Order.{Rising}
 use Rattle.lists.proofs.Tests.{cases, truth, both_of}
-use Rattle.lists.proofs.Order.{earlier-lt, strict-turned}
+use Rattle.lists.proofs.Order.{earlier-lt, strict_turned}
 use Rattle.lattice.specs.Sets.{size, before, holds}
-use Rattle.lattice.proofs.Sets.{by-lattice, holds-suc, holds-refl}
+use Rattle.lattice.proofs.Sets.{by_lattice, holds-suc, holds_refl}
 use Rattle.rows_crowds.specs.Crowds.{place, shorter}
 
 last-holds : (k d s t : ℕ) → t < 2 ^ d → s ≡ t + 2 ^ d → holds k s t ≡ true
 last-holds zero d s t l e = refl
 last-holds (suc k) zero s t l e =
     let half : s / 2 ≡ t / 2 = omega (arith, l, e) in
-    both_of (le-leb (t % 2) (s % 2) (omega (arith, l, e))) (subst (λ (z : ℕ). holds k (s / 2) z ≡ true) half (holds-refl k (s / 2)))
+    both_of (le-leb (t % 2) (s % 2) (omega (arith, l, e))) (subst (λ (z : ℕ). holds k (s / 2) z ≡ true) half (holds_refl k (s / 2)))
 last-holds (suc k) (suc d) s t l e = both_of (le-leb (t % 2) (s % 2) (omega (arith, l, e))) (last-holds k d (s / 2) (t / 2) (omega (arith, l)) (omega (arith, e)))
 
 size_none : (k s : ℕ) → s < 2 ^ k → size s ≡ 0 → s ≡ 0
@@ -48,31 +48,31 @@ module _ (s : ℕ) (h : 1 ≤ s) (small : s < 256) where
       let e : t.0 ≡ place s = omega (arith, t.1) in
       subst (λ (j : ℕ). (2 ^ j ≤ s) × (s < 2 ^ suc j)) e (t.2, t.3)
 
-  pub shorter-zeros : count_leading_zeros 32 s ≤ 31
-  shorter-zeros = omega (arith, (leading_top 32 s h wide).1)
+  pub shorter_zeros : count_leading_zeros 32 s ≤ 31
+  shorter_zeros = omega (arith, (leading_top 32 s h wide).1)
 
-  pub shorter-power : 2 ^ place s ≤ s
-  shorter-power = top.0
+  pub shorter_power : 2 ^ place s ≤ s
+  shorter_power = top.0
 
   -- the last dimension comes after all that are left
   pub shorter-last : shorter s < 2 ^ place s
   shorter-last = omega (arith, top.0, top.1)
 
-  pub shorter-and : s ≡ shorter s + 2 ^ place s
-  shorter-and = omega (arith, top.0)
+  pub shorter_and : s ≡ shorter s + 2 ^ place s
+  shorter_and = omega (arith, top.0)
 
-  pub shorter-less : shorter s < s
-  shorter-less = omega (arith, shorter-power, pow_pos (place s))
+  pub shorter_less : shorter s < s
+  shorter_less = omega (arith, shorter_power, pow_pos (place s))
 
   pub shorter-place : (d : ℕ) → s < 2 ^ d → place s < d
-  shorter-place d l = cases (truth (ltb (place s) d)) (λ t. ltb-true (place s) d t) (λ t. absurd (omega (arith, l, shorter-power, pow_mono {i = d} {j = place s} (ltb-false (place s) d t))))
+  shorter-place d l = cases (truth (ltb (place s) d)) (λ t. ltb-true (place s) d t) (λ t. absurd (omega (arith, l, shorter_power, pow_mono {i = d} {j = place s} (ltb-false (place s) d t))))
 
   pub shorter-holds : (d : ℕ) → holds d s (shorter s) ≡ true
-  shorter-holds d = last-holds d (place s) s (shorter s) shorter-last shorter-and
+  shorter-holds d = last-holds d (place s) s (shorter s) shorter-last shorter_and
 
   shorter-size : size s ≡ size (shorter s) + 1
   shorter-size =
-      let both : 1 * 2 ^ place s + shorter s ≡ s = omega (arith, shorter-and) in
+      let both : 1 * 2 ^ place s + shorter s ≡ s = omega (arith, shorter_and) in
       let count : ones s ≡ ones 1 + ones (shorter s) = sym (ap ones both) ∙ ones_cat (place s) 1 (shorter s) shorter-last in
       omega (arith, count, ones-ones 1)
 
@@ -83,14 +83,14 @@ module _ (s : ℕ) (h : 1 ≤ s) (small : s < 256) where
   pub shorter-none : size s ≡ 1 → shorter s ≡ 0
   shorter-none e = size_none (place s) (shorter s) shorter-last (omega (arith, e, shorter-size))
 
-  pub shorter-alone : size s ≡ 1 → (t : ℕ) → t < s → holds 8 s t ≡ true → t ≡ 0
-  shorter-alone e t l h =
-      let f : s ≡ 2 ^ place s = omega (arith, shorter-none e, shorter-and) in
+  pub shorter_alone : size s ≡ 1 → (t : ℕ) → t < s → holds 8 s t ≡ true → t ≡ 0
+  shorter_alone e t l h =
+      let f : s ≡ 2 ^ place s = omega (arith, shorter-none e, shorter_and) in
       one_holds 8 (place s) t (shorter-place 8 (omega (arith, small))) (omega (arith, f, l)) (subst (λ (z : ℕ). holds 8 z t ≡ true) f h)
 
 -- what comes before a member of a rising list stands before it
 pub rising-front : (done rest : List ℕ) (s t : ℕ) → Rising before (done ++ s ∷ rest) → t ∈ done ++ s ∷ rest → before t s ≡ true → t ∈ done
-rising-front [] rest s t r (Memᴰ.head e) b = absurd (by-lattice.irrefl s (subst (λ (z : ℕ). before z s ≡ true) e b))
-rising-front [] rest s t r (Memᴰ.tail m) b = absurd (false≢true (sym (strict-turned by-lattice s t (r.0 t m)) ∙ b))
+rising-front [] rest s t r (Memᴰ.head e) b = absurd (by_lattice.irrefl s (subst (λ (z : ℕ). before z s ≡ true) e b))
+rising-front [] rest s t r (Memᴰ.tail m) b = absurd (false≢true (sym (strict_turned by_lattice s t (r.0 t m)) ∙ b))
 rising-front (x ∷ done) rest s t r (Memᴰ.head e) b = Memᴰ.head e
 rising-front (x ∷ done) rest s t r (Memᴰ.tail m) b = Memᴰ.tail (rising-front done rest s t r.1 m b)

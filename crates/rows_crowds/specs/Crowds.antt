@@ -6,7 +6,7 @@
 --   Filled ..           the slot of set s is filled, and the others have what they had
 --   place s             the place of the last dimension of set s, counted from 0
 --   shorter s           set s without its last dimension
---   leftOut ..          the rows that are left out at set s: they share their cell under the set without its last dimension, but not that under s
+--   left_out ..          the rows that are left out at set s: they share their cell under the set without its last dimension, but not that under s
 --   ends l              how many groups a slot has
 use Rattle.std.specs.Prelude.{◌≡◌, ◌≢◌, true, List, [], ◌∷◌, ℕ, zero, suc, ◌+◌, ◌-◌, ◌^◌, ◌≤◌, ◌<◌, length, get_or}
 use Rattle.std.specs.Int.Count.{count_leading_zeros}
@@ -15,7 +15,7 @@ use Rattle.rows.specs.Rows.{cut}
 use Rattle.rows_bits.specs.Rowsets.{stays}
 use Rattle.rows_order.specs.Index.{key}
 use Rattle.rows_columns.specs.Columns.{part}
-use Rattle.rows_slots.specs.Slots.{crowds, shares, loners, loneRows, packed, end_in}
+use Rattle.rows_slots.specs.Slots.{crowds, shares, loners, lone_rows, packed, end_in}
 
 pub record Passing (least d n : ℕ) (ws passed : List ℕ) (s : ℕ) : Type 0 where
   pub room : length passed ≡ 32
@@ -29,9 +29,9 @@ place s = 31 - count_leading_zeros 32 s
 abbrev pub shorter : ℕ → ℕ
 shorter s = s - 2 ^ place s
 
-unfoldable pub leftOut : ℕ → List (List ℕ) → ℕ → ℕ → List ℕ
-leftOut least xs n zero = loners least (key 0 xs) n
-leftOut least xs n (suc s) = loneRows least (key (shorter (suc s)) xs) (key (suc s) xs) n
+unfoldable pub left_out : ℕ → List (List ℕ) → ℕ → ℕ → List ℕ
+left_out least xs n zero = loners least (key 0 xs) n
+left_out least xs n (suc s) = lone_rows least (key (shorter (suc s)) xs) (key (suc s) xs) n
 
 abbrev pub ends : List ℕ → ℕ
 ends [] = 0

@@ -22,28 +22,28 @@ abbrev entries : ℕ → List (Row Total) → ℕ
 entries d rows = length (ours (plain d) sums rows)
 
 -- by 2 to the power 1: the second row makes the total normal
-pub grows-most : (entries 1 (one (0 ∷ []) ∷ []) ≡ 1) × (entries 1 (late sums 1 (one (0 ∷ []) ∷ []) (one (1 ∷ []))) ≡ 3)
+pub grows_most : (entries 1 (one (0 ∷ []) ∷ []) ≡ 1) × (entries 1 (late sums 1 (one (0 ∷ []) ∷ []) (one (1 ∷ []))) ≡ 3)
 unfolding united folded grouped cuboid total ours proper single listed shared common normals sets ones ones_in flat_map
-grows-most = (refl, refl)
+grows_most = (refl, refl)
 
 -- by 1: no other row shares a code, and the total was normal
-pub grows-least : (entries 2 (one (0 ∷ 0 ∷ []) ∷ one (1 ∷ 1 ∷ []) ∷ []) ≡ 3) × (entries 2 (late sums 2 (one (0 ∷ 0 ∷ []) ∷ one (1 ∷ 1 ∷ []) ∷ []) (one (2 ∷ 2 ∷ []))) ≡ 4)
+pub grows_least : (entries 2 (one (0 ∷ 0 ∷ []) ∷ one (1 ∷ 1 ∷ []) ∷ []) ≡ 3) × (entries 2 (late sums 2 (one (0 ∷ 0 ∷ []) ∷ one (1 ∷ 1 ∷ []) ∷ []) (one (2 ∷ 2 ∷ []))) ≡ 4)
 unfolding united folded grouped cuboid total ours proper single listed shared common normals sets ones ones_in flat_map
-grows-least = (refl, refl)
+grows_least = (refl, refl)
 
 -- not at all: the codes are known
 abbrev two : List (Row Total)
 two = one (0 ∷ 0 ∷ []) ∷ one (1 ∷ 1 ∷ []) ∷ []
 
-pub gains-known : late sums 2 two (one (1 ∷ 1 ∷ [])) ≡ one (0 ∷ 0 ∷ []) ∷ record { codes = 1 ∷ 1 ∷ []; total = record { sum = pos 10; count = 2 } } ∷ []
+pub gains_known : late sums 2 two (one (1 ∷ 1 ∷ [])) ≡ one (0 ∷ 0 ∷ []) ∷ record { codes = 1 ∷ 1 ∷ []; total = record { sum = pos 10; count = 2 } } ∷ []
 unfolding united folded grouped cuboid total
-gains-known = refl
+gains_known = refl
 
-pub grows-not : (entries 2 two ≡ 3) × (entries 2 (late sums 2 two (one (1 ∷ 1 ∷ []))) ≡ 3)
+pub grows_not : (entries 2 two ≡ 3) × (entries 2 (late sums 2 two (one (1 ∷ 1 ∷ []))) ≡ 3)
 unfolding united folded grouped cuboid total ours proper single listed shared common normals sets ones ones_in flat_map
-grows-not = (refl, refl)
+grows_not = (refl, refl)
 
 -- from no base row: one entry before and after
-pub grows-first : (entries 2 [] ≡ 1) × (entries 2 (late sums 2 [] (one (1 ∷ 1 ∷ []))) ≡ 1)
+pub grows_first : (entries 2 [] ≡ 1) × (entries 2 (late sums 2 [] (one (1 ∷ 1 ∷ []))) ≡ 1)
 unfolding united folded grouped cuboid total ours proper single listed shared common normals sets ones ones_in flat_map
-grows-first = (refl, refl)
+grows_first = (refl, refl)

@@ -12,26 +12,26 @@ use Rattle.lists.specs.Order.{Rising, earlier}
 use Rattle.lists.proofs.Tests.{cases}
 use Rattle.lists.proofs.Members.{keep-length}
 use Rattle.lists.proofs.Order.{by_codes}
-use Rattle.lists.proofs.Sorted.{rising-one, rising-unique, rising-distinct}
+use Rattle.lists.proofs.Sorted.{rising-one, rising_unique, rising-distinct}
 use Rattle.lists.proofs.Pigeonhole.{fewest}
 use Rattle.lattice.proofs.Sets.{sets-count, sets-length}
 use Rattle.cube.specs.Measure.{Measure, Adds, Row, codes_of}
 use Rattle.cube.specs.Lattice.{Lattice, Laws}
 use Rattle.cube.specs.Codes.{Coded, falls, plain}
 use Rattle.cube.specs.Cube.{Exists, total}
-use Rattle.cube.specs.Condensed.{Entry, base, normal, listed, normals, Base, base-entry, normal-entry, ours}
+use Rattle.cube.specs.Condensed.{Entry, base, normal, listed, normals, Base, base_entry, normal_entry, ours}
 use Rattle.cube.specs.Table.{Table, folded}
-use Rattle.cube.proofs.Codes.{falls-whole, plain-laws}
+use Rattle.cube.proofs.Codes.{falls-whole, plain_laws}
 use Rattle.cube.proofs.Nodes.{proper-few}
 use Rattle.cube.proofs.Existing.{blank-row, blank-whole}
-use Rattle.cube.proofs.Normals.{normals-in, normals-distinct}
+use Rattle.cube.proofs.Normals.{normals_in, normals-distinct}
 use Rattle.cube.proofs.Empty.{ours-none}
 use Rattle.cube.proofs.Ours.{ours-length}
 use Rattle.cube.proofs.Folding.{coded}
 use Rattle.rows_merge.specs.United.{united, merged}
-use Rattle.rows_merge.proofs.Appending.{more-none, total-lacks}
+use Rattle.rows_merge.proofs.Appending.{more-none, total_lacks}
 use Rattle.rows_merge.proofs.Merging.{united-merged}
-use Rattle.rows_merge.proofs.United.{united-in, united-total, united-rising, united-folded, united-none-left}
+use Rattle.rows_merge.proofs.United.{united_in, united-total, united-rising, united-folded, united-none-left}
 use Rattle.rows_late.specs.Late.{late, over, paired, emptied}
 use Rattle.rows_late.proofs.Growing.{over-length, more-length, normals-count, paired-few}
 
@@ -47,10 +47,10 @@ module _ (L : Lattice) {A : Type 0} (M : Measure A) where
   emptied-ours : (rows : List (Row A)) → map (emptied M) (ours L M rows) ≡ outline (codes_of rows)
   unfolding ours
   emptied-ours rows =
-      map-append (emptied M) (map (base-entry L M rows) rows) (map (normal-entry L M rows) (normals L (codes_of rows)))
+      map-append (emptied M) (map (base_entry L M rows) rows) (map (normal_entry L M rows) (normals L (codes_of rows)))
       ∙ ap₂ ◌++◌
-      (map-map (emptied M) (base-entry L M rows) rows ∙ sym (map-map (λ x. base (bare x) (listed L (codes_of rows) x)) (λ r. r.codes) rows))
-      (map-map (emptied M) (normal-entry L M rows) (normals L (codes_of rows)))
+      (map-map (emptied M) (base_entry L M rows) rows ∙ sym (map-map (λ x. base (bare x) (listed L (codes_of rows) x)) (λ r. r.codes) rows))
+      (map-map (emptied M) (normal_entry L M rows) (normals L (codes_of rows)))
 
   pub ours-codes : (rows others : List (Row A)) → codes_of rows ≡ codes_of others → map (emptied M) (ours L M rows) ≡ map (emptied M) (ours L M others)
   ours-codes rows others e = emptied-ours rows ∙ ap outline e ∙ sym (emptied-ours others)
@@ -69,10 +69,10 @@ module _ {A : Type 0} (M : Measure A) (d : ℕ) (rows : List (Row A)) (t : Table
   after = late M d rows r
 
   -- The rows have the codes that they had, and those of the record, and rise strictly by them.
-  pub late-in : (y : List ℕ) → (y ∈ codes_of after) ↔ ((y ∈ xs) ⊎ (y ≡ x))
-  late-in y = (
-    λ m. cases ((united-in M d rows (r ∷ []) t (one_table d r k) y).0 m) inl (λ i. inr (Memᴰ.eq_of_singleton i)),
-    λ h. (united-in M d rows (r ∷ []) t (one_table d r k) y).1 (cases h inl (λ e. inr (Memᴰ.head e))),
+  pub late_in : (y : List ℕ) → (y ∈ codes_of after) ↔ ((y ∈ xs) ⊎ (y ≡ x))
+  late_in y = (
+    λ m. cases ((united_in M d rows (r ∷ []) t (one_table d r k) y).0 m) inl (λ i. inr (Memᴰ.eq_of_singleton i)),
+    λ h. (united_in M d rows (r ∷ []) t (one_table d r k) y).1 (cases h inl (λ e. inr (Memᴰ.head e))),
   )
 
   pub late-rising : Rising earlier (codes_of after)
@@ -83,21 +83,21 @@ module _ {A : Type 0} (M : Measure A) (d : ℕ) (rows : List (Row A)) (t : Table
   -- Where the codes are known, cells, lists and the number of entries stay.
   module _ (v : Rising earlier xs) (known : x ∈ xs) where
     pub late-codes : codes_of after ≡ xs
-    late-codes = rising-unique earlier by_codes (codes_of after) xs late-rising v
-        (λ y m. cases ((late-in y).0 m) (λ i. i) (λ e. Memᴰ.cast e known))
-        (λ y m. (late-in y).1 (inl m))
+    late-codes = rising_unique earlier by_codes (codes_of after) xs late-rising v
+        (λ y m. cases ((late_in y).0 m) (λ i. i) (λ e. Memᴰ.cast e known))
+        (λ y m. (late_in y).1 (inl m))
 
-    pub late-entries-stay : (L : Lattice) → map (emptied M) (ours L M after) ≡ map (emptied M) (ours L M rows)
-    late-entries-stay L = ours-codes L M after rows late-codes
+    pub late-entries_stay : (L : Lattice) → map (emptied M) (ours L M after) ≡ map (emptied M) (ours L M rows)
+    late-entries_stay L = ours-codes L M after rows late-codes
 
     pub late-length-stays : (L : Lattice) → length (ours L M after) ≡ length (ours L M rows)
-    late-length-stays L = omega (arith, ap length (late-entries-stay L), length-map (ours L M after) (emptied M), length-map (ours L M rows) (emptied M))
+    late-length-stays L = omega (arith, ap length (late-entries_stay L), length-map (ours L M after) (emptied M), length-map (ours L M rows) (emptied M))
 
   -- Otherwise, with a row before, the row's own entry is new, and one for each cell over it in which one row fell.
   module _ (L : Lattice) (W : Laws L) (b : Base L xs) (w : L.valid x) (new : x ∈ xs → ⊥) where
     based : Base L (codes_of after)
     based = record {
-      valid = λ y m. cases ((late-in y).0 m) (b.valid y) (λ e. rw e w);
+      valid = λ y m. cases ((late_in y).0 m) (b.valid y) (λ e. rw e w);
       distinct = rising-distinct earlier by_codes (codes_of after) late-rising;
     }
 
@@ -108,15 +108,15 @@ module _ {A : Type 0} (M : Measure A) (d : ℕ) (rows : List (Row A)) (t : Table
       ours-length L M rows,
       length-map after (λ q. q.codes),
       length-map rows (λ q. q.codes),
-      more-length L W xs (codes_of after) x b based new late-in,
-      normals-count L W xs (codes_of after) x b based new late-in (omega (arith, h, length-map rows (λ q. q.codes))),
+      more-length L W xs (codes_of after) x b based new late_in,
+      normals-count L W xs (codes_of after) x b based new late_in (omega (arith, h, length-map rows (λ q. q.codes))),
     )
 
     pub late-least : 1 ≤ length rows → length (ours L M rows) + 1 ≤ length (ours L M after)
     late-least h = omega (arith, late-entries h)
 
     pub late-most : 1 ≤ length rows → length (ours L M after) ≤ length (ours L M rows) + length L.nodes
-    late-most h = omega (arith, late-entries h, paired-few L W xs (codes_of after) x b based new late-in, proper-few L W)
+    late-most h = omega (arith, late-entries h, paired-few L W xs (codes_of after) x b based new late_in, proper-few L W)
 
   -- ---- totals
 
@@ -127,18 +127,18 @@ module _ {A : Type 0} (M : Measure A) (d : ℕ) (rows : List (Row A)) (t : Table
 
     module _ (L : Lattice) (c : List ℕ) where
       -- The cells over the row gain it,
-      pub late-gains : L.falls c x ≡ true → total L M after c ≡ M.more (total L M rows c) r.total
+      pub late_gains : L.falls c x ≡ true → total L M after c ≡ M.more (total L M rows c) r.total
       unfolding total
-      late-gains h = united-total M d E rows (r ∷ []) t (one_table d r k) L c ∙ ap (M.more (total L M rows c)) (rw h (E.None-more r.total))
+      late_gains h = united-total M d E rows (r ∷ []) t (one_table d r k) L c ∙ ap (M.more (total L M rows c)) (rw h (E.None-more r.total))
 
       -- from nothing where there was no record,
       pub late-starts : L.falls c x ≡ true → ((y : List ℕ) → y ∈ xs → L.falls c y ≡ true → ⊥) → total L M after c ≡ r.total
-      late-starts h n = late-gains h ∙ ap (λ (a : A). M.more a r.total) (total-lacks L M rows c n) ∙ E.None-more r.total
+      late-starts h n = late_gains h ∙ ap (λ (a : A). M.more a r.total) (total_lacks L M rows c n) ∙ E.None-more r.total
 
       -- and every other cell keeps its total.
-      pub late-keeps : L.falls c x ≡ false → total L M after c ≡ total L M rows c
+      pub late_keeps : L.falls c x ≡ false → total L M after c ≡ total L M rows c
       unfolding total
-      late-keeps h = united-total M d E rows (r ∷ []) t (one_table d r k) L c ∙ ap (M.more (total L M rows c)) (rw h) ∙ more-none M E (total L M rows c)
+      late_keeps h = united-total M d E rows (r ∷ []) t (one_table d r k) L c ∙ ap (M.more (total L M rows c)) (rw h) ∙ more-none M E (total L M rows c)
 
 -- From no base row: the cell of an empty table goes, and the row comes.
 module _ {A : Type 0} (M : Measure A) (E : Adds M) (d : ℕ) (r : Row A) (k : Coded d r.codes) where
@@ -155,7 +155,7 @@ module _ {A : Type 0} (M : Measure A) (E : Adds M) (d : ℕ) (r : Row A) (k : Co
     one-base = record { valid = λ x m. rw (Memᴰ.eq_of_singleton m) w; distinct = (λ y m. absurd (Memᴰ.not-nil m), tt) }
 
     one-normals : length (normals L (r.codes ∷ [])) ≤ 0
-    one-normals = fewest (normals L (r.codes ∷ [])) [] (normals-distinct L W (r.codes ∷ []) one-base) (λ c m. cases (normals-in L W (r.codes ∷ []) one-base m)
+    one-normals = fewest (normals L (r.codes ∷ [])) [] (normals-distinct L W (r.codes ∷ []) one-base) (λ c m. cases (normals_in L W (r.codes ∷ []) one-base m)
         (λ two. absurd (omega (arith, two, keep-length (L.falls c) (r.codes ∷ []))))
         (λ i. absurd (Memᴰ.not-nil i)))
 
@@ -173,21 +173,21 @@ over-count d x = over-length (plain d) x ∙ sets-count d
 
 module _ {A : Type 0} (M : Measure A) (d : ℕ) (rows : List (Row A)) (t : Table d rows) (r : Row A) (k : Coded d r.codes) where
   -- and they exist besides those that did.
-  pub late-exists : (c : List ℕ) → Exists (plain d) (codes_of (late M d rows r)) c ↔ (Exists (plain d) (codes_of rows) c ⊎ (falls c r.codes ≡ true))
-  late-exists c = (
+  pub late_exists : (c : List ℕ) → Exists (plain d) (codes_of (late M d rows r)) c ↔ (Exists (plain d) (codes_of rows) c ⊎ (falls c r.codes ≡ true))
+  late_exists c = (
     λ h. cases h
-        (λ q. cases ((late-in M d rows t r k q.0).0 q.1) (λ m. inl (inl (q.0, m, q.2))) (λ e. inr (rw (← e) q.2)))
-        (λ m. absurd (blank-row (plain d) (codes_of (late M d rows r)) m ((late-in M d rows t r k r.codes).1 (inr refl)))),
+        (λ q. cases ((late_in M d rows t r k q.0).0 q.1) (λ m. inl (inl (q.0, m, q.2))) (λ e. inr (rw (← e) q.2)))
+        (λ m. absurd (blank-row (plain d) (codes_of (late M d rows r)) m ((late_in M d rows t r k r.codes).1 (inr refl)))),
     λ h. cases h
         (λ g. cases g
-        (λ q. inl (q.0, (late-in M d rows t r k q.0).1 (inl q.1), q.2))
-        (λ m. inl (r.codes, (late-in M d rows t r k r.codes).1 (inr refl), rw (blank-whole (plain d) (codes_of rows) m) (falls-whole d r.codes k))))
-        (λ f. inl (r.codes, (late-in M d rows t r k r.codes).1 (inr refl), f)),
+        (λ q. inl (q.0, (late_in M d rows t r k q.0).1 (inl q.1), q.2))
+        (λ m. inl (r.codes, (late_in M d rows t r k r.codes).1 (inr refl), rw (blank-whole (plain d) (codes_of rows) m) (falls-whole d r.codes k))))
+        (λ f. inl (r.codes, (late_in M d rows t r k r.codes).1 (inr refl), f)),
   )
 
   -- Entries grow by 1 at least and 2 ^ d at most.
-  pub late-grows : Rising earlier (codes_of rows) → (r.codes ∈ codes_of rows → ⊥) → 1 ≤ length rows
+  pub late_grows : Rising earlier (codes_of rows) → (r.codes ∈ codes_of rows → ⊥) → 1 ≤ length rows
       → (length (ours (plain d) M rows) + 1 ≤ length (ours (plain d) M (late M d rows r))) × (length (ours (plain d) M (late M d rows r)) ≤ length (ours (plain d) M rows) + 2 ^ d)
-  late-grows v new h =
+  late_grows v new h =
       let b : Base (plain d) (codes_of rows) = record { valid = coded d rows t; distinct = rising-distinct earlier by_codes (codes_of rows) v } in
-      (late-least M d rows t r k (plain d) (plain-laws d) b k new h, omega (arith, late-most M d rows t r k (plain d) (plain-laws d) b k new h, sets-length d))
+      (late-least M d rows t r k (plain d) (plain_laws d) b k new h, omega (arith, late-most M d rows t r k (plain d) (plain_laws d) b k new h, sets-length d))

@@ -82,14 +82,14 @@ module _ (n row s : ℕ) (ls : List ℕ) (room : n * 71 ≤ length ls) (h : row 
       get_or-set_other written (row * 71) (i * 71) (get_or ls (row * 71) 0 + 1) 0 (λ e. omega (arith, q, e))
       ∙ get_or-set_other ls place (i * 71) s 0 (λ e. omega (arith, q, k, e))
 
-  pub short-put : Short n longer
-  short-put i l = cases (truth (eqb i row))
+  pub short_put : Short n longer
+  short_put i l = cases (truth (eqb i row))
       (λ q. rw (eqb-true i row q, size-here) (omega (arith, k)))
       (λ q. rw (size-other i (eqb-false i row q)) (f i l))
 
   -- its own list has the set behind it
-  put-here : take (get_or longer (row * 71) 0) (drop (row * 71 + 1) longer) ≡ take (get_or ls (row * 71) 0) (drop (row * 71 + 1) ls) ++ s ∷ []
-  put-here = rw (size-here, drop-set-lt (row * 71 + 1) written (row * 71) (get_or ls (row * 71) 0 + 1) (omega arith), drop-set-add (row * 71 + 1) ls (get_or ls (row * 71) 0) s, add-one)
+  put_here : take (get_or longer (row * 71) 0) (drop (row * 71 + 1) longer) ≡ take (get_or ls (row * 71) 0) (drop (row * 71 + 1) ls) ++ s ∷ []
+  put_here = rw (size-here, drop-set-lt (row * 71 + 1) written (row * 71) (get_or ls (row * 71) 0 + 1) (omega arith), drop-set-add (row * 71 + 1) ls (get_or ls (row * 71) 0) s, add-one)
       (take-suc-set (drop (row * 71 + 1) ls) (get_or ls (row * 71) 0) s (rw length-drop (omega (arith, k, h, room))))
 
   -- the others are as they were
@@ -100,12 +100,12 @@ module _ (n row s : ℕ) (ls : List ℕ) (room : n * 71 ≤ length ls) (h : row 
       ∙ part_out written (i * 71 + 1) m (row * 71) (get_or ls (row * 71) 0 + 1) (λ t. omega (arith, t, f i l, q))
       ∙ part_out ls (i * 71 + 1) m place s (λ t. omega (arith, t, f i l, k, q))
 
-  pub lists-put : lists_of n longer ≡ set (lists_of n ls) row (get_or (lists_of n ls) row [] ++ s ∷ [])
-  lists-put = ext_get_or [] (lists_of n longer) (set (lists_of n ls) row more)
+  pub lists_put : lists_of n longer ≡ set (lists_of n ls) row (get_or (lists_of n ls) row [] ++ s ∷ [])
+  lists_put = ext_get_or [] (lists_of n longer) (set (lists_of n ls) row more)
       (lists_length n longer ∙ sym (length-set (lists_of n ls) row more ∙ lists_length n ls))
       (λ i l. let m : i < n = rw (lists_length n longer) at l in
       lists_at n i longer m ∙ cases (truth (eqb i row))
-      (λ q. rw (eqb-true i row q, get_or-set_same (lists_of n ls) row more [] (rw lists_length h), lists_at n row ls h) put-here)
+      (λ q. rw (eqb-true i row q, get_or-set_same (lists_of n ls) row more [] (rw lists_length h), lists_at n row ls h) put_here)
       (λ q. rw (get_or-set_other (lists_of n ls) row i more [] (eqb-false i row q), lists_at n i ls m) (put_other i m (eqb-false i row q))))
     where
       more : List ℕ

@@ -47,21 +47,21 @@ module _ (s : ℕ) where
       noted_in l (set ls x v) i d.1 m (rw length-set h) ∙ ap (λ (k : List ℕ). k ++ s ∷ []) (get_or-set_other ls x i v [] (λ e. d.0 i m (sym e)))
 
   -- no list gets shorter
-  put-longer : (ls : List (List ℕ)) (x i : ℕ) → i < length ls → length (get_or ls i []) ≤ length (get_or (set ls x (longer ls x)) i [])
-  put-longer ls x i h = cases (truth (eqb i x))
+  put_longer : (ls : List (List ℕ)) (x i : ℕ) → i < length ls → length (get_or ls i []) ≤ length (get_or (set ls x (longer ls x)) i [])
+  put_longer ls x i h = cases (truth (eqb i x))
       (λ q. rw (eqb-true i x q, get_or-set_same ls x (longer ls x) [] (subst (λ (z : ℕ). z < length ls) (eqb-true i x q) h)) (omega (arith, length-append (get_or ls x []) (s ∷ []))))
       (λ q. rw (get_or-set_other ls x i (longer ls x) [] (eqb-false i x q)) (omega arith))
 
-  noted-longer : (l : List ℕ) (ls : List (List ℕ)) (i : ℕ) → i < length ls → length (get_or ls i []) ≤ length (get_or (noted s l ls) i [])
+  noted_longer : (l : List ℕ) (ls : List (List ℕ)) (i : ℕ) → i < length ls → length (get_or ls i []) ≤ length (get_or (noted s l ls) i [])
   unfolding noted
-  noted-longer [] ls i h = omega arith
-  noted-longer (x ∷ l) ls i h = le_trans (put-longer ls x i h) (noted-longer l (set ls x (longer ls x)) i (rw length-set h))
+  noted_longer [] ls i h = omega arith
+  noted_longer (x ∷ l) ls i h = le_trans (put_longer ls x i h) (noted_longer l (set ls x (longer ls x)) i (rw length-set h))
 
 -- ---- the rows before place i are done: with the set noted for the others the lists are `all`
 
-pub noting-done : (s : ℕ) (lone : List ℕ) (ls all : List (List ℕ)) (i : ℕ) → length lone ≤ i → noted s (drop i lone) ls ≡ all → ls ≡ all
+pub noting_done : (s : ℕ) (lone : List ℕ) (ls all : List (List ℕ)) (i : ℕ) → length lone ≤ i → noted s (drop i lone) ls ≡ all → ls ≡ all
 unfolding noted
-noting-done s lone ls all i h e = rw (drop_of_length-le lone h) at e
+noting_done s lone ls all i h e = rw (drop_of_length-le lone h) at e
 
 module _ (s : ℕ) (lone : List ℕ) (ls all : List (List ℕ)) (i : ℕ) (h : i < length lone) (e : noted s (drop i lone) ls ≡ all) where
   abbrev row : ℕ
@@ -74,13 +74,13 @@ module _ (s : ℕ) (lone : List ℕ) (ls all : List (List ℕ)) (i : ℕ) (h : i
   unfolding noted
   next = rw add-one (ap (λ (l : List ℕ). noted s l ls) (sym (drop-cons lone i 0 h)) ∙ e)
 
-  pub noting-more : {new : List (List ℕ)} → new ≡ more → noted s (drop (i + 1) lone) new ≡ all
-  noting-more q = ap (noted s (drop (i + 1) lone)) q ∙ next
+  pub noting_more : {new : List (List ℕ)} → new ≡ more → noted s (drop (i + 1) lone) new ≡ all
+  noting_more q = ap (noted s (drop (i + 1) lone)) q ∙ next
 
-  pub noting-room : row < length ls → Fit all → length (get_or ls row []) < 70
-  noting-room low fit =
+  pub noting_room : row < length ls → Fit all → length (get_or ls row []) < 70
+  noting_room low fit =
       let v = get_or ls row [] ++ s ∷ [] in
       let size : length all ≡ length ls = ap length (sym next) ∙ noted-length s (drop (i + 1) lone) more ∙ length-set ls row v in
       let here : length v ≤ length (get_or all row []) = subst (λ (z : List ℕ). length z ≤ length (get_or all row [])) (get_or-set_same ls row v [] low)
-      (subst (λ (z : List (List ℕ)). length (get_or more row []) ≤ length (get_or z row [])) next (noted-longer s (drop (i + 1) lone) more row (rw length-set low))) in
+      (subst (λ (z : List (List ℕ)). length (get_or more row []) ≤ length (get_or z row [])) next (noted_longer s (drop (i + 1) lone) more row (rw length-set low))) in
       omega (arith, here, length-append (get_or ls row []) (s ∷ []), fit (get_or all row []) (at_in [] all row (rw size low)))

@@ -5,7 +5,7 @@
 --   Empty n ls       no list has a set
 --   Fit ls           no list has more than 70 sets
 --   noted s l ls     lists with set s behind those of the rows l
---   ourLists d xs    our lists of base rows with codes xs
+--   our_lists d xs    our lists of base rows with codes xs
 use Rattle.std.specs.Prelude.{◌≡◌, List, [], ◌∷◌, ◌++◌, map, ℕ, zero, suc, ◌*◌, ◌≤◌, ◌<◌, length, get_or, set, take, drop}
 use Rattle.lists.specs.Lists.{◌∈◌}
 use Rattle.cube.specs.Codes.{plain}
@@ -28,5 +28,5 @@ unfoldable pub noted : ℕ → List ℕ → List (List ℕ) → List (List ℕ)
 noted s [] ls = ls
 noted s (x ∷ l) ls = noted s l (set ls x (get_or ls x [] ++ s ∷ []))
 
-unfoldable pub ourLists : ℕ → List (List ℕ) → List (List ℕ)
-ourLists d xs = map (listed (plain d) xs) xs
+unfoldable pub our_lists : ℕ → List (List ℕ) → List (List ℕ)
+our_lists d xs = map (listed (plain d) xs) xs

@@ -21,9 +21,9 @@ there = of (0 ∷ 0 ∷ []) (pos 4) 2 ∷ of (2 ∷ 0 ∷ []) (pos 9) 1 ∷ []
 abbrev met : List (Row Total)
 met = of (0 ∷ 0 ∷ []) (pos 4) 2 ∷ of (0 ∷ 1 ∷ []) (pos 50) 1 ∷ of (2 ∷ 0 ∷ []) (pos 2) 4 ∷ []
 
-pub united-two : united sums 2 here there ≡ met
+pub united_two : united sums 2 here there ≡ met
 unfolding united folded grouped cuboid total
-united-two = refl
+united_two = refl
 
-pub merged-two : merged sums here there ≡ met
-merged-two = refl
+pub merged_two : merged sums here there ≡ met
+merged_two = refl

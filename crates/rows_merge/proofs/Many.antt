@@ -15,9 +15,9 @@ use Rattle.cube.specs.Table.{Table, folded}
 use Rattle.cube.proofs.Sums.{sums-add}
 use Rattle.cube.proofs.Folding.{folded-none, folded-rising}
 use Rattle.cube.proofs.Folded.{folded-same}
-use Rattle.cube.proofs.Reordering.{folded-reordered}
-use Rattle.rows_merge.specs.United.{asOne, merged}
-use Rattle.rows_merge.proofs.Merging.{merging_start, merging-longer, merged-each, united-merged, count-merged}
+use Rattle.cube.proofs.Reordering.{folded_reordered}
+use Rattle.rows_merge.specs.United.{as_one, merged}
+use Rattle.rows_merge.proofs.Merging.{merging_start, merging_longer, merged-each, united-merged, count-merged}
 use Rattle.rows_merge.proofs.United.{folded-table, united-folded}
 
 module _ {A : Type 0} (M : Measure A) (E : Adds M) (d : ℕ) where
@@ -29,13 +29,13 @@ module _ {A : Type 0} (M : Measure A) (E : Adds M) (d : ℕ) where
 
     -- so they are no fewer than those of either.
     pub folded-front : length (folded M d a) ≤ length (folded M d (a ++ b))
-    folded-front = omega (arith, ap length folded-append, (merging-longer M (folded M d a) (folded M d b) [] (folded M d a) (folded M d b) (merging_start M (folded M d a) (folded M d b))).0)
+    folded-front = omega (arith, ap length folded-append, (merging_longer M (folded M d a) (folded M d b) [] (folded M d a) (folded M d b) (merging_start M (folded M d a) (folded M d b))).0)
 
-    pub folded-behind : length (folded M d b) ≤ length (folded M d (a ++ b))
-    folded-behind = omega (arith, ap length folded-append, (merging-longer M (folded M d a) (folded M d b) [] (folded M d a) (folded M d b) (merging_start M (folded M d a) (folded M d b))).1)
+    pub folded_behind : length (folded M d b) ≤ length (folded M d (a ++ b))
+    folded_behind = omega (arith, ap length folded-append, (merging_longer M (folded M d a) (folded M d b) [] (folded M d a) (folded M d b) (merging_start M (folded M d a) (folded M d b))).1)
 
   -- What rows have in common, and two rows as one keep, their base rows have.
-  pub folded-each : (P : Row A → Type 0) → ((r q : Row A) → r.codes ≡ q.codes → P r → P q → P (asOne M r q)) → (rows : List (Row A)) → Table d rows
+  pub folded-each : (P : Row A → Type 0) → ((r q : Row A) → r.codes ≡ q.codes → P r → P q → P (as_one M r q)) → (rows : List (Row A)) → Table d rows
       → ((r : Row A) → r ∈ rows → P r) → (r : Row A) → r ∈ folded M d rows → P r
   folded-each P k [] t f r m = absurd (Memᴰ.not-nil (rw (folded-none M d) at m))
   folded-each P k (q ∷ rows) t f r m =
@@ -52,16 +52,16 @@ pub folded-count : (d : ℕ) (a b : List (Row Total)) → Table d a → Table d 
 folded-count d a b t u = ap count_of (folded-append sums sums-add d a b t u) ∙ count-merged (folded sums d a) (folded sums d b)
 
 -- lists in another order, one behind the other
-perm-flat : {A B : Type 0} (f : A → List B) {l m : List A} → Permᴰ l m → Permᴰ (flat_map f l) (flat_map f m)
+perm_flat : {A B : Type 0} (f : A → List B) {l m : List A} → Permᴰ l m → Permᴰ (flat_map f l) (flat_map f m)
 unfolding flat_map
-perm-flat f Permᴰ.nil = Permᴰ.nil
-perm-flat f (Permᴰ.cons {a = a} {l₁ = l} {l₂ = m} e p) = subst (λ z. Permᴰ (f a ++ flat_map f l) (f z ++ flat_map f m)) e (Permᴰ.append_left (f a) (perm-flat f p))
-perm-flat f (Permᴰ.swap {a = a} {b = b} {a' = a'} {l = l} e g) =
+perm_flat f Permᴰ.nil = Permᴰ.nil
+perm_flat f (Permᴰ.cons {a = a} {l₁ = l} {l₂ = m} e p) = subst (λ z. Permᴰ (f a ++ flat_map f l) (f z ++ flat_map f m)) e (Permᴰ.append_left (f a) (perm_flat f p))
+perm_flat f (Permᴰ.swap {a = a} {b = b} {a' = a'} {l = l} e g) =
     subst (λ z. Permᴰ (f a ++ (f b ++ flat_map f l)) (f a' ++ (f z ++ flat_map f l))) e
     (subst (λ z. Permᴰ (f a ++ (f b ++ flat_map f l)) (f z ++ (f a ++ flat_map f l))) g
     (rw (← append_assoc (f a) (f b) (flat_map f l), ← append_assoc (f b) (f a) (flat_map f l)) (Permᴰ.append_right (flat_map f l) (Permᴰ.append_comm (f a) (f b)))))
-perm-flat f (Permᴰ.trans p q) = Permᴰ.trans (perm-flat f p) (perm-flat f q)
+perm_flat f (Permᴰ.trans p q) = Permᴰ.trans (perm_flat f p) (perm_flat f q)
 
 -- Lists in another order have the same base rows.
 pub folded-parts : {A B : Type 0} (M : Measure A) → Adds M → (d : ℕ) (f : B → List (Row A)) {l m : List B} → Permᴰ l m → folded M d (flat_map f l) ≡ folded M d (flat_map f m)
-folded-parts M E d f p = folded-reordered (perm-flat f p) M E d
+folded-parts M E d f p = folded_reordered (perm_flat f p) M E d

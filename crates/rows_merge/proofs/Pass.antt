@@ -10,22 +10,22 @@ use Rattle.cube.specs.declared.Total.{Total}
 use Rattle.cube.specs.Measure.{Row, plus, sums, codes_of}
 use Rattle.cube.specs.Bounds.{most, Bounded}
 use Rattle.cube.specs.Codes.{cell}
-use Rattle.rows.specs.Rows.{width, cut, row_at, rows_of, rowTotal}
-use Rattle.rows.proofs.Rows.{rows-codes, rows-small}
+use Rattle.rows.specs.Rows.{width, cut, row_at, rows_of, row_total}
+use Rattle.rows.proofs.Rows.{rows-codes, rows_small}
 use Rattle.rows.proofs.Flat.{blank, rows-length}
 use Rattle.rows_ready.proofs.Ready.{ready-row}
 use Rattle.archive_entries.proofs.Limits.{count-le}
 use Rattle.rows_merge.specs.declared.Turn.{Turn}
 use Rattle.rows_merge.specs.declared.Turn.TheVariants.{First, Second, Both}
-use Rattle.rows_merge.specs.United.{asOne, merged, Merging}
+use Rattle.rows_merge.specs.United.{as_one, merged, Merging}
 use Rattle.rows_merge.specs.Turns.{turn}
 use Rattle.rows_merge.specs.Pass.{Pair, Passed, Collected}
-use Rattle.rows_merge.proofs.Merging.{merging_start, merging-done, merging-longer}
+use Rattle.rows_merge.proofs.Merging.{merging_start, merging-done, merging_longer}
 use Rattle.rows_merge.proofs.Turns.{left-first, left-second, left_both, merging-first, merging-second, merging-both}
 
 -- a store of 1,024 rows has room for row k
-pub store-room : (d k : ℕ) → d ≤ 8 → k < 1024 → k * width d + width d ≤ 11264
-store-room d k h l = rw (← suc-mul k (width d)) (rows-small d (suc k) h l)
+pub store_room : (d k : ℕ) → d ≤ 8 → k < 1024 → k * width d + width d ≤ 11264
+store_room d k h l = rw (← suc-mul k (width d)) (rows_small d (suc k) h l)
 
 module _ {d n : ℕ} {ws : List ℕ} {m : ℕ} {ws' : List ℕ} (p : Pair d n ws m ws') where
   abbrev first : List (Row Total)
@@ -36,15 +36,15 @@ module _ {d n : ℕ} {ws : List ℕ} {m : ℕ} {ws' : List ℕ} (p : Pair d n ws
 
   -- the total of row i of the first list, and of row j of the second
   abbrev mine : ℕ → Total
-  mine = rowTotal d n ws
+  mine = row_total d n ws
 
   abbrev other : ℕ → Total
-  other = rowTotal d m ws'
+  other = row_total d m ws'
 
   -- two rows can be added
-  pub pair-adds : (i j : ℕ) → i < n → j < m → Bounded (mine i) × Bounded (other j) × ((mine i).count + (other j).count ≤ most)
-  unfolding rowTotal
-  pair-adds i j h k =
+  pub pair_adds : (i j : ℕ) → i < n → j < m → Bounded (mine i) × Bounded (other j) × ((mine i).count + (other j).count ≤ most)
+  unfolding row_total
+  pair_adds i j h k =
       let x = at_in blank first i (omega (arith, h, rows-length d n ws)) in
       let y = at_in blank second j (omega (arith, k, rows-length d m ws')) in
       (p.one.summable.each (get_or first i blank) x, p.other.summable.each (get_or second j blank) y, omega (arith, p.few, count-le first x, count-le second y))
@@ -82,21 +82,21 @@ module _ {d n : ℕ} {ws : List ℕ} {m : ℕ} {ws' : List ℕ} (p : Pair d n ws
                 (merging-first sums blank first second i j done g.merging (by_rows e));
           }
 
-      pub passed-second : here ≡ Second → j < m → x ≡ row_at (cut d m ws') j → t ≡ other j → Passed d n ws m ws' i (j + 1) done'
-      passed-second e h q f = record {
+      pub passed_second : here ≡ Second → j < m → x ≡ row_at (cut d m ws') j → t ≡ other j → Passed d n ws m ws' i (j + 1) done'
+      passed_second e h q f = record {
         of_one = g.of_one;
         of_other = omega (arith, h);
         merging = subst (λ (l : List (Row Total)). Merging sums first second l (drop i first) (drop (j + 1) second)) (sym (s ∙ ap (λ (r : Row Total). done ++ r ∷ []) (ready-row p.other j h q f)))
             (merging-second sums blank first second i j done g.merging (by_rows e) (omega (arith, h, rows-length d m ws')));
       }
 
-      pub passed-both : here ≡ Both → x ≡ row_at (cut d n ws) i → t ≡ plus (mine i) (other j) → Passed d n ws m ws' (i + 1) (j + 1) done'
-      unfolding rowTotal
-      passed-both e q f =
+      pub passed_both : here ≡ Both → x ≡ row_at (cut d n ws) i → t ≡ plus (mine i) (other j) → Passed d n ws m ws' (i + 1) (j + 1) done'
+      unfolding row_total
+      passed_both e q f =
           let h = turn-both e in
-          let r : record { codes = cell 255 x; total = t } ≡ asOne sums (get_or first i blank) (get_or second j blank) =
+          let r : record { codes = cell 255 x; total = t } ≡ as_one sums (get_or first i blank) (get_or second j blank) =
           ap (λ (u : Total). record { codes = cell 255 x; total = u }) f
-          ∙ ap (λ (u : Row Total). asOne sums u (get_or second j blank)) (ready-row p.one i h.0 q refl) in
+          ∙ ap (λ (u : Row Total). as_one sums u (get_or second j blank)) (ready-row p.one i h.0 q refl) in
           record {
             of_one = omega (arith, h.0);
             of_other = omega (arith, h.1);
@@ -113,15 +113,15 @@ module _ {d n : ℕ} {ws : List ℕ} {m : ℕ} {ws' : List ℕ} (p : Pair d n ws
     -- a full store with a row left
     pub passed_over : k ≡ 1024 → i + j < n + m → Collected 1024 (merged sums first second) d 1025 cells
     passed_over e h =
-        let l = merging-longer sums first second (rows_of d k cells) (drop i first) (drop j second) g.merging in
+        let l = merging_longer sums first second (rows_of d k cells) (drop i first) (drop j second) g.merging in
         record {
           fits = λ f. absurd (omega (arith, f));
           more = λ f. omega (arith, l.0, l.1, e, h, rows-length d k cells, length-drop i first, length-drop j second, rows-length d n ws, rows-length d m ws');
         }
 
     -- both lists at their ends
-    pub passed-done : k ≤ 1024 → n + m ≤ i + j → Collected 1024 (merged sums first second) d k cells
-    passed-done h e =
+    pub passed_done : k ≤ 1024 → n + m ≤ i + j → Collected 1024 (merged sums first second) d k cells
+    passed_done h e =
         let x : length first ≤ i = omega (arith, e, g.of_one, g.of_other, rows-length d n ws) in
         let y : length second ≤ j = omega (arith, e, g.of_one, g.of_other, rows-length d m ws') in
         record { fits = λ f. merging-done sums first second (rows_of d k cells) (rw (drop_of_length-le first x, drop_of_length-le second y) at g.merging); more = λ f. absurd (omega (arith, f, h)) }

@@ -15,14 +15,14 @@ use Rattle.lists.proofs.Order.{by_codes, same-eq, same_refl}
 use Rattle.cube.specs.Measure.{Measure, Row, codes_of}
 use Rattle.cube.proofs.Codes.{cell-wide, agree_same}
 use Rattle.rows_compare.specs.declared.Order.{Order}
-use Rattle.rows_compare.specs.Compare.{compared, isBefore, isEqual}
+use Rattle.rows_compare.specs.Compare.{compared, is_before, is_equal}
 use Rattle.rows_compare.proofs.Parting.{compared-agree}
 use Rattle.archive_entries.proofs.After.{earlier-compared}
 use Rattle.rows_merge.specs.declared.Turn.{Turn}
 use Rattle.rows_merge.specs.declared.Turn.TheVariants.{First, Second, Both}
-use Rattle.rows_merge.specs.United.{asOne, merged, Merging}
-use Rattle.rows_merge.specs.Turns.{turnBy, turn}
-use Rattle.rows_merge.proofs.Merging.{merged-left, merged-right, merged-both, merged-none, merging-step}
+use Rattle.rows_merge.specs.United.{as_one, merged, Merging}
+use Rattle.rows_merge.specs.Turns.{turn_by, turn}
+use Rattle.rows_merge.proofs.Merging.{merged-left, merged_right, merged-both, merged-none, merging-step}
 
 -- ---- the turn, by the places in both lists
 
@@ -35,32 +35,32 @@ module _ (xs ys : List (List ℕ)) (i j : ℕ) where
   unfolding turn
   turn-only h k = rw (drop-cons xs i [], drop_of_length-le ys k)
 
-  turn-codes : i < length xs → j < length ys → turn (drop i xs) (drop j ys) ≡ turnBy (earlier (get_or xs i []) (get_or ys j [])) (same (get_or xs i []) (get_or ys j []))
+  turn-codes : i < length xs → j < length ys → turn (drop i xs) (drop j ys) ≡ turn_by (earlier (get_or xs i []) (get_or ys j [])) (same (get_or xs i []) (get_or ys j []))
   unfolding turn
   turn-codes h k = rw (drop-cons xs i [], drop-cons ys j [])
 
 -- by a comparison of up to eight codes
-pub same-compared : (x y : List ℕ) {o : Order} → length x ≤ 8 → length y ≤ 8 → o ≡ compared 255 x y → same x y ≡ isEqual o
-same-compared x y h k e = ap₂ same (sym (cell-wide 8 x h)) (sym (cell-wide 8 y k)) ∙ sym (ap isEqual e ∙ compared-agree 255 x y ∙ agree_same 255 x y)
+pub same-compared : (x y : List ℕ) {o : Order} → length x ≤ 8 → length y ≤ 8 → o ≡ compared 255 x y → same x y ≡ is_equal o
+same-compared x y h k e = ap₂ same (sym (cell-wide 8 x h)) (sym (cell-wide 8 y k)) ∙ sym (ap is_equal e ∙ compared-agree 255 x y ∙ agree_same 255 x y)
 
 pub turn-compared : (xs ys : List (List ℕ)) (i j : ℕ) {x y : List ℕ} {o : Order} → i < length xs → j < length ys → x ≡ get_or xs i [] → y ≡ get_or ys j []
-    → length x ≤ 8 → length y ≤ 8 → o ≡ compared 255 x y → turn (drop i xs) (drop j ys) ≡ turnBy (isBefore o) (isEqual o)
+    → length x ≤ 8 → length y ≤ 8 → o ≡ compared 255 x y → turn (drop i xs) (drop j ys) ≡ turn_by (is_before o) (is_equal o)
 turn-compared xs ys i j {x} {y} h k p q m n e =
-    turn-codes xs ys i j h k ∙ ap₂ (λ (v w : List ℕ). turnBy (earlier v w) (same v w)) (sym p) (sym q) ∙ ap₂ turnBy (earlier-compared x y m n e) (same-compared x y m n e)
+    turn-codes xs ys i j h k ∙ ap₂ (λ (v w : List ℕ). turn_by (earlier v w) (same v w)) (sym p) (sym q) ∙ ap₂ turn_by (earlier-compared x y m n e) (same-compared x y m n e)
 
 -- ---- what the turn says of the merge
 
-first-is : (s t : Bool) → turnBy s t ≡ First → s ≡ true
+first-is : (s t : Bool) → turn_by s t ≡ First → s ≡ true
 first-is true t e = refl
 first-is false true e = absurd (false≢true cc)
 first-is false false e = absurd (false≢true cc)
 
-second_is : (s t : Bool) → turnBy s t ≡ Second → (s ≡ false) × (t ≡ false)
+second_is : (s t : Bool) → turn_by s t ≡ Second → (s ≡ false) × (t ≡ false)
 second_is true t e = absurd (false≢true cc)
 second_is false true e = absurd (false≢true cc)
 second_is false false e = (refl, refl)
 
-both_is : (s t : Bool) → turnBy s t ≡ Both → (s ≡ false) × (t ≡ true)
+both_is : (s t : Bool) → turn_by s t ≡ Both → (s ≡ false) × (t ≡ true)
 both_is true t e = absurd (false≢true cc)
 both_is false true e = (refl, refl)
 both_is false false e = absurd (false≢true cc)
@@ -89,18 +89,18 @@ module _ {A : Type 0} (M : Measure A) where
   first_on r k [] e = ap (λ (l : List (Row A)). r ∷ l) (sym (merged-none M k))
   first_on r k (q ∷ m) e = merged-left M r q k m (first-is (earlier r.codes q.codes) (same r.codes q.codes) e)
 
-  second-on : (q : Row A) (k m : List (Row A)) → turn (codes_of k) (codes_of (q ∷ m)) ≡ Second → merged M k (q ∷ m) ≡ q ∷ merged M k m
+  second_on : (q : Row A) (k m : List (Row A)) → turn (codes_of k) (codes_of (q ∷ m)) ≡ Second → merged M k (q ∷ m) ≡ q ∷ merged M k m
   unfolding turn
-  second-on q [] m e = refl
-  second-on q (r ∷ k) m e =
+  second_on q [] m e = refl
+  second_on q (r ∷ k) m e =
       let s = second_is (earlier r.codes q.codes) (same r.codes q.codes) e in
       cases (truth (earlier q.codes r.codes))
-      (λ t. merged-right M r q k m s.0 t)
+      (λ t. merged_right M r q k m s.0 t)
       (λ t. absurd (false≢true (sym s.1 ∙ ap (λ (x : List ℕ). same x q.codes) (by_codes.total r.codes q.codes s.0 t) ∙ same_refl q.codes)))
 
-  both-on : (r q : Row A) (k m : List (Row A)) → turn (codes_of (r ∷ k)) (codes_of (q ∷ m)) ≡ Both → merged M (r ∷ k) (q ∷ m) ≡ asOne M r q ∷ merged M k m
+  both_on : (r q : Row A) (k m : List (Row A)) → turn (codes_of (r ∷ k)) (codes_of (q ∷ m)) ≡ Both → merged M (r ∷ k) (q ∷ m) ≡ as_one M r q ∷ merged M k m
   unfolding turn
-  both-on r q k m e =
+  both_on r q k m e =
       let s = both_is (earlier r.codes q.codes) (same r.codes q.codes) e in
       let x : r.codes ≡ q.codes = same-eq r.codes q.codes s.1 in
       merged-both M r q k m s.0 (refuted (λ t. by_codes.irrefl q.codes (rw x at t)))
@@ -146,11 +146,11 @@ module _ {A : Type 0} (M : Measure A) (z : Row A) (a b : List (Row A)) (i j : �
     merging-second e h =
         let c = drop-cons b j z h in
         merging-step M a b done (drop i a) (drop j b) (drop i a) (drop (j + 1) b) (get_or b j z)
-        (rw (c, add-one j) (second-on M (get_or b j z) (drop i a) (drop (suc j) b) (rw c at (turned Second e)))) g
+        (rw (c, add-one j) (second_on M (get_or b j z) (drop i a) (drop (suc j) b) (rw c at (turned Second e)))) g
 
-    pub merging-both : here ≡ Both → Merging M a b (done ++ asOne M (get_or a i z) (get_or b j z) ∷ []) (drop (i + 1) a) (drop (j + 1) b)
+    pub merging-both : here ≡ Both → Merging M a b (done ++ as_one M (get_or a i z) (get_or b j z) ∷ []) (drop (i + 1) a) (drop (j + 1) b)
     merging-both e =
         let c = drop-cons a i z (left_both e).0 in
         let k = drop-cons b j z (left_both e).1 in
-        merging-step M a b done (drop i a) (drop j b) (drop (i + 1) a) (drop (j + 1) b) (asOne M (get_or a i z) (get_or b j z))
-        (rw (c, k, add-one i, add-one j) (both-on M (get_or a i z) (get_or b j z) (drop (suc i) a) (drop (suc j) b) (rw (c, k) at (turned Both e)))) g
+        merging-step M a b done (drop i a) (drop j b) (drop (i + 1) a) (drop (j + 1) b) (as_one M (get_or a i z) (get_or b j z))
+        (rw (c, k, add-one i, add-one j) (both_on M (get_or a i z) (get_or b j z) (drop (suc i) a) (drop (suc j) b) (rw (c, k) at (turned Both e)))) g

@@ -8,12 +8,12 @@ use Rattle.rows_merge.specs.declared.Turn.{Turn}
 use Rattle.rows_merge.specs.declared.Turn.TheVariants.{First, Second, Both}
 
 -- by whether the first codes come before, and whether they are the same
-abbrev pub turnBy : Bool → Bool → Turn
-turnBy true e = First
-turnBy false true = Both
-turnBy false false = Second
+abbrev pub turn_by : Bool → Bool → Turn
+turn_by true e = First
+turn_by false true = Both
+turn_by false false = Second
 
 unfoldable pub turn : List (List ℕ) → List (List ℕ) → Turn
 turn [] ys = Second
 turn (x ∷ xs) [] = First
-turn (x ∷ xs) (y ∷ ys) = turnBy (earlier x y) (same x y)
+turn (x ∷ xs) (y ∷ ys) = turn_by (earlier x y) (same x y)

@@ -1,6 +1,6 @@
 -- Base rows of two archives as one list (document 02, C-15).
 --
---   asOne M r q     two rows with equal codes as one: the codes, and both totals
+--   as_one M r q     two rows with equal codes as one: the codes, and both totals
 --   united M d a b  the base rows a and b in one archive: both lists, folded
 --   merged M a b    the same in one pass over two rising lists: the earlier row first, and rows with equal codes as one
 --   step            one step of merged, by two tests
@@ -11,8 +11,8 @@ use Rattle.cube.specs.Measure.{Measure, Row}
 use Rattle.cube.specs.Table.{folded}
 
 module _ {A : Type 0} (M : Measure A) where
-  abbrev pub asOne : Row A → Row A → Row A
-  asOne r q = record { codes = r.codes; total = M.more r.total q.total }
+  abbrev pub as_one : Row A → Row A → Row A
+  as_one r q = record { codes = r.codes; total = M.more r.total q.total }
 
   unfoldable pub united : ℕ → List (Row A) → List (Row A) → List (Row A)
   united d a b = folded M d (a ++ b)
@@ -21,7 +21,7 @@ module _ {A : Type 0} (M : Measure A) where
   abbrev pub step : Bool → Bool → Row A → Row A → List (Row A) → List (Row A) → List (Row A) → List (Row A)
   step true t r q k l m = r ∷ k
   step false true r q k l m = q ∷ l
-  step false false r q k l m = asOne r q ∷ m
+  step false false r q k l m = as_one r q ∷ m
 
   abbrev pub merged : List (Row A) → List (Row A) → List (Row A)
   merged [] b = b

@@ -10,13 +10,13 @@ use Rattle.cube.specs.Codes.{plain}
 use Rattle.cube.specs.Cube.{blank, total, filled}
 use Rattle.cube.specs.Condensed.{common, normals}
 use Rattle.cube.proofs.Normals.{normals-length}
-use Rattle.rows_ready.specs.Blank.{blanks, blankRows}
+use Rattle.rows_ready.specs.Blank.{blanks, blank_rows}
 
 pub blank-count : (L : Lattice) (xs : List (List ℕ)) → length (blank L xs) ≡ blanks (length xs)
 blank-count L [] = refl
 blank-count L (x ∷ xs) = refl
 
-pub blank-rows : (d : ℕ) (rows : List (Row Total)) → map (filled (plain d) measure rows) (blank (plain d) (codes_of rows)) ≡ blankRows d (length rows)
+pub blank-rows : (d : ℕ) (rows : List (Row Total)) → map (filled (plain d) measure rows) (blank (plain d) (codes_of rows)) ≡ blank_rows d (length rows)
 unfolding total
 blank-rows d [] = refl
 blank-rows d (r ∷ rows) = refl

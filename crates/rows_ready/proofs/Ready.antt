@@ -13,7 +13,7 @@ use Rattle.cube.specs.Measure.{Row}
 use Rattle.cube.specs.Codes.{Coded, cell, plain}
 use Rattle.cube.specs.Condensed.{Base}
 use Rattle.cube.proofs.Codes.{cell-wide}
-use Rattle.rows.specs.Rows.{width, row_of, cut, row_at, rows_of, rowTotal}
+use Rattle.rows.specs.Rows.{width, row_of, cut, row_at, rows_of, row_total}
 use Rattle.rows.proofs.Rows.{rows-codes, row-at, row-length}
 use Rattle.rows.proofs.Flat.{blank, rows_at, total-at, row-front}
 use Rattle.rows_ready.specs.Ready.{Ready}
@@ -44,7 +44,7 @@ module _ {d n : ℕ} {ws : List ℕ} (ready : Ready d n ws) where
 
   module _ (i : ℕ) (h : i < n) where
     -- the cell of a row on all dimensions, with the row's total, is the row
-    pub ready-row : {x : List ℕ} {t : Total} → x ≡ row_at (cut d n ws) i → t ≡ rowTotal d n ws i
+    pub ready-row : {x : List ℕ} {t : Total} → x ≡ row_at (cut d n ws) i → t ≡ row_total d n ws i
         → record { codes = cell 255 x; total = t } ≡ get_or table i blank
     ready-row {x} {t} e f =
         let long : length x ≡ d = ap length e ∙ row-length d n i ws h ready.size in

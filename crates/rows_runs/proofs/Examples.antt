@@ -32,9 +32,9 @@ orders : map order (3 ∷ 5 ∷ 7 ∷ []) ≡ (3 ∷ 1 ∷ 4 ∷ 0 ∷ 2 ∷ 5 �
 unfolding key insert arranged
 orders = refl
 
-orders-carried : map (carried 1) (3 ∷ 5 ∷ 7 ∷ []) ≡ map order (3 ∷ 5 ∷ 7 ∷ [])
+orders_carried : map (carried 1) (3 ∷ 5 ∷ 7 ∷ []) ≡ map order (3 ∷ 5 ∷ 7 ∷ [])
 unfolding key insert arranged into runs flat_map
-orders-carried = refl
+orders_carried = refl
 
 groups-carried : map (carried-groups 1) (3 ∷ 5 ∷ 7 ∷ []) ≡ map groups (3 ∷ 5 ∷ 7 ∷ [])
 unfolding key insert arranged into runs flat_map

@@ -15,24 +15,24 @@ use Rattle.cube.specs.Cube.{within, total, cuboid}
 use Rattle.cube.specs.Condensed.{shared}
 use Rattle.cube.specs.Bounds.{Summable}
 use Rattle.cube.specs.Table.{Table}
-use Rattle.rows.specs.Rows.{cut, rows_of, rowTotal}
+use Rattle.rows.specs.Rows.{cut, rows_of, row_total}
 use Rattle.rows.proofs.Rows.{cut-length, rows-codes}
 use Rattle.rows_order.specs.Index.{key, arranged, Indexed}
 use Rattle.rows_runs.specs.Runs.{Run, runs}
-use Rattle.rows_runs.specs.Totals.{amountAt, amountsAt, runTotal, Summed}
+use Rattle.rows_runs.specs.Totals.{amount_at, amounts_at, run_total, Summed}
 use Rattle.rows_order.specs.Few.{Ordered}
-use Rattle.rows_order.proofs.Arranged.{arranged-ordered, arranged-of, arranged-below}
+use Rattle.rows_order.proofs.Arranged.{arranged_ordered, arranged_of, arranged-below}
 use Rattle.rows_runs.proofs.Runs.{cell_of}
 use Rattle.rows.proofs.Flat.{blank, rows-length}
 use Rattle.rows_runs.proofs.Counts.{arranged-summable}
 use Rattle.rows_runs.proofs.Groups.{cells_are, run-rows}
 
 -- the total of rows at places, by the rows themselves
-total-picked : (d n : ℕ) (ws l : List ℕ) (t : Total)
-    → foldl (λ t r. plus t r.total) t (map (amountAt (rowTotal d n ws)) l) ≡ foldl (λ t r. plus t r.total) t (map (λ i. get_or (rows_of d n ws) i blank) l)
-unfolding rowTotal
-total-picked d n ws [] t = refl
-total-picked d n ws (i ∷ l) t = total-picked d n ws l (plus t (rowTotal d n ws i))
+total_picked : (d n : ℕ) (ws l : List ℕ) (t : Total)
+    → foldl (λ t r. plus t r.total) t (map (amount_at (row_total d n ws)) l) ≡ foldl (λ t r. plus t r.total) t (map (λ i. get_or (rows_of d n ws) i blank) l)
+unfolding row_total
+total_picked d n ws [] t = refl
+total_picked d n ws (i ∷ l) t = total_picked d n ws l (plus t (row_total d n ws i))
 
 -- two or more rows
 abbrev pub crowded : Run → Bool
@@ -42,15 +42,15 @@ module _ {n dims set : ℕ} {ws index : List ℕ} (x : Indexed n dims set ws ind
   abbrev keys : ℕ → List ℕ
   keys = key set (cut dims n ws)
 
-  pub indexed-ordered : Ordered keys index
-  indexed-ordered = rw x.order (arranged-ordered keys n)
+  pub indexed_ordered : Ordered keys index
+  indexed_ordered = rw x.order (arranged_ordered keys n)
 
-  pub indexed-below : (i : ℕ) → i < n → get_or index i 0 < n
-  indexed-below i h = rw x.order (arranged-below keys n i h)
+  pub indexed_below : (i : ℕ) → i < n → get_or index i 0 < n
+  indexed_below i h = rw x.order (arranged-below keys n i h)
 
   -- the index names each row
   pub indexed_of : {i : ℕ} → i < n → i ∈ index
-  indexed_of h = rw x.order (arranged-of keys n h)
+  indexed_of h = rw x.order (arranged_of keys n h)
 
   -- no run is left
   pub runs_done : (i : ℕ) → n ≤ i → runs keys (drop i index) ≡ []
@@ -58,39 +58,39 @@ module _ {n dims set : ℕ} {ws index : List ℕ} (x : Indexed n dims set ws ind
   runs_done i h = rw (drop_of_length-le index {i = i} (omega (arith, x.places)))
 
   -- the keys of the runs are the cells of the set
-  pub indexed-cells : map (cell_of keys) (runs keys index) ≡ cuboid (plain dims) (cut dims n ws) set
-  indexed-cells =
+  pub indexed_cells : map (cell_of keys) (runs keys index) ≡ cuboid (plain dims) (cut dims n ws) set
+  indexed_cells =
       ap (λ (l : List ℕ). map (cell_of keys) (runs keys l)) (x.order ∙ ap (arranged keys) (sym (cut-length dims n ws)))
       ∙ cells_are dims set (cut dims n ws)
 
   module _ {r : Run} (m : r ∈ runs keys index) where
     -- a run has as many rows as fall in its cell
-    pub indexed-length : ((y : List ℕ) → y ∈ cut dims n ws → Coded dims y) → suc (length r.more) ≡ length (within (plain dims) (cut dims n ws) (cell_of keys r))
+    pub indexed_length : ((y : List ℕ) → y ∈ cut dims n ws → Coded dims y) → suc (length r.more) ≡ length (within (plain dims) (cut dims n ws) (cell_of keys r))
     unfolding key
-    indexed-length v =
+    indexed_length v =
         let xs = cut dims n ws in
         sym (length-map (r.first ∷ r.more) (λ i. get_or xs i []))
         ∙ ap length (run-rows (λ y. y) [] xs dims set v keys (λ i h. refl) (rw (x.order ∙ ap (arranged keys) (sym (cut-length dims n ws))) at m))
 
   -- the keys of the runs of two or more rows are the shared cells
-  pub indexed-shared : ((y : List ℕ) → y ∈ cut dims n ws → Coded dims y) → map (cell_of keys) (keep crowded (runs keys index)) ≡ shared (plain dims) (cut dims n ws) set
+  pub indexed_shared : ((y : List ℕ) → y ∈ cut dims n ws → Coded dims y) → map (cell_of keys) (keep crowded (runs keys index)) ≡ shared (plain dims) (cut dims n ws) set
   unfolding shared
-  indexed-shared v =
+  indexed_shared v =
       let many : List ℕ → Bool = λ c. leb 2 (length (within (plain dims) (cut dims n ws) c)) in
-      ap (map (cell_of keys)) (keep_same crowded (λ r. many (cell_of keys r)) (runs keys index) (λ r m. ap (leb 2) (indexed-length m v)))
-      ∙ sym (keep-map many (cell_of keys) (runs keys index)) ∙ ap (keep many) indexed-cells
+      ap (map (cell_of keys)) (keep_same crowded (λ r. many (cell_of keys r)) (runs keys index) (λ r m. ap (leb 2) (indexed_length m v)))
+      ∙ sym (keep-map many (cell_of keys) (runs keys index)) ∙ ap (keep many) indexed_cells
 
   abbrev table : List (Row Total)
   table = rows_of dims n ws
 
   abbrev totals : ℕ → Total
-  totals = rowTotal dims n ws
+  totals = row_total dims n ws
 
   -- any part of the index names rows that can be totalled
-  pub indexed-summed : Summable table → (from end : ℕ) → end ≤ n → Summed totals n index from end
-  indexed-summed s from end h = record {
+  pub indexed_summed : Summable table → (from end : ℕ) → end ≤ n → Summed totals n index from end
+  indexed_summed s from end h = record {
     within = omega (arith, h, x.places);
-    below = λ j k. indexed-below j (omega (arith, k, h));
+    below = λ j k. indexed_below j (omega (arith, k, h));
     room = rw x.order (arranged-summable dims n ws s keys from end);
   }
 
@@ -99,8 +99,8 @@ module _ {n dims set : ℕ} {ws index : List ℕ} (x : Indexed n dims set ws ind
   key-codes i = ap (cell set) (ap (λ (l : List (List ℕ)). get_or l i []) (sym (rows-codes dims n ws)) ∙ get_or-map (λ q. q.codes) table i blank)
 
   -- the total of a run is its cell's
-  pub indexed-total : Table dims table → {r : Run} → r ∈ runs keys index → runTotal totals (r.first ∷ r.more) ≡ total (plain dims) measure table (cell_of keys r)
-  unfolding runTotal amountsAt total
-  indexed-total t {r} m =
-      total-picked dims n ws (r.first ∷ r.more) nothing
+  pub indexed_total : Table dims table → {r : Run} → r ∈ runs keys index → run_total totals (r.first ∷ r.more) ≡ total (plain dims) measure table (cell_of keys r)
+  unfolding run_total amounts_at total
+  indexed_total t {r} m =
+      total_picked dims n ws (r.first ∷ r.more) nothing
       ∙ ap (total_of measure) (run-rows (λ q. q.codes) blank table dims set t keys (λ i h. key-codes i) (rw (x.order ∙ ap (arranged keys) (sym (rows-length dims n ws))) at m))

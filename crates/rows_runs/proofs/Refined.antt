@@ -6,16 +6,16 @@ use Prim.Native.Nat.{ℕ, ◌<◌}
 use Rattle.lists.specs.Lists.{◌∈◌, keep, Pairwise}
 use Rattle.lists.specs.Order.{earlier}
 use Rattle.lists.proofs.Tests.{refuted}
-use Rattle.lists.proofs.Members.{keep-in, keep_append, keep-part, flat_in, flat-same}
-use Rattle.lists.proofs.Pairwise.{pairwise-imp, pairwise-of-map, pairwise-flat}
-use Rattle.lists.proofs.Order.{by_codes, strict-turned, same-eq, same_refl}
+use Rattle.lists.proofs.Members.{keep_in, keep_append, keep-part, flat_in, flat-same}
+use Rattle.lists.proofs.Pairwise.{pairwise_imp, pairwise_of_map, pairwise_flat}
+use Rattle.lists.proofs.Order.{by_codes, strict_turned, same-eq, same_refl}
 use Rattle.rows_order.specs.Index.{arranged}
 use Rattle.rows_runs.specs.Runs.{Run, members, runs, again}
-use Rattle.rows_order.proofs.Numbers.{numbers, numbers-in}
+use Rattle.rows_order.proofs.Numbers.{numbers, numbers_in}
 use Rattle.rows_order.specs.Few.{Ordered}
-use Rattle.rows_order.proofs.Arranged.{alike, arranged-ordered, arranged-in, arranged-keep}
+use Rattle.rows_order.proofs.Arranged.{alike, arranged_ordered, arranged_in, arranged-keep}
 use Rattle.rows_runs.proofs.Runs.{cell_of, runs-rising, runs-whole, runs-members, runs-flat, runs_same}
-use Rattle.rows_order.proofs.Sorted.{sorted-unique, arranged-sorted, stable-ordered, stable-keep, stable-in}
+use Rattle.rows_order.proofs.Sorted.{sorted_unique, arranged_sorted, stable_ordered, stable-keep, stable_in}
 
 -- of the first n rows, those that the key `short` parts are in its order by `long` too, and the others in the order of `more`
 pub record Refined (n : ℕ) (short more long : ℕ → List ℕ) : Type 0 where
@@ -47,24 +47,24 @@ module _ {n : ℕ} {short more long : ℕ → List ℕ} (f : Refined n short mor
 
   member_of : {r : Run} → r ∈ groups → (x : ℕ) → x ∈ members r → (x < n) × (cell_of short r ≡ short x)
   member_of {r} m x i =
-      let k = keep-in (alike short (cell_of short r)) (arranged short n) (subst (λ (l : List ℕ). x ∈ l) (runs-whole short (arranged short n) (arranged-ordered short n) m) i) in
-      (arranged-in short n k.0, same-eq (cell_of short r) (short x) k.1)
+      let k = keep_in (alike short (cell_of short r)) (arranged short n) (subst (λ (l : List ℕ). x ∈ l) (runs-whole short (arranged short n) (arranged_ordered short n) m) i) in
+      (arranged_in short n k.0, same-eq (cell_of short r) (short x) k.1)
 
-  again-of : {r : Run} → r ∈ groups → (x : ℕ) → x ∈ again more r → (x < n) × (cell_of short r ≡ short x)
-  again-of {r} m x i = member_of m x (stable-in more (members r) i)
+  again_of : {r : Run} → r ∈ groups → (x : ℕ) → x ∈ again more r → (x < n) × (cell_of short r ≡ short x)
+  again_of {r} m x i = member_of m x (stable_in more (members r) i)
 
-  again-ordered : (r : Run) → r ∈ groups → Ordered long (again more r)
-  again-ordered r m = pairwise-imp (λ x y. earlier (more y) (more x) ≡ false) (λ x y. earlier (long y) (long x) ≡ false) (again more r)
-      (λ x y i j e. let p = again-of m x i in
-      let q = again-of m y j in
+  again_ordered : (r : Run) → r ∈ groups → Ordered long (again more r)
+  again_ordered r m = pairwise_imp (λ x y. earlier (more y) (more x) ≡ false) (λ x y. earlier (long y) (long x) ≡ false) (again more r)
+      (λ x y i j e. let p = again_of m x i in
+      let q = again_of m y j in
       f.equal y x q.0 p.0 (sym q.1 ∙ p.1) ∙ e)
-      (stable-ordered more (members r))
+      (stable_ordered more (members r))
 
   -- rows of an earlier group come before those of a later one
   groups-part : (r q : Run) → r ∈ groups → q ∈ groups → earlier (cell_of short r) (cell_of short q) ≡ true → (x y : ℕ) → x ∈ again more r → y ∈ again more q → earlier (long x) (long y) ≡ true
   groups-part r q m o e x y i j =
-      let a = again-of m x i in
-      let b = again-of o y j in
+      let a = again_of m x i in
+      let b = again_of o y j in
       f.parted x y a.0 b.0 (subst (λ (c : List ℕ). earlier c (short y) ≡ true) a.1 (subst (λ (c : List ℕ). earlier (cell_of short r) c ≡ true) b.1 e))
 
   again-parts : (z : ℕ) → z < n → keep (alike long (long z)) (flat_map (again more) groups) ≡ keep (alike long (long z)) (numbers n)
@@ -74,34 +74,34 @@ module _ {n : ℕ} {short more long : ℕ → List ℕ} (f : Refined n short mor
       let into-short : (x : ℕ) → x < n → p x ≡ true → alike short (short z) x ≡ true = λ x k t. rw (← alike-short z x h k (same-eq (long z) (long x) t)) (same_refl (short z)) in
       keep-flat p (again more) groups
       ∙ flat-same (λ r. keep p (again more r)) (λ r. keep p (members r)) groups
-      (λ r m. sym (keep-part p (alike more (more z)) (again more r) (λ x i. into_more x (again-of m x i).0))
+      (λ r m. sym (keep-part p (alike more (more z)) (again more r) (λ x i. into_more x (again_of m x i).0))
       ∙ ap (keep p) (stable-keep more (more z) (members r))
       ∙ keep-part p (alike more (more z)) (members r) (λ x i. into_more x (member_of m x i).0))
       ∙ sym (keep-flat p members groups)
       ∙ ap (keep p) (runs-members short (arranged short n))
-      ∙ sym (keep-part p (alike short (short z)) (arranged short n) (λ x i. into-short x (arranged-in short n i)))
+      ∙ sym (keep-part p (alike short (short z)) (arranged short n) (λ x i. into-short x (arranged_in short n i)))
       ∙ ap (keep p) (arranged-keep short (short z) n)
-      ∙ keep-part p (alike short (short z)) (numbers n) (λ x i. into-short x (numbers-in n i))
+      ∙ keep-part p (alike short (short z)) (numbers n) (λ x i. into-short x (numbers_in n i))
 
   groups-apart : Pairwise (λ r q. (x y : ℕ) → x ∈ again more r → y ∈ again more q → earlier (long x) (long y) ≡ true) groups
-  groups-apart = pairwise-imp (λ r q. earlier (cell_of short r) (cell_of short q) ≡ true) (λ r q. (x y : ℕ) → x ∈ again more r → y ∈ again more q → earlier (long x) (long y) ≡ true) groups
-      groups-part (pairwise-of-map (λ c e. earlier c e ≡ true) (cell_of short) groups (runs-rising short (arranged short n) (arranged-ordered short n)))
+  groups-apart = pairwise_imp (λ r q. earlier (cell_of short r) (cell_of short q) ≡ true) (λ r q. (x y : ℕ) → x ∈ again more r → y ∈ again more q → earlier (long x) (long y) ≡ true) groups
+      groups-part (pairwise_of_map (λ c e. earlier c e ≡ true) (cell_of short) groups (runs-rising short (arranged short n) (arranged_ordered short n)))
 
   -- the order by the longer key, and its groups
-  pub order-refined : arranged long n ≡ flat_map (again more) groups
-  order-refined = sorted-unique long n (arranged-sorted long n) (record {
-    ordered = pairwise-flat (λ x y. earlier (long y) (long x) ≡ false) (again more) groups again-ordered
-        (pairwise-imp (λ r q. (x y : ℕ) → x ∈ again more r → y ∈ again more q → earlier (long x) (long y) ≡ true)
+  pub order_refined : arranged long n ≡ flat_map (again more) groups
+  order_refined = sorted_unique long n (arranged_sorted long n) (record {
+    ordered = pairwise_flat (λ x y. earlier (long y) (long x) ≡ false) (again more) groups again_ordered
+        (pairwise_imp (λ r q. (x y : ℕ) → x ∈ again more r → y ∈ again more q → earlier (long x) (long y) ≡ true)
         (λ r q. (x y : ℕ) → x ∈ again more r → y ∈ again more q → earlier (long y) (long x) ≡ false) groups
-        (λ r q m o h x y i j. strict-turned by_codes (long x) (long y) (h x y i j)) groups-apart);
-    below = λ x m. let r = flat_in (again more) groups m in (again-of r.1 x r.2).0;
+        (λ r q m o h x y i j. strict_turned by_codes (long x) (long y) (h x y i j)) groups-apart);
+    below = λ x m. let r = flat_in (again more) groups m in (again_of r.1 x r.2).0;
     parts = again-parts;
   })
 
-  pub groups-refined : runs long (arranged long n) ≡ flat_map (λ r. runs more (again more r)) groups
-  groups-refined =
-      ap (runs long) order-refined ∙ runs-flat long (again more) groups groups-apart
+  pub groups_refined : runs long (arranged long n) ≡ flat_map (λ r. runs more (again more r)) groups
+  groups_refined =
+      ap (runs long) order_refined ∙ runs-flat long (again more) groups groups-apart
       ∙ flat-same (λ r. runs long (again more r)) (λ r. runs more (again more r)) groups
-      (λ r m. runs_same long more (again more r) (λ x y i j. let p = again-of m x i in
-      let q = again-of m y j in
+      (λ r m. runs_same long more (again more r) (λ x y i j. let p = again_of m x i in
+      let q = again_of m y j in
       f.equal x y p.0 q.0 (sym p.1 ∙ q.1)))

@@ -14,7 +14,7 @@ use Rattle.lists.specs.Lists.{◌∈◌, keep, Pairwise}
 use Rattle.lists.specs.Order.{earlier, insert, sort, Rising}
 use Rattle.lists.proofs.Tests.{cases, truth}
 use Rattle.lists.proofs.Members.{keep-none, flat_in}
-use Rattle.lists.proofs.Places.{pairwise-at}
+use Rattle.lists.proofs.Places.{pairwise_at}
 use Rattle.lists.proofs.Order.{by_codes, same-eq, same_refl, not_same}
 use Rattle.lists.proofs.Sorted.{sort-rising}
 use Rattle.rows_runs.specs.Runs.{Run, members, runs, attach, Ends}
@@ -62,7 +62,7 @@ module _ (key : ℕ → List ℕ) where
       let x = get_or l from 0 in
       let y = get_or l (suc from) 0 in
       let e : earlier (key x) (key y) ≡ false = f (suc from) (omega arith) (omega arith) in
-      let s : key x ≡ key y = by_codes.total (key x) (key y) e (pairwise-at 0 (λ x y. earlier (key y) (key x) ≡ false) l from (suc from) o (omega arith) (omega arith)) in
+      let s : key x ≡ key y = by_codes.total (key x) (key y) e (pairwise_at 0 (λ x y. earlier (key y) (key x) ≡ false) l from (suc from) o (omega arith) (omega arith)) in
       let rest = run_at l k (suc from) r o (omega arith) h (λ j i t. rw (← s) (f j (omega arith) t)) (λ t. rw (← s) (g t)) in
       rw (drop-cons l from 0 (omega arith), drop-cons l (suc from) 0 (omega arith), slice-cons (suc from) r l 0 (omega arith) h)
       (runs-join x y (drop (suc (suc from)) l) (slice (suc (suc from)) r l) (runs key (drop r l)) e (rw (drop-cons l (suc from) 0 (omega arith)) at rest))
@@ -77,16 +77,16 @@ module _ (key : ℕ → List ℕ) where
   abbrev pub cell_of : Run → List ℕ
   cell_of r = key r.first
 
-  attach-in : (x : ℕ) {r : Run} (rs : List Run) → r ∈ attach key x rs → (r.first ≡ x) ⊎ (r ∈ rs)
-  attach-in x [] m = inl (ap (λ (q : Run). q.first) (Memᴰ.eq_of_singleton m))
-  attach-in x (q ∷ rs) m = cases (truth (earlier (key x) (key q.first)))
+  attach_in : (x : ℕ) {r : Run} (rs : List Run) → r ∈ attach key x rs → (r.first ≡ x) ⊎ (r ∈ rs)
+  attach_in x [] m = inl (ap (λ (q : Run). q.first) (Memᴰ.eq_of_singleton m))
+  attach_in x (q ∷ rs) m = cases (truth (earlier (key x) (key q.first)))
       (λ e. cases (Memᴰ.cases_cons (rw e at m)) (λ p. inl (ap (λ (q : Run). q.first) p)) inr)
       (λ e. cases (Memᴰ.cases_cons (rw e at m)) (λ p. inl (ap (λ (q : Run). q.first) p)) (λ i. inr (Memᴰ.tail i)))
 
-  pub runs-in : {r : Run} (l : List ℕ) → r ∈ runs key l → r.first ∈ l
+  pub runs_in : {r : Run} (l : List ℕ) → r ∈ runs key l → r.first ∈ l
   unfolding runs
-  runs-in [] m = absurd (Memᴰ.not-nil m)
-  runs-in (x ∷ l) m = cases (attach-in x (runs key l) m) Memᴰ.head (λ i. Memᴰ.tail (runs-in l i))
+  runs_in [] m = absurd (Memᴰ.not-nil m)
+  runs_in (x ∷ l) m = cases (attach_in x (runs key l) m) Memᴰ.head (λ i. Memᴰ.tail (runs_in l i))
 
   attach-sort : (x : ℕ) (rs : List Run) → ((r : Run) → r ∈ rs → earlier (cell_of r) (key x) ≡ false)
       → map cell_of (attach key x rs) ≡ insert earlier (key x) (map cell_of rs)
@@ -100,7 +100,7 @@ module _ (key : ℕ → List ℕ) where
   unfolding runs
   runs-sort [] o = refl
   runs-sort (x ∷ l) o =
-      attach-sort x (runs key l) (λ r m. o.0 r.first (runs-in l m)) ∙ ap (insert earlier (key x)) (runs-sort l o.1)
+      attach-sort x (runs key l) (λ r m. o.0 r.first (runs_in l m)) ∙ ap (insert earlier (key x)) (runs-sort l o.1)
 
   pub runs-rising : (l : List ℕ) → Ordered key l → Rising earlier (map cell_of (runs key l))
   runs-rising l o = rw (runs-sort l o) (sort-rising earlier by_codes (map key l))
@@ -115,7 +115,7 @@ module _ (key : ℕ → List ℕ) where
 
   pub runs-whole : {r : Run} (l : List ℕ) → Ordered key l → r ∈ runs key l → Whole l r
   unfolding runs
-  runs-whole [] o m = absurd (Memᴰ.not-nil (runs-in [] m))
+  runs-whole [] o m = absurd (Memᴰ.not-nil (runs_in [] m))
   runs-whole {r} (x ∷ []) o m = rw (Memᴰ.eq_of_singleton m, same_refl (key x))
   runs-whole {r} (x ∷ y ∷ l) o m =
       let f = runs-first y l in
@@ -124,7 +124,7 @@ module _ (key : ℕ → List ℕ) where
       (λ q. let none : keep (alike key (key x)) (y ∷ l) ≡ [] = keep-none (alike key (key x)) (y ∷ l)
       (λ z i p. by_codes.irrefl (key z) (rw (same-eq (key x) (key z) p) at (before-all key x y l o.1 e i))) in
       rw (q, same_refl (key x), none))
-      (λ i. whole-more x (y ∷ l) r (before-all key x y l o.1 e (runs-in (y ∷ l) i)) (runs-whole (y ∷ l) o.1 i)))
+      (λ i. whole-more x (y ∷ l) r (before-all key x y l o.1 e (runs_in (y ∷ l) i)) (runs-whole (y ∷ l) o.1 i)))
       (λ e. let s : key x ≡ key y = by_codes.total (key x) (key y) e (o.0 y (Memᴰ.head refl)) in
       cases (Memᴰ.cases_cons (rw (runs-join x y l f.0 f.1 e f.2) at m))
       (λ q. rw (q, same_refl (key x), s) (ap (λ (t : List ℕ). x ∷ t) (runs-whole (y ∷ l) o.1 (rw f.2 (Memᴰ.head refl)))))
@@ -175,4 +175,4 @@ module _ (key other : ℕ → List ℕ) where
   runs_same [] h = refl
   runs_same (x ∷ l) h =
       ap (attach key x) (runs_same l (λ y z i j. h y z (Memᴰ.tail i) (Memᴰ.tail j)))
-      ∙ attach-same x (runs other l) (λ r m. h x r.first (Memᴰ.head refl) (Memᴰ.tail (runs-in other l m)))
+      ∙ attach-same x (runs other l) (λ r m. h x r.first (Memᴰ.head refl) (Memᴰ.tail (runs_in other l m)))

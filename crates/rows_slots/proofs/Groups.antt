@@ -9,11 +9,11 @@ use lib.ListN.{length}
 use Rattle.lists.specs.Lists.{◌∈◌, keep}
 use Rattle.lists.specs.Order.{earlier}
 use Rattle.lists.proofs.Tests.{cases, truth}
-use Rattle.lists.proofs.Members.{keep-in, keep_append, keep_all, keep-none}
+use Rattle.lists.proofs.Members.{keep_in, keep_append, keep_all, keep-none}
 use Rattle.lists.proofs.Order.{same-eq}
 use Rattle.rows_order.specs.Index.{arranged}
 use Rattle.rows_runs.specs.Runs.{Run, members, runs, attach}
-use Rattle.rows_order.proofs.Arranged.{alike, arranged-ordered}
+use Rattle.rows_order.proofs.Arranged.{alike, arranged_ordered}
 use Rattle.rows_runs.proofs.Runs.{cell_of, runs-whole}
 use Rattle.rows_slots.specs.Slots.{flat, large, crowds, shares, loners}
 
@@ -44,8 +44,8 @@ module _ (key : ℕ → List ℕ) (n least : ℕ) where
   pub shares-large : (r : Run) → r ∈ runs key (arranged key n) → (x : ℕ) → x ∈ members r → shares least key n x ≡ large least r
   unfolding shares
   shares-large r m x i =
-      let w = runs-whole key (arranged key n) (arranged-ordered key n) m in
-      let k : cell_of key r ≡ key x = same-eq (cell_of key r) (key x) (keep-in (alike key (cell_of key r)) (arranged key n) (subst (λ (l : List ℕ). x ∈ l) w i)).1 in
+      let w = runs-whole key (arranged key n) (arranged_ordered key n) m in
+      let k : cell_of key r ≡ key x = same-eq (cell_of key r) (key x) (keep_in (alike key (cell_of key r)) (arranged key n) (subst (λ (l : List ℕ). x ∈ l) w i)).1 in
       ap (λ (l : List ℕ). leb least (length l)) (ap (λ (c : List ℕ). keep (alike key c) (arranged key n)) (sym k) ∙ sym w)
 
   pub crowds-flat : flat (crowds least key n) ≡ keep (shares least key n) (arranged key n)

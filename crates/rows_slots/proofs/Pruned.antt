@@ -9,20 +9,20 @@ use lib.ListN.{length}
 use borrow.Author.Tests.{leb-false}
 use Rattle.lists.specs.Lists.{◌∈◌, keep}
 use Rattle.lists.proofs.Tests.{cases, truth}
-use Rattle.lists.proofs.Members.{keep-part, keep-in}
+use Rattle.lists.proofs.Members.{keep-part, keep_in}
 use Rattle.rows_runs.specs.Runs.{Run, members, runs}
 use Rattle.rows_order.specs.Few.{Ordered}
 use Rattle.rows_runs.proofs.Runs.{runs-one, runs-join, runs_append}
 use Rattle.rows_slots.specs.Slots.{flat, large}
 use Rattle.rows_slots.proofs.Groups.{flat-runs, flat_keep}
-use Rattle.rows_slots.proofs.Last.{not-self}
+use Rattle.rows_slots.proofs.Last.{not_self}
 use Rattle.rows_slots.proofs.Rising.{Split, split_runs}
 
-keep-swap : {A : Type 0} (p q : A → Bool) (l : List A) → keep p (keep q l) ≡ keep q (keep p l)
-keep-swap p q [] = refl
-keep-swap p q (x ∷ l) = cases (truth (p x))
-    (λ s. cases (truth (q x)) (λ t. simp (s, t, keep-swap p q l)) (λ t. simp (s, t, keep-swap p q l)))
-    (λ s. cases (truth (q x)) (λ t. simp (s, t, keep-swap p q l)) (λ t. simp (s, t, keep-swap p q l)))
+keep_swap : {A : Type 0} (p q : A → Bool) (l : List A) → keep p (keep q l) ≡ keep q (keep p l)
+keep_swap p q [] = refl
+keep_swap p q (x ∷ l) = cases (truth (p x))
+    (λ s. cases (truth (q x)) (λ t. simp (s, t, keep_swap p q l)) (λ t. simp (s, t, keep_swap p q l)))
+    (λ s. cases (truth (q x)) (λ t. simp (s, t, keep_swap p q l)) (λ t. simp (s, t, keep_swap p q l)))
 
 -- ---- runs of runs
 
@@ -32,7 +32,7 @@ module _ (key : ℕ → List ℕ) where
   one-run x [] h = runs-one key x
   one-run x (y ∷ m) h =
       let e = h y (Memᴰ.head refl) in
-      runs-join key x y m m [] (not-self (key x) (key y) (sym e)) (one-run y m (λ z i. h z (Memᴰ.tail i) ∙ sym e))
+      runs-join key x y m m [] (not_self (key x) (key y) (sym e)) (one-run y m (λ z i. h z (Memᴰ.tail i) ∙ sym e))
 
   pub runs-again : (rs : List Run) → Split key rs → runs key (flat rs) ≡ rs
   unfolding runs
@@ -61,10 +61,10 @@ module _ (key : ℕ → List ℕ) where
     kept : runs key (keep p l) ≡ keep test (runs key l)
     kept = ap (runs key) (ap (keep p) (sym (flat-runs key l)) ∙ sym (flat_keep p test (runs key l) alike)) ∙ runs-again (keep test (runs key l)) (split_runs key test l o)
 
-    pub large-kept : keep (large least) (runs key (keep p l)) ≡ keep (large least) (runs key l)
-    large-kept = ap (keep (large least)) kept ∙ keep-part (large least) test (runs key l) (λ r m t. h r m t r.first (Memᴰ.head refl))
+    pub large_kept : keep (large least) (runs key (keep p l)) ≡ keep (large least) (runs key l)
+    large_kept = ap (keep (large least)) kept ∙ keep-part (large least) test (runs key l) (λ r m t. h r m t r.first (Memᴰ.head refl))
 
-    pub small-kept : flat (keep lone (runs key (keep p l))) ≡ keep p (flat (keep lone (runs key l)))
-    small-kept =
-        ap (λ (rs : List Run). flat (keep lone rs)) kept ∙ ap flat (keep-swap lone test (runs key l))
-        ∙ flat_keep p test (keep lone (runs key l)) (λ r m. alike r (keep-in lone (runs key l) m).0)
+    pub small_kept : flat (keep lone (runs key (keep p l))) ≡ keep p (flat (keep lone (runs key l)))
+    small_kept =
+        ap (λ (rs : List Run). flat (keep lone rs)) kept ∙ ap flat (keep_swap lone test (runs key l))
+        ∙ flat_keep p test (keep lone (runs key l)) (λ r m. alike r (keep_in lone (runs key l) m).0)

@@ -15,8 +15,8 @@ of x s = record { codes = x; total = record { sum = s; count = 1 } }
 abbrev rows : List (Row Total)
 rows = of (0 ∷ 1 ∷ []) (pos 50) ∷ of (1 ∷ 0 ∷ []) (pos 20) ∷ of (1 ∷ 1 ∷ []) (pos 9) ∷ []
 
-pub seen-two : seen 1 1 rows ≡ of (1 ∷ 0 ∷ []) (pos 20) ∷ of (1 ∷ 1 ∷ []) (pos 9) ∷ []
-seen-two = refl
+pub seen_two : seen 1 1 rows ≡ of (1 ∷ 0 ∷ []) (pos 20) ∷ of (1 ∷ 1 ∷ []) (pos 9) ∷ []
+seen_two = refl
 
 -- in the window of code 1 of dimension 1; in one without rows; in that of code 1 of dimension 2
 abbrev through : ℕ → ℕ → List ℕ → Reply Total

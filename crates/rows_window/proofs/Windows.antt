@@ -11,19 +11,19 @@ use lib.ListN.{length, get_or, replicate}
 use borrow.Author.Tests.{eqb-true, eq-eqb}
 use Rattle.lists.specs.Lists.{◌∈◌, some, keep, Distinct}
 use Rattle.lists.specs.Order.{Rising, earlier}
-use Rattle.lists.proofs.Tests.{cases, truth, both, some_in, some_of, some-not, refuted}
-use Rattle.lists.proofs.Members.{keep-in, keep-of, keep-part}
-use Rattle.lists.proofs.Pairwise.{pairwise-keep, pairwise_map, pairwise-of-map}
+use Rattle.lists.proofs.Tests.{cases, truth, both, some_in, some_of, some_not, refuted}
+use Rattle.lists.proofs.Members.{keep_in, keep_of, keep-part}
+use Rattle.lists.proofs.Pairwise.{pairwise_keep, pairwise_map, pairwise_of_map}
 use Rattle.lists.proofs.Order.{by_codes}
-use Rattle.lists.proofs.Sorted.{rising-unique, rising-distinct}
+use Rattle.lists.proofs.Sorted.{rising_unique, rising-distinct}
 use Rattle.cube.specs.Measure.{Measure, Adds, Row, total_of, codes_of}
 use Rattle.cube.specs.Lattice.{Lattice}
 use Rattle.cube.specs.Codes.{ALL, falls, plain}
 use Rattle.cube.specs.Cube.{Exists, total}
 use Rattle.cube.specs.Condensed.{Entry, Base, Condensed, lookup, ours}
-use Rattle.cube.proofs.Codes.{plain-laws}
+use Rattle.cube.proofs.Codes.{plain_laws}
 use Rattle.cube.proofs.Existing.{blank-whole}
-use Rattle.cube.proofs.Ours.{ours-condensed}
+use Rattle.cube.proofs.Ours.{ours_condensed}
 use Rattle.cube.proofs.Questions.{lookup-found, lookup-none}
 use Rattle.rows_window.specs.Window.{at, seen, Agree, replied, unnumbered}
 
@@ -42,9 +42,9 @@ module _ (L : Lattice) {A : Type 0} (M : Measure A) (p : List ℕ → Bool) (row
   some-part : some (λ r. L.falls c r.codes) part ≡ some (λ r. L.falls c r.codes) rows
   some-part = cases (truth (some (λ r. L.falls c r.codes) rows))
       (λ e. let r = some_in (λ r. L.falls c r.codes) rows e in
-      some_of (λ r. L.falls c r.codes) (keep-of (λ r. p r.codes) r.1 (h r.0.codes r.2)) r.2 ∙ sym e)
+      some_of (λ r. L.falls c r.codes) (keep_of (λ r. p r.codes) r.1 (h r.0.codes r.2)) r.2 ∙ sym e)
       (λ e. refuted (λ f. let r = some_in (λ r. L.falls c r.codes) part f in
-      false≢true (sym (some-not (λ r. L.falls c r.codes) e (keep-in (λ r. p r.codes) rows r.1).0) ∙ r.2)) ∙ sym e)
+      false≢true (sym (some_not (λ r. L.falls c r.codes) e (keep_in (λ r. p r.codes) rows r.1).0) ∙ r.2)) ∙ sym e)
 
   -- so they reply as all rows do.
   pub replied-part : replied L M part c ≡ replied L M rows c
@@ -52,8 +52,8 @@ module _ (L : Lattice) {A : Type 0} (M : Measure A) (p : List ℕ → Bool) (row
   replied-part = rw (total-part, some-part)
 
 -- a cell other than that of an empty table exists just where a row falls in it
-exists-some : (L : Lattice) {A : Type 0} (rows : List (Row A)) (c : List ℕ) → c ≢ L.whole → Exists L (codes_of rows) c ↔ (some (λ r. L.falls c r.codes) rows ≡ true)
-exists-some L rows c n = (
+exists_some : (L : Lattice) {A : Type 0} (rows : List (Row A)) (c : List ℕ) → c ≢ L.whole → Exists L (codes_of rows) c ↔ (some (λ r. L.falls c r.codes) rows ≡ true)
+exists_some L rows c n = (
   λ x. cases x
       (λ y. let r = Memᴰ.of_map (λ q. q.codes) rows y.1 in some_of (λ r. L.falls c r.codes) r.1 (ap (L.falls c) r.2 ∙ y.2))
       (λ b. absurd (n (blank-whole L (codes_of rows) b))),
@@ -65,8 +65,8 @@ pub lookup-replied : (L : Lattice) {A : Type 0} (M : Measure A) (rows : List (Ro
     → (c : List ℕ) → c ≢ L.whole → unnumbered (lookup L c es) ≡ replied L M rows c
 unfolding replied
 lookup-replied L M rows z c n = cases (truth (some (λ r. L.falls c r.codes) rows))
-    (λ e. rw (e, (lookup-found L M rows z c ((exists-some L rows c n).1 e)).4))
-    (λ e. rw (e, lookup-none L M rows z c (λ x. false≢true (sym e ∙ (exists-some L rows c n).0 x))))
+    (λ e. rw (e, (lookup-found L M rows z c ((exists_some L rows c n).1 e)).4))
+    (λ e. rw (e, lookup-none L M rows z c (λ x. false≢true (sym e ∙ (exists_some L rows c n).0 x))))
 
 -- ---- base rows are known by their members
 
@@ -86,22 +86,22 @@ module _ {A : Type 0} where
       (λ i. i) in
       ap₂ ◌∷◌ first (same_codes a b l u.1 rest)
 
-  pub rows-unique : (a b : List (Row A)) → Rising earlier (codes_of a) → Rising earlier (codes_of b) → ((r : Row A) → r ∈ a → r ∈ b) → ((r : Row A) → r ∈ b → r ∈ a) → a ≡ b
-  rows-unique a b u v f g =
-      same_codes a b (rising-unique earlier by_codes (codes_of a) (codes_of b) u v
+  pub rows_unique : (a b : List (Row A)) → Rising earlier (codes_of a) → Rising earlier (codes_of b) → ((r : Row A) → r ∈ a → r ∈ b) → ((r : Row A) → r ∈ b → r ∈ a) → a ≡ b
+  rows_unique a b u v f g =
+      same_codes a b (rising_unique earlier by_codes (codes_of a) (codes_of b) u v
       (λ x m. let r = Memᴰ.of_map (λ q. q.codes) a m in rw (← r.2) (Memᴰ.map (λ q. q.codes) (f r.0 r.1)))
       (λ x m. let r = Memᴰ.of_map (λ q. q.codes) b m in rw (← r.2) (Memᴰ.map (λ q. q.codes) (g r.0 r.1))))
       (rising-distinct earlier by_codes (codes_of a) u) f
 
   seen-rising : (rows : List (Row A)) (i k : ℕ) → Rising earlier (codes_of rows) → Rising earlier (codes_of (seen i k rows))
   seen-rising rows i k u = pairwise_map (λ x y. earlier x y ≡ true) (λ r. r.codes) (seen i k rows)
-      (pairwise-keep (λ p q. earlier p.codes q.codes ≡ true) (λ r. eqb (at i r.codes) k) rows (pairwise-of-map (λ x y. earlier x y ≡ true) (λ r. r.codes) rows u))
+      (pairwise_keep (λ p q. earlier p.codes q.codes ≡ true) (λ r. eqb (at i r.codes) k) rows (pairwise_of_map (λ x y. earlier x y ≡ true) (λ r. r.codes) rows u))
 
   -- Base rows that agree in a window have the same list of rows there.
   pub seen_same : (rows others : List (Row A)) (i k : ℕ) → Rising earlier (codes_of rows) → Rising earlier (codes_of others) → Agree i k rows others → seen i k rows ≡ seen i k others
-  seen_same rows others i k u v g = rows-unique (seen i k rows) (seen i k others) (seen-rising rows i k u) (seen-rising others i k v)
-      (λ r m. let p = keep-in (λ r. eqb (at i r.codes) k) rows m in keep-of (λ r. eqb (at i r.codes) k) (g.into r (eqb-true (at i r.codes) k p.1) p.0) p.1)
-      (λ r m. let p = keep-in (λ r. eqb (at i r.codes) k) others m in keep-of (λ r. eqb (at i r.codes) k) (g.back r (eqb-true (at i r.codes) k p.1) p.0) p.1)
+  seen_same rows others i k u v g = rows_unique (seen i k rows) (seen i k others) (seen-rising rows i k u) (seen-rising others i k v)
+      (λ r m. let p = keep_in (λ r. eqb (at i r.codes) k) rows m in keep_of (λ r. eqb (at i r.codes) k) (g.into r (eqb-true (at i r.codes) k p.1) p.0) p.1)
+      (λ r m. let p = keep_in (λ r. eqb (at i r.codes) k) others m in keep_of (λ r. eqb (at i r.codes) k) (g.back r (eqb-true (at i r.codes) k p.1) p.0) p.1)
 
 -- ---- sets of dimensions: a row in a cell has the cell's codes
 
@@ -125,8 +125,8 @@ module _ {A : Type 0} (M : Measure A) (d i k : ℕ) (c : List ℕ) (e : at i c �
   inside x f = eq-eqb (at i x) k (falls_at c x (i - 1) f (λ h. n (sym e ∙ h)) ∙ e)
 
   -- is not that of an empty table,
-  not-whole : 1 ≤ i → i ≤ d → c ≢ replicate d ALL
-  not-whole one low f = n (sym e ∙ ap (at i) f ∙ whole-at d (i - 1) (omega (arith, one, low)))
+  not_whole : 1 ≤ i → i ≤ d → c ≢ replicate d ALL
+  not_whole one low f = n (sym e ∙ ap (at i) f ∙ whole-at d (i - 1) (omega (arith, one, low)))
 
   -- has the total of the rows in the window, and exists where one of them falls in it:
   pub seen-total : (rows : List (Row A)) → total (plain d) M (seen i k rows) c ≡ total (plain d) M rows c
@@ -135,15 +135,15 @@ module _ {A : Type 0} (M : Measure A) (d i k : ℕ) (c : List ℕ) (e : at i c �
   seen-some : (rows : List (Row A)) → some (λ r. falls c r.codes) (seen i k rows) ≡ some (λ r. falls c r.codes) rows
   seen-some rows = some-part (plain d) M (λ x. eqb (at i x) k) rows c inside
 
-  pub seen-exists : 1 ≤ i → i ≤ d → (rows : List (Row A)) → Exists (plain d) (codes_of (seen i k rows)) c ↔ Exists (plain d) (codes_of rows) c
-  seen-exists one low rows = let w = not-whole one low in (
-    λ x. (exists-some (plain d) rows c w).1 (sym (seen-some rows) ∙ (exists-some (plain d) (seen i k rows) c w).0 x),
-    λ x. (exists-some (plain d) (seen i k rows) c w).1 (seen-some rows ∙ (exists-some (plain d) rows c w).0 x),
+  pub seen_exists : 1 ≤ i → i ≤ d → (rows : List (Row A)) → Exists (plain d) (codes_of (seen i k rows)) c ↔ Exists (plain d) (codes_of rows) c
+  seen_exists one low rows = let w = not_whole one low in (
+    λ x. (exists_some (plain d) rows c w).1 (sym (seen-some rows) ∙ (exists_some (plain d) (seen i k rows) c w).0 x),
+    λ x. (exists_some (plain d) (seen i k rows) c w).1 (seen-some rows ∙ (exists_some (plain d) rows c w).0 x),
   )
 
   -- a look-up for it among our entries of all rows, without its number, is the reply of the rows in the window alone.
   pub lookup-seen : Adds M → 1 ≤ i → i ≤ d → (rows : List (Row A)) → Base (plain d) (codes_of rows)
       → unnumbered (lookup (plain d) c (ours (plain d) M rows)) ≡ replied (plain d) M (seen i k rows) c
   lookup-seen E one low rows b =
-      lookup-replied (plain d) M rows (ours-condensed (plain d) (plain-laws d) M E rows b) c (not-whole one low)
+      lookup-replied (plain d) M rows (ours_condensed (plain d) (plain_laws d) M E rows b) c (not_whole one low)
       ∙ sym (replied-part (plain d) M (λ x. eqb (at i x) k) rows c inside)

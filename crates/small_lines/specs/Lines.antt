@@ -4,8 +4,8 @@
 --   spaced l        numbers with one space between them
 --   line d          the line for d
 --   report          the three lines
---   pairText n c    a number of entries and its tally, each behind a space
---   textFrom k l    those of the tallies l, from k entries on, that are not 0
+--   pair_text n c    a number of entries and its tally, each behind a space
+--   text_from k l    those of the tallies l, from k entries on, that are not 0
 use mathlib.Core.List.{List, [], ◌∷◌, ◌++◌, flat_map}
 use Rattle.std.specs.Prelude.{ℕ, zero, suc}
 use Rattle.text_decimals.specs.Decimals.{ascii, decimal}
@@ -24,10 +24,10 @@ line d = spaced (fields d) ++ ascii "\n"
 unfoldable pub report : List ℕ
 report = line 1 ++ (line 2 ++ line 3)
 
-unfoldable pub pairText : ℕ → ℕ → List ℕ
-pairText n c = gap n ++ gap c
+unfoldable pub pair_text : ℕ → ℕ → List ℕ
+pair_text n c = gap n ++ gap c
 
-unfoldable pub textFrom : ℕ → List ℕ → List ℕ
-textFrom k [] = []
-textFrom k (zero ∷ l) = textFrom (suc k) l
-textFrom k (suc c ∷ l) = pairText k (suc c) ++ textFrom (suc k) l
+unfoldable pub text_from : ℕ → List ℕ → List ℕ
+text_from k [] = []
+text_from k (zero ∷ l) = text_from (suc k) l
+text_from k (suc c ∷ l) = pair_text k (suc c) ++ text_from (suc k) l

@@ -2,7 +2,7 @@
 ghost use Rattle.std.specs.Prelude.{◌≤◌, length};
 ghost use Rattle.fields.specs.Written.{Wrote};
 ghost use Rattle.small_model.specs.Tally.{tally};
-ghost use Rattle.small_lines.specs.Lines.{gap, pairText, textFrom};
+ghost use Rattle.small_lines.specs.Lines.{gap, pair_text, text_from};
 
 // Writes a space and a number.
 fn put_gap(out: &mut [u8], n: u64) -> usize
@@ -15,8 +15,8 @@ fn put_gap(out: &mut [u8], n: u64) -> usize
 
 // Writes a number of entries and its tally.
 fn put_pair(out: &mut [u8], n: u64, tally: u64) -> usize
-    requires { length (pairText n tally) ≤ length out.old }
-    ensures { Wrote (pairText n tally) out.old out.new result }
+    requires { length (pair_text n tally) ≤ length out.old }
+    ensures { Wrote (pair_text n tally) out.old out.new result }
 {
     let at = put_gap(out, n);
     at + put_gap(&mut out[at..], tally)
@@ -24,8 +24,8 @@ fn put_pair(out: &mut [u8], n: u64, tally: u64) -> usize
 
 // Writes the numbers of entries that occur, with their tallies.
 pub fn put_tallies(out: &mut [u8], tallies: &[u32]) -> usize
-    requires { length (textFrom 0 tallies.now) ≤ length out.old }
-    ensures { Wrote (textFrom 0 tallies.now) out.old out.new result }
+    requires { length (text_from 0 tallies.now) ≤ length out.old }
+    ensures { Wrote (text_from 0 tallies.now) out.old out.new result }
 {
     let mut at = 0;
     for n in 0..tallies.len() {

@@ -9,7 +9,7 @@ use lib.ListN.{length, length-append}
 use borrow.Author.Tests.{ltb-true, ltb-false}
 use Rattle.lists.specs.Order.{earlier}
 use Rattle.lists.proofs.Tests.{cases, truth}
-use Rattle.lists.proofs.Order.{earlier-cons, earlier-lt, earlier-eq, by_codes}
+use Rattle.lists.proofs.Order.{earlier_cons, earlier-lt, earlier-eq, by_codes}
 use Rattle.cube.specs.Codes.{Coded}
 use Rattle.small_model.specs.Small.{binary, Digits}
 
@@ -21,15 +21,15 @@ digits_more zero (b ∷ x) a k h = absurd k
 digits_more (suc d) [] a k h = absurd k
 digits_more (suc d) (b ∷ x) a k h = (k.0, digits_more d x a k.1 h)
 
-pub binary-digits : (d j : ℕ) → Digits d (binary d j)
-binary-digits zero j = tt
-binary-digits (suc d) j = digits_more d (binary d (j / 2)) (j % 2) (binary-digits d (j / 2)) (omega arith)
+pub binary_digits : (d j : ℕ) → Digits d (binary d j)
+binary_digits zero j = tt
+binary_digits (suc d) j = digits_more d (binary d (j / 2)) (j % 2) (binary_digits d (j / 2)) (omega arith)
 
-pub digits-coded : (d : ℕ) (x : List ℕ) → Digits d x → Coded d x
-digits-coded zero [] k = tt
-digits-coded zero (a ∷ x) k = absurd k
-digits-coded (suc d) [] k = absurd k
-digits-coded (suc d) (a ∷ x) k = (omega (arith, k.0), digits-coded d x k.1)
+pub digits_coded : (d : ℕ) (x : List ℕ) → Digits d x → Coded d x
+digits_coded zero [] k = tt
+digits_coded zero (a ∷ x) k = absurd k
+digits_coded (suc d) [] k = absurd k
+digits_coded (suc d) (a ∷ x) k = (omega (arith, k.0), digits_coded d x k.1)
 
 pub binary-length : (d j : ℕ) → length (binary d j) ≡ d
 binary-length zero j = refl
@@ -42,7 +42,7 @@ earlier-front : (x y : List ℕ) (a b : ℕ) → length x ≡ length y → earli
 earlier-front [] [] a b n e = absurd (by_codes.irrefl [] e)
 earlier-front [] (d ∷ y) a b n e = absurd (omega arith)
 earlier-front (c ∷ x) [] a b n e = absurd (omega arith)
-earlier-front (c ∷ x) (d ∷ y) a b n e = cases (earlier-cons c d x y e)
+earlier-front (c ∷ x) (d ∷ y) a b n e = cases (earlier_cons c d x y e)
     (λ h. earlier-lt c d (x ++ (a ∷ [])) (y ++ (b ∷ [])) h)
     (λ h. earlier-eq c d (x ++ (a ∷ [])) (y ++ (b ∷ [])) h.0 (earlier-front x y a b (omega arith) h.1))
 
@@ -67,25 +67,25 @@ binary-same d j k h l e = cases (truth (ltb j k))
 
 -- ---- the number of digits
 
-binary-cons : (d a n : ℕ) → a < 2 → n < 2 ^ d → binary (suc d) (a * 2 ^ d + n) ≡ a ∷ binary d n
-binary-cons zero a n h l =
+binary_cons : (d a n : ℕ) → a < 2 → n < 2 ^ d → binary (suc d) (a * 2 ^ d + n) ≡ a ∷ binary d n
+binary_cons zero a n h l =
     let e : (a * 2 ^ 0 + n) % 2 ≡ a = omega (arith, h, l) in
     rw e
-binary-cons (suc d) a n h l =
+binary_cons (suc d) a n h l =
     let t : 2 ^ suc d ≡ 2 * 2 ^ d = omega arith in
     let w : a * 2 ^ suc d ≡ 2 * (a * 2 ^ d) = ap (λ (k : ℕ). a * k) t ∙ omega arith in
     let p : (a * 2 ^ suc d + n) / 2 ≡ a * 2 ^ d + n / 2 = omega (arith, w) in
     let q : (a * 2 ^ suc d + n) % 2 ≡ n % 2 = omega (arith, w) in
     ap₂ (λ (m k : ℕ). binary (suc d) m ++ (k ∷ [])) p q
-    ∙ ap (λ (x : List ℕ). x ++ (n % 2 ∷ [])) (binary-cons d a (n / 2) h (omega (arith, l)))
+    ∙ ap (λ (x : List ℕ). x ++ (n % 2 ∷ [])) (binary_cons d a (n / 2) h (omega (arith, l)))
 
-pub binary-of : (d : ℕ) (x : List ℕ) → Digits d x → (j : ℕ) × (j < 2 ^ d) × (binary d j ≡ x)
-binary-of zero [] k = (0, omega arith, refl)
-binary-of zero (a ∷ x) k = absurd k
-binary-of (suc d) [] k = absurd k
-binary-of (suc d) (a ∷ x) k =
-    let r = binary-of d x k.1 in
-    (a * 2 ^ d + r.0, below d a k.0 r.1, binary-cons d a r.0 k.0 r.1 ∙ ap (λ (y : List ℕ). a ∷ y) r.2)
+pub binary_of : (d : ℕ) (x : List ℕ) → Digits d x → (j : ℕ) × (j < 2 ^ d) × (binary d j ≡ x)
+binary_of zero [] k = (0, omega arith, refl)
+binary_of zero (a ∷ x) k = absurd k
+binary_of (suc d) [] k = absurd k
+binary_of (suc d) (a ∷ x) k =
+    let r = binary_of d x k.1 in
+    (a * 2 ^ d + r.0, below d a k.0 r.1, binary_cons d a r.0 k.0 r.1 ∙ ap (λ (y : List ℕ). a ∷ y) r.2)
   where
     below : (d : ℕ) {n : ℕ} (a : ℕ) → a < 2 → n < 2 ^ d → a * 2 ^ d + n < 2 ^ suc d
     below d zero h l = omega (arith, l)

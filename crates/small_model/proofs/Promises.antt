@@ -15,28 +15,28 @@ use Rattle.small_model.proofs.Tally as tallies
 module _ (d : ℕ) where
   -- The generator's tables are just the small tables, each once.
   pub all-tables : (rows : List (Row Total)) → (rows ∈ tables d) ↔ Small d rows
-  all-tables rows = (every.tables-in d, every.small-in d rows)
+  all-tables rows = (every.tables_in d, every.small_in d rows)
 
   pub each-once : Distinct (tables d)
   each-once = every.tables-distinct d
 
-  pub how-many : length (tables d) ≡ 2 ^ 2 ^ d
-  how-many = every.tables-length d
+  pub how_many : length (tables d) ≡ 2 ^ 2 ^ d
+  how_many = every.tables-length d
 
   -- A tally is the length of a list, `having`, of just the small tables with so many entries, each once.
   pub tally-tables : (n : ℕ) (rows : List (Row Total)) → (rows ∈ having d n) ↔ (Small d rows × (entries d rows ≡ n))
-  tally-tables = tallies.having-iff d
+  tally-tables = tallies.having_iff d
 
   pub tally-once : (n : ℕ) → Distinct (having d n)
   tally-once = tallies.having-distinct d
 
   -- The numbers printed rise, and are just those that some small table has;
-  pub printed-rise : Pairwise ◌<◌ (occurring d)
-  printed-rise = tallies.occurring-rising d
+  pub printed_rise : Pairwise ◌<◌ (occurring d)
+  printed_rise = tallies.occurring-rising d
 
-  pub printed-occur : (n : ℕ) → (n ∈ occurring d) ↔ ((rows : List (Row Total)) × Small d rows × (entries d rows ≡ n))
-  printed-occur = tallies.occurring-iff d
+  pub printed_occur : (n : ℕ) → (n ∈ occurring d) ↔ ((rows : List (Row Total)) × Small d rows × (entries d rows ≡ n))
+  printed_occur = tallies.occurring_iff d
 
   -- their tallies are all tables.
-  pub tallies-add-up : sum (map (tally d) (occurring d)) ≡ 2 ^ 2 ^ d
-  tallies-add-up = tallies.occurring-all d
+  pub tallies_add_up : sum (map (tally d) (occurring d)) ≡ 2 ^ 2 ^ d
+  tallies_add_up = tallies.occurring-all d

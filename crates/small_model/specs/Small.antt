@@ -6,7 +6,7 @@
 --   binary d j      j in binary, with d digits, the highest first
 --   one             the total of one reading, 1
 --   row x           a row of a table: codes x and one reading, 1
---   codesAt d t     the codes of table t: j in binary for each bit j of t that is set, by rising j
+--   codes_at d t     the codes of table t: j in binary for each bit j of t that is set, by rising j
 --   table d t       table t
 --   tables d        all of them, by rising t
 --   Digits d x      x is d codes, each below 2
@@ -38,11 +38,11 @@ one = record { sum = pos 1; count = 1 }
 abbrev pub row : List ℕ → Row Total
 row x = record { codes = x; total = one }
 
-unfoldable pub codesAt : ℕ → ℕ → List (List ℕ)
-codesAt d t = map (binary d) (keep (bit_of t) (up_to (2 ^ d)))
+unfoldable pub codes_at : ℕ → ℕ → List (List ℕ)
+codes_at d t = map (binary d) (keep (bit_of t) (up_to (2 ^ d)))
 
 abbrev pub table : ℕ → ℕ → List (Row Total)
-table d t = map row (codesAt d t)
+table d t = map row (codes_at d t)
 
 unfoldable pub tables : ℕ → List (List (Row Total))
 tables d = map (table d) (up_to (2 ^ 2 ^ d))

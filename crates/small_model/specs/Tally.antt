@@ -4,7 +4,7 @@
 --   has d n rows        the table has n entries
 --   having d n          the small tables with n entries
 --   tally d n           how many there are
---   mostEntries d       no small table has more entries
+--   most_entries d       no small table has more entries
 --   occurs d n          there is a small table with n entries
 --   occurring d         the numbers of entries that occur, rising
 --   fields d            what is printed for d: d, then each number of entries that occurs with its tally
@@ -30,14 +30,14 @@ having d n = keep (has d n) (tables d)
 abbrev pub tally : ℕ → ℕ → ℕ
 tally d n = length (having d n)
 
-abbrev pub mostEntries : ℕ → ℕ
-mostEntries d = 2 ^ d + 2 ^ d * 2 ^ d
+abbrev pub most_entries : ℕ → ℕ
+most_entries d = 2 ^ d + 2 ^ d * 2 ^ d
 
 abbrev pub occurs : ℕ → ℕ → Bool
 occurs d n = ltb 0 (tally d n)
 
 unfoldable pub occurring : ℕ → List ℕ
-occurring d = keep (occurs d) (up_to (suc (mostEntries d)))
+occurring d = keep (occurs d) (up_to (suc (most_entries d)))
 
 unfoldable pub fields : ℕ → List ℕ
 fields d = d ∷ flat_map (λ n. n ∷ tally d n ∷ []) (occurring d)

@@ -9,7 +9,7 @@ use lib.Seq.{drop_at}
 use lib.Pow.{pow_mono}
 use Rattle.lists.specs.Lists.{keep, Distinct}
 use Rattle.fields.specs.Written.{Wrote}
-use Rattle.fields.specs.WrittenLaws.{wrote-front}
+use Rattle.fields.specs.WrittenLaws.{wrote_front}
 use Rattle.lists.proofs.Order.{by_codes}
 use Rattle.lists.proofs.Sorted.{rising-distinct}
 use Rattle.lists.specs.Order.{earlier}
@@ -21,98 +21,98 @@ use Rattle.cube.specs.Codes.{Coded, plain}
 use Rattle.cube.specs.Condensed.{normals, ours}
 use Rattle.cube.specs.Table.{Table, folded}
 use Rattle.cube.proofs.Sums.{sums-add}
-use Rattle.cube.proofs.Codes.{plain-laws}
+use Rattle.cube.proofs.Codes.{plain_laws}
 use Rattle.cube.proofs.Normals.{normals-most}
 use Rattle.cube.proofs.Ours.{ours-length}
 use Rattle.cube.proofs.Folded.{folded-same}
 use Rattle.rows.specs.Rows.{width, cut}
 use Rattle.rows.proofs.Rows.{cut-length}
-use Rattle.small_model.specs.Small.{up_to, bit_of, binary, row, codesAt, table}
+use Rattle.small_model.specs.Small.{up_to, bit_of, binary, row, codes_at, table}
 use Rattle.small_model.specs.Tally.{entries}
-use Rattle.small_model.proofs.Binary.{binary-digits, digits-coded}
-use Rattle.small_model.proofs.Tables.{codes-in, codes-rising, codes-few, codes-rows, table-small}
-use Rattle.small_tally.specs.Flat.{flatRow, flatRows, Coding}
+use Rattle.small_model.proofs.Binary.{binary_digits, digits_coded}
+use Rattle.small_model.proofs.Tables.{codes_in, codes-rising, codes-few, codes-rows, table_small}
+use Rattle.small_tally.specs.Flat.{flat_row, flat_rows, Coding}
 use Rattle.small_tally.proofs.Flat.{row-codes, row-length}
 
 -- base rows have few normal entries
-pub normals-fit : (d n : ℕ) (ws : List ℕ) → d ≤ 8 → n ≤ 8 → length (normals (plain d) (cut d n ws)) ≤ 2048
-normals-fit d n ws h k =
+pub normals_fit : (d n : ℕ) (ws : List ℕ) → d ≤ 8 → n ≤ 8 → length (normals (plain d) (cut d n ws)) ≤ 2048
+normals_fit d n ws h k =
     let m : length (sets d) * 8 ≤ 256 * 8 = mul-le-mul_right 8 (le_trans (sets-length d) (pow_mono h)) in
-    omega (arith, normals-most (plain d) (plain-laws d) (cut d n ws) 8 (omega arith) (omega (arith, cut-length d n ws, k)), m)
+    omega (arith, normals-most (plain d) (plain_laws d) (cut d n ws) 8 (omega arith) (omega (arith, cut-length d n ws, k)), m)
 
 -- ---- the flat list cut into rows
 
-cut-flat : (d : ℕ) (l : List ℕ) → cut d (length l) (flat_map (flatRow d) l) ≡ map (binary d) l
+cut-flat : (d : ℕ) (l : List ℕ) → cut d (length l) (flat_map (flat_row d) l) ≡ map (binary d) l
 unfolding cut flat_map
 cut-flat d [] = refl
 cut-flat d (j ∷ l) =
-    ap₂ (λ (x : List ℕ) (xs : List (List ℕ)). x ∷ xs) (row-codes d j (flat_map (flatRow d) l))
-    (ap (cut d (length l)) (drop_at (flatRow d j) (flat_map (flatRow d) l) (width d) (row-length d j)) ∙ cut-flat d l)
+    ap₂ (λ (x : List ℕ) (xs : List (List ℕ)). x ∷ xs) (row-codes d j (flat_map (flat_row d) l))
+    (ap (cut d (length l)) (drop_at (flat_row d j) (flat_map (flat_row d) l) (width d) (row-length d j)) ∙ cut-flat d l)
 
-flat-size : (d : ℕ) (l : List ℕ) → length (flat_map (flatRow d) l) ≡ length l * width d
+flat-size : (d : ℕ) (l : List ℕ) → length (flat_map (flat_row d) l) ≡ length l * width d
 unfolding flat_map
 flat-size d [] = omega arith
-flat-size d (j ∷ l) = omega (arith, length-append (flatRow d j) (flat_map (flatRow d) l), row-length d j, flat-size d l, suc-mul (length l) (width d))
+flat-size d (j ∷ l) = omega (arith, length-append (flat_row d j) (flat_map (flat_row d) l), row-length d j, flat-size d l, suc-mul (length l) (width d))
 
 module _ (d t : ℕ) where
-  pub rows-size : length (flatRows d t) ≡ length (codesAt d t) * width d
-  unfolding flatRows codesAt
+  pub rows-size : length (flat_rows d t) ≡ length (codes_at d t) * width d
+  unfolding flat_rows codes_at
   rows-size = let l = keep (bit_of t) (up_to (2 ^ d)) in flat-size d l ∙ ap (λ (n : ℕ). n * width d) (sym (length-map l (binary d)))
 
-  pub rows_cut : cut d (length (codesAt d t)) (flatRows d t) ≡ codesAt d t
-  unfolding flatRows codesAt
-  rows_cut = let l = keep (bit_of t) (up_to (2 ^ d)) in ap (λ (n : ℕ). cut d n (flat_map (flatRow d) l)) (length-map l (binary d)) ∙ cut-flat d l
+  pub rows_cut : cut d (length (codes_at d t)) (flat_rows d t) ≡ codes_at d t
+  unfolding flat_rows codes_at
+  rows_cut = let l = keep (bit_of t) (up_to (2 ^ d)) in ap (λ (n : ℕ). cut d n (flat_map (flat_row d) l)) (length-map l (binary d)) ∙ cut-flat d l
 
   -- ---- the entries
 
   table-coded : Table d (table d t)
-  table-coded r m = digits-coded d r.codes ((table-small d t).sizes r m)
+  table-coded r m = digits_coded d r.codes ((table_small d t).sizes r m)
 
   table-folded : folded measure d (table d t) ≡ table d t
-  table-folded = folded-same measure sums-add d (table d t) table-coded (table-small d t).rising
+  table-folded = folded-same measure sums-add d (table d t) table-coded (table_small d t).rising
 
-  pub table-entries : entries d (table d t) ≡ length (codesAt d t) + length (normals (plain d) (codesAt d t))
+  pub table-entries : entries d (table d t) ≡ length (codes_at d t) + length (normals (plain d) (codes_at d t))
   unfolding entries
   table-entries =
       ap (λ (rows : List (Row Total)). length (ours (plain d) measure rows)) table-folded ∙ ours-length (plain d) measure (table d t)
-      ∙ ap₂ (λ (k : ℕ) (xs : List (List ℕ)). k + length (normals (plain d) xs)) (length-map (codesAt d t) row) (codes-rows (codesAt d t))
+      ∙ ap₂ (λ (k : ℕ) (xs : List (List ℕ)). k + length (normals (plain d) xs)) (length-map (codes_at d t) row) (codes-rows (codes_at d t))
 
   -- ---- of up to three dimensions
 
   module _ (few : d ≤ 3) where
-    pub rows_few : length (codesAt d t) ≤ 8
+    pub rows_few : length (codes_at d t) ≤ 8
     rows_few = le_trans (codes-few d t) (pow_mono few)
 
-    pub rows-room : length (flatRows d t) ≤ 48
+    pub rows-room : length (flat_rows d t) ≤ 48
     rows-room =
         let w : width d ≤ 6 = omega (arith, few) in
-        let m : length (codesAt d t) * width d ≤ 8 * 6 = mul-le-mul rows_few w in
+        let m : length (codes_at d t) * width d ≤ 8 * 6 = mul-le-mul rows_few w in
         omega (arith, rows-size, m)
 
-  pub codes-distinct : Distinct (codesAt d t)
-  codes-distinct = rising-distinct earlier by_codes (codesAt d t) (codes-rising d t)
+  pub codes-distinct : Distinct (codes_at d t)
+  codes-distinct = rising-distinct earlier by_codes (codes_at d t) (codes-rising d t)
 
-  pub codes-coding : Coding d (codesAt d t)
-  codes-coding x m = let j = codes-in d t m in subst (Coded d) j.3 (digits-coded d (binary d j.0) (binary-digits d j.0))
+  pub codes_coding : Coding d (codes_at d t)
+  codes_coding x m = let j = codes_in d t m in subst (Coded d) j.3 (digits_coded d (binary d j.0) (binary_digits d j.0))
 
   -- ---- of what was written
 
-  module _ {l m : List ℕ} {size : ℕ} (w : Wrote (flatRows d t) l m size) where
-    rows-here : size / width d ≡ length (codesAt d t)
+  module _ {l m : List ℕ} {size : ℕ} (w : Wrote (flat_rows d t) l m size) where
+    rows-here : size / width d ≡ length (codes_at d t)
     rows-here =
         let some : 1 ≤ width d = omega arith in
-        ap (λ (n : ℕ). n / width d) (w.count ∙ rows-size) ∙ mul-div_cancel (length (codesAt d t)) some
+        ap (λ (n : ℕ). n / width d) (w.count ∙ rows-size) ∙ mul-div_cancel (length (codes_at d t)) some
 
-    cut-here : cut d (size / width d) (take size m) ≡ codesAt d t
-    cut-here = ap₂ (cut d) rows-here (wrote-front w) ∙ rows_cut
+    cut-here : cut d (size / width d) (take size m) ≡ codes_at d t
+    cut-here = ap₂ (cut d) rows-here (wrote_front w) ∙ rows_cut
 
     -- what the entries of its rows need
     pub made-rows : d ≤ 3 → (size / width d ≤ 8) × (size / width d * width d ≡ length (take size m)) × Distinct (cut d (size / width d) (take size m)) × Coding d (cut d (size / width d) (take size m))
     made-rows few = (
       omega (arith, rows-here, rows_few few),
-      ap (λ (n : ℕ). n * width d) rows-here ∙ sym (ap length (wrote-front w) ∙ rows-size),
+      ap (λ (n : ℕ). n * width d) rows-here ∙ sym (ap length (wrote_front w) ∙ rows-size),
       subst Distinct (sym cut-here) codes-distinct,
-      subst (Coding d) (sym cut-here) codes-coding,
+      subst (Coding d) (sym cut-here) codes_coding,
     )
 
     pub made-entries : {r : ℕ} → r ≡ size / width d + length (normals (plain d) (cut d (size / width d) (take size m))) → r ≡ entries d (table d t)

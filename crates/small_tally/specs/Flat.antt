@@ -1,7 +1,7 @@
 -- The small tables as the code makes them.
 --
---   flatRow d j       the words of row j: j in binary as its codes, and three zeros where its total would stand
---   flatRows d t      the rows of table t in a flat list
+--   flat_row d j       the words of row j: j in binary as its codes, and three zeros where its total would stand
+--   flat_rows d t      the rows of table t in a flat list
 --   Coding d xs       each of xs is d codes
 --   Zeros l           a list of zeros
 use Rattle.std.specs.Prelude.{◌≡◌, ℕ, ◌^◌, get_or}
@@ -10,11 +10,11 @@ use Rattle.lists.specs.Lists.{◌∈◌, keep}
 use Rattle.cube.specs.Codes.{Coded}
 use Rattle.small_model.specs.Small.{up_to, bit_of, binary}
 
-unfoldable pub flatRow : ℕ → ℕ → List ℕ
-flatRow d j = binary d j ++ (0 ∷ 0 ∷ 0 ∷ [])
+unfoldable pub flat_row : ℕ → ℕ → List ℕ
+flat_row d j = binary d j ++ (0 ∷ 0 ∷ 0 ∷ [])
 
-unfoldable pub flatRows : ℕ → ℕ → List ℕ
-flatRows d t = flat_map (flatRow d) (keep (bit_of t) (up_to (2 ^ d)))
+unfoldable pub flat_rows : ℕ → ℕ → List ℕ
+flat_rows d t = flat_map (flat_row d) (keep (bit_of t) (up_to (2 ^ d)))
 
 abbrev pub Coding : ℕ → List (List ℕ) → Type 0
 Coding d xs = (x : List ℕ) → x ∈ xs → Coded d x

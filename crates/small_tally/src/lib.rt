@@ -6,8 +6,8 @@ ghost use Rattle.cube.specs.Codes.{plain};
 ghost use Rattle.cube.specs.Condensed.{normals};
 ghost use Rattle.rows.specs.Rows.{width, cut};
 ghost use Rattle.small_model.specs.Small.{up_to, binary, table};
-ghost use Rattle.small_model.specs.Tally.{entries, tally, mostEntries};
-ghost use Rattle.small_tally.specs.Flat.{flatRow, flatRows, Coding, Zeros};
+ghost use Rattle.small_model.specs.Tally.{entries, tally, most_entries};
+ghost use Rattle.small_tally.specs.Flat.{flat_row, flat_rows, Coding, Zeros};
 ghost use Rattle.small_lines.specs.Lines.{line, report};
 
 // Writes a number in binary, the highest digit first.
@@ -26,7 +26,7 @@ fn put_binary(out: &mut [u32], dims: usize, j: u32) -> usize
 // Writes a row: a number in binary, and three zeros where its total would stand, which no tally needs.
 fn put_row(out: &mut [u32], dims: usize, j: u32) -> usize
     requires { width dims ≤ length out.old }
-    ensures { Wrote (flatRow dims j) out.old out.new result }
+    ensures { Wrote (flat_row dims j) out.old out.new result }
 {
     let at = put_binary(out, dims, j);
     out[at] = 0;
@@ -37,8 +37,8 @@ fn put_row(out: &mut [u32], dims: usize, j: u32) -> usize
 
 // Writes the rows of table t: row j for each bit j that is set.
 fn put_table(out: &mut [u32], dims: usize, t: u32) -> usize
-    requires { (dims ≤ 8) × (length (flatRows dims t) ≤ length out.old) }
-    ensures { Wrote (flatRows dims t) out.old out.new result }
+    requires { (dims ≤ 8) × (length (flat_rows dims t) ≤ length out.old) }
+    ensures { Wrote (flat_rows dims t) out.old out.new result }
 {
     let mut at = 0;
     let mut rest = t;
@@ -77,8 +77,8 @@ fn entries_of(dims: usize, t: u32) -> usize
 
 // Tallies how many of all tables have each number of entries.
 fn tally_tables(dims: usize, tallies: &mut [u32])
-    requires { (dims ≤ 3) × (length tallies.old ≡ suc (mostEntries dims)) × Zeros tallies.old }
-    ensures { tallies.new ≡ map (tally dims) (up_to (suc (mostEntries dims))) }
+    requires { (dims ≤ 3) × (length tallies.old ≡ suc (most_entries dims)) × Zeros tallies.old }
+    ensures { tallies.new ≡ map (tally dims) (up_to (suc (most_entries dims))) }
 {
     let rows = lattice::sets_of(dims as u32);
     for t in 0..lattice::sets_of(rows) {
@@ -89,7 +89,7 @@ fn tally_tables(dims: usize, tallies: &mut [u32])
 
 // Tallies the tables of D, and writes the line for D.
 fn put_tallied(out: &mut [u8], dims: usize, tallies: &mut [u32]) -> usize
-    requires dims_bound { (dims ≤ 3) × (length tallies.old ≡ suc (mostEntries dims)) × Zeros tallies.old }
+    requires dims_bound { (dims ≤ 3) × (length tallies.old ≡ suc (most_entries dims)) × Zeros tallies.old }
     requires dims_in_bounds { length (line dims) ≤ length out.old }
     ensures { Wrote (line dims) out.old out.new result }
 {

@@ -8,15 +8,15 @@ use lib.IntN.{pos}
 use lib.ListN.{length, take, drop}
 use Rattle.lists.specs.Lists.{◌∈◌}
 use Rattle.lists.proofs.Tests.{cases}
-use Rattle.fields.specs.Words.{word_at, words, wordsBytes}
-use Rattle.fields_sums.specs.Twos.{readingAt}
-use Rattle.fields_check.specs.Check.{checkOf}
+use Rattle.fields.specs.Words.{word_at, words, words_bytes}
+use Rattle.fields_sums.specs.Twos.{reading_at}
+use Rattle.fields_check.specs.Check.{check_of}
 use Rattle.fields_walk.specs.Parsed.{stop, got, many}
 use Rattle.fields_walk.specs.Fields.{room, word, reading, field, codes, header, close}
 use Rattle.cube.specs.declared.Total.{Total}
 use Rattle.cube.specs.Measure.{Row}
-use Rattle.table.specs.Layout.{Records, rowBytes, tableBytes}
-use Rattle.table.specs.Reading.{row, body, readTable}
+use Rattle.table.specs.Layout.{Records, row_bytes, table_bytes}
+use Rattle.table.specs.Reading.{row, body, read_table}
 use Rattle.table.specs.Rearranged.{Rearranged}
 
 abbrev read : List ℕ → ℕ → Row Total
@@ -27,28 +27,28 @@ five =
     record { sizes = 7 ∷ 6 ∷ 3 ∷ []; rows = read (0 ∷ 1 ∷ 1 ∷ []) 50 ∷ read (1 ∷ 1 ∷ 1 ∷ []) 100 ∷ read (2 ∷ 3 ∷ 1 ∷ []) 60 ∷ read (4 ∷ 5 ∷ 1 ∷ []) 70 ∷ read (6 ∷ 5 ∷ 2 ∷ []) 80 ∷ [] }
 
 -- the table of the five rows is 108 bytes
-five-length : length (tableBytes five) ≡ 108
-unfolding tableBytes wordsBytes flat_map
-five-length = refl
+five_length : length (table_bytes five) ≡ 108
+unfolding table_bytes words_bytes flat_map
+five_length = refl
 
 -- its bytes; fewer than the opening; the opening and no more; a byte that follows
-reads-five : map readTable (tableBytes five ∷ take 3 (tableBytes five) ∷ take 4 (tableBytes five) ∷ (tableBytes five ++ 0 ∷ []) ∷ [])
+reads_five : map read_table (table_bytes five ∷ take 3 (table_bytes five) ∷ take 4 (table_bytes five) ∷ (table_bytes five ++ 0 ∷ []) ∷ [])
     ≡ got five [] ∷ stop 1 ∷ stop 2 ∷ stop 10 ∷ []
-unfolding readTable body row header field word room reading readingAt many codes close word_at checkOf words tableBytes wordsBytes flat_map
-reads-five = refl
+unfolding read_table body row header field word room reading reading_at many codes close word_at check_of words table_bytes words_bytes flat_map
+reads_five = refl
 
 -- ---- rows in another order
 
 -- two rows with equal codes, and their bytes the other way round
 abbrev pair : Row Total → Row Total → List ℕ
-pair q r = tableBytes (record { sizes = 1 ∷ []; rows = q ∷ r ∷ [] })
+pair q r = table_bytes (record { sizes = 1 ∷ []; rows = q ∷ r ∷ [] })
 
-pair-rearranged : Rearranged 1 (pair (read (0 ∷ []) 5) (read (0 ∷ []) 7)) (pair (read (0 ∷ []) 7) (read (0 ∷ []) 5))
-unfolding tableBytes wordsBytes flat_map checkOf words
-pair-rearranged = record {
+pair_rearranged : Rearranged 1 (pair (read (0 ∷ []) 5) (read (0 ∷ []) 7)) (pair (read (0 ∷ []) 7) (read (0 ∷ []) 5))
+unfolding table_bytes words_bytes flat_map check_of words
+pair_rearranged = record {
   front = take 16 (pair (read (0 ∷ []) 5) (read (0 ∷ []) 7));
-  rows = rowBytes (read (0 ∷ []) 5) ∷ rowBytes (read (0 ∷ []) 7) ∷ [];
-  others = rowBytes (read (0 ∷ []) 7) ∷ rowBytes (read (0 ∷ []) 5) ∷ [];
+  rows = row_bytes (read (0 ∷ []) 5) ∷ row_bytes (read (0 ∷ []) 7) ∷ [];
+  others = row_bytes (read (0 ∷ []) 7) ∷ row_bytes (read (0 ∷ []) 5) ∷ [];
   last = drop 32 (pair (read (0 ∷ []) 5) (read (0 ∷ []) 7));
   first = refl;
   second = refl;
@@ -58,5 +58,5 @@ pair-rearranged = record {
   check = refl;
 }
   where
-    lengths : (q : List ℕ) → q ∈ rowBytes (read (0 ∷ []) 5) ∷ rowBytes (read (0 ∷ []) 7) ∷ [] → length q ≡ 8
+    lengths : (q : List ℕ) → q ∈ row_bytes (read (0 ∷ []) 5) ∷ row_bytes (read (0 ∷ []) 7) ∷ [] → length q ≡ 8
     lengths q m = cases (Memᴰ.cases_cons m) (λ e. ap length e) (λ n. ap length (Memᴰ.eq_of_singleton n))

@@ -2,17 +2,17 @@
 --
 --   row zs              a row: its codes, below the sizes zs, and a reading
 --   body s zs           row count, rows and check word of the bytes s
---   readTable s         what the bytes s hold, or the first stop
---   recordThere s d at  the row that stands at a place: d codes and a reading
+--   read_table s         what the bytes s hold, or the first stop
+--   record_there s d at  the row that stands at a place: d codes and a reading
 --   rows_at s d n at     the n rows from a place on
 --   Rowed s d n         n rows of d codes stand behind a header, are rows of a table, and can be totalled
---   baseRows t          the base rows of the table t
+--   base_rows t          the base rows of the table t
 --   TableRead           the code's answer: the enum of src/lib.rt
---   tableAnswer p       the answer's number and values for what was read: the stop's number, or D and the number of base rows
+--   table_answer p       the answer's number and values for what was read: the stop's number, or D and the number of base rows
 --   Stored p ws         the words ws have the base rows of the table that was read
 use Rattle.std.specs.Prelude.{◌≡◌, List, [], ◌∷◌, ℕ, zero, suc, ◌+◌, ◌*◌, ◌≤◌, length}
-use Rattle.fields.specs.Words.{wordsAt}
-use Rattle.fields_sums.specs.Twos.{readingAt}
+use Rattle.fields.specs.Words.{words_at}
+use Rattle.fields_sums.specs.Twos.{reading_at}
 use Rattle.fields_walk.specs.Parsed.{Parsed, stop, got, and_then, many}
 use Rattle.fields_walk.specs.Fields.{reading, field, codes, header, close}
 use Rattle.cube.specs.declared.Total.{Total}
@@ -34,15 +34,15 @@ body s zs l =
     and_then (field 0 1025 5 l) (λ n rest. and_then (many n (row zs) rest) (λ rows rest'.
     and_then (close s rest') (λ u rest''. got (record { sizes = zs; rows = rows }) rest'')))
 
-unfoldable pub readTable : List ℕ → Parsed Records
-readTable s = and_then (header FACT s) (body s)
+unfoldable pub read_table : List ℕ → Parsed Records
+read_table s = and_then (header FACT s) (body s)
 
-abbrev pub recordThere : List ℕ → ℕ → ℕ → Row Total
-recordThere s d at = record { codes = wordsAt s d at; total = record { sum = readingAt s (at + 4 * d); count = 1 } }
+abbrev pub record_there : List ℕ → ℕ → ℕ → Row Total
+record_there s d at = record { codes = words_at s d at; total = record { sum = reading_at s (at + 4 * d); count = 1 } }
 
 unfoldable pub rows_at : List ℕ → ℕ → ℕ → ℕ → List (Row Total)
 rows_at s d zero at = []
-rows_at s d (suc n) at = recordThere s d at ∷ rows_at s d n (at + (4 * d + 4))
+rows_at s d (suc n) at = record_there s d at ∷ rows_at s d n (at + (4 * d + 4))
 
 pub record Rowed (s : List ℕ) (d n : ℕ) : Type 0 where
   pub dims : d ≤ 8
@@ -52,13 +52,13 @@ pub record Rowed (s : List ℕ) (d n : ℕ) : Type 0 where
   pub summable : Summable (rows_at s d n (12 + 4 * d))
 
 -- the base rows of a table
-abbrev pub baseRows : Records → List (Row Total)
-baseRows t = folded sums (length t.sizes) t.rows
+abbrev pub base_rows : Records → List (Row Total)
+base_rows t = folded sums (length t.sizes) t.rows
 
-abbrev pub tableAnswer : Parsed Records → TableRead
-tableAnswer (stop n) = Answer.Stop n
-tableAnswer (got t rest) = Answer.Rows (length t.sizes) (length (baseRows t))
+abbrev pub table_answer : Parsed Records → TableRead
+table_answer (stop n) = Answer.Stop n
+table_answer (got t rest) = Answer.Rows (length t.sizes) (length (base_rows t))
 
 abbrev pub Stored : Parsed Records → List ℕ → Type 0
 Stored (stop n) ws = Unit {0}
-Stored (got t rest) ws = rows_of (length t.sizes) (length (baseRows t)) ws ≡ baseRows t
+Stored (got t rest) ws = rows_of (length t.sizes) (length (base_rows t)) ws ≡ base_rows t

@@ -1,9 +1,9 @@
 // A table read from its bytes: its stops.
 ghost use Rattle.std.specs.Prelude.{◌+◌, ◌*◌, ◌≤◌, length, drop};
-ghost use Rattle.fields.specs.Words.{wordsAt};
+ghost use Rattle.fields.specs.Words.{words_at};
 ghost use Rattle.fields_walk.specs.Parsed.{many};
 ghost use Rattle.fields_walk.specs.Walked.{Walked};
-ghost use Rattle.table.specs.Reading.{row, body, readTable};
+ghost use Rattle.table.specs.Reading.{row, body, read_table};
 
 use fields_walk::Walk;
 
@@ -59,7 +59,7 @@ fn check_body(s: &[u8], sizes: &[u32], at: usize) -> Walk
 // The sizes into the buffer that is lent, and what follows them.
 fn check_sized(s: &[u8], sizes: &mut [u32], at: usize) -> Walk
     requires { (8 + 4 * length sizes.old ≤ length s.now) × (at ≤ length s.now) }
-    ensures { Walked s.now (body s.now (wordsAt s.now (length sizes.old) 8) (drop at s.now)) result }
+    ensures { Walked s.now (body s.now (words_at s.now (length sizes.old) 8) (drop at s.now)) result }
 {
     fields::read_words(s, 8, sizes);
     check_body(s, sizes, at)
@@ -67,7 +67,7 @@ fn check_sized(s: &[u8], sizes: &mut [u32], at: usize) -> Walk
 
 // The stops of a table.
 pub fn check_table(s: &[u8]) -> Walk
-    ensures { Walked s.now (readTable s.now) result }
+    ensures { Walked s.now (read_table s.now) result }
 {
     match fields_walk::check_header(s, b"FACT") {
         Walk::Stop(n) => Walk::Stop(n),

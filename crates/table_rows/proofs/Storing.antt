@@ -9,7 +9,7 @@ use lib.Seq.{append_snoc}
 use Rattle.cube.specs.declared.Total.{Total}
 use Rattle.cube.specs.Measure.{Row}
 use Rattle.rows.specs.Rows.{rows_of}
-use Rattle.table.specs.Reading.{recordThere, rows_at}
+use Rattle.table.specs.Reading.{record_there, rows_at}
 
 -- the rows that are stored and those left are the rows
 pub record Turn (b : List ℕ) (d n start : ℕ) (ws : List ℕ) (at i : ℕ) : Type 0 where
@@ -32,7 +32,7 @@ module _ (b : List ℕ) (d n start : ℕ) (ws : List ℕ) where
     pub turn-room : i < n → at + (4 * d + 4) ≤ length b
     turn-room h = omega (arith, next h, t.place)
 
-    pub turn_on : (us : List ℕ) → i < n → rows_of d (i + 1) us ≡ rows_of d i ws ++ recordThere b d at ∷ []
+    pub turn_on : (us : List ℕ) → i < n → rows_of d (i + 1) us ≡ rows_of d i ws ++ record_there b d at ∷ []
         → Turn b d n start us (at + (4 * d + 4)) (i + 1)
     unfolding rows_at
     turn_on us h e =
@@ -41,7 +41,7 @@ module _ (b : List ℕ) (d n start : ℕ) (ws : List ℕ) where
         record {
           below = omega arith;
           place = omega (arith, next h, t.place);
-          rows = t.rows ∙ ap (λ (j : ℕ). rows_of d i ws ++ rows_at b d j at) f ∙ sym (append_snoc (rows_of d i ws) (recordThere b d at) left)
+          rows = t.rows ∙ ap (λ (j : ℕ). rows_of d i ws ++ rows_at b d j at) f ∙ sym (append_snoc (rows_of d i ws) (record_there b d at) left)
               ∙ ap (λ (l : List (Row Total)). l ++ left) (sym e);
         }
 

@@ -4,7 +4,7 @@ ghost use Rattle.cube.specs.Measure.{sums as measure};
 ghost use Rattle.cube.specs.Bounds.{Summable};
 ghost use Rattle.cube.specs.Table.{Table, folded};
 ghost use Rattle.rows.specs.Rows.{width, row_of, rows_of};
-ghost use Rattle.table.specs.Reading.{readTable, recordThere, rows_at, Rowed, tableAnswer, Stored};
+ghost use Rattle.table.specs.Reading.{read_table, record_there, rows_at, Rowed, table_answer, Stored};
 
 use fields_walk::Walk;
 use table::TableRead;
@@ -12,7 +12,7 @@ use table::TableRead;
 // The row at a place as words: its codes, its reading as a sum, and a count of one.
 fn fill_row(row: &mut [u32], s: &[u8], dims: usize, at: usize)
     requires { (length row.old ≡ width dims) × (at + (4 * dims + 4) ≤ length s.now) }
-    ensures { row_of dims row.new ≡ recordThere s.now dims at }
+    ensures { row_of dims row.new ≡ record_there s.now dims at }
 {
     fields::read_words(s, at, &mut row[..dims]);
     let sum = fields_sums::reading_at(s, at + 4 * dims);
@@ -23,7 +23,7 @@ fn fill_row(row: &mut [u32], s: &[u8], dims: usize, at: usize)
 // The row at a place, stored as row i.
 fn store_row(s: &[u8], dims: usize, at: usize, i: usize, rows: &mut [u32])
     requires { (at + (4 * dims + 4) ≤ length s.now) × (i * width dims + width dims ≤ length rows.old) }
-    ensures { rows_of dims (i + 1) rows.new ≡ rows_of dims i rows.old ++ recordThere s.now dims at ∷ [] }
+    ensures { rows_of dims (i + 1) rows.new ≡ rows_of dims i rows.old ++ record_there s.now dims at ∷ [] }
 {
     let width = dims + rows::TOTAL_WORDS;
     let from = i * width;
@@ -81,8 +81,8 @@ fn fold_table(s: &[u8], d: usize, n: usize, rows: &mut [u32]) -> usize
 
 // Reads a table: its stops, and its base rows into the array that is lent.
 pub fn read_table(s: &[u8], rows: &mut [u32; rows::ROOM]) -> TableRead
-    ensures value { result ≡ tableAnswer (readTable s.now) }
-    ensures stored { Stored (readTable s.now) rows.new }
+    ensures value { result ≡ table_answer (read_table s.now) }
+    ensures stored { Stored (read_table s.now) rows.new }
 {
     match table::check_table(s) {
         Walk::Stop(n) => TableRead::Stop(n),

@@ -10,29 +10,29 @@ use lib.Dec.{ltb}
 use lib.Signed.{mag}
 use borrow.Author.Tests.{lt-ltb, le-ltb, ltb-true, ltb-false}
 use Rattle.lists.proofs.Tests.{cases, truth}
-use Rattle.text_decimals.specs.Decimals.{digit, digitsIn, decimal, integer}
+use Rattle.text_decimals.specs.Decimals.{digit, digits_in, decimal, integer}
 
 -- ---- the digits
 
 pub decimal-one : (n : ℕ) → n < 10 → decimal n ≡ digit n ∷ []
-unfolding decimal digitsIn
+unfolding decimal digits_in
 decimal-one zero h = refl
 decimal-one (suc n) h = rw (lt-ltb (suc n) 10 h)
 
 -- more steps than a number needs change nothing
-steps-same : (j k n : ℕ) → n ≤ j → n ≤ k → digitsIn j (ltb n 10) n ≡ digitsIn k (ltb n 10) n
-unfolding digitsIn
-steps-same zero zero n p q = refl
-steps-same zero (suc k) n p q = let h : n < 10 = omega arith in rw (lt-ltb n 10 h)
-steps-same (suc j) zero n p q = let h : n < 10 = omega arith in rw (lt-ltb n 10 h)
-steps-same (suc j) (suc k) n p q = cases (truth (ltb n 10))
+steps_same : (j k n : ℕ) → n ≤ j → n ≤ k → digits_in j (ltb n 10) n ≡ digits_in k (ltb n 10) n
+unfolding digits_in
+steps_same zero zero n p q = refl
+steps_same zero (suc k) n p q = let h : n < 10 = omega arith in rw (lt-ltb n 10 h)
+steps_same (suc j) zero n p q = let h : n < 10 = omega arith in rw (lt-ltb n 10 h)
+steps_same (suc j) (suc k) n p q = cases (truth (ltb n 10))
     (λ e. rw e)
-    (λ e. let h = ltb-false n 10 e in rw (e, steps-same j k (n / 10) (omega arith) (omega arith)))
+    (λ e. let h = ltb-false n 10 e in rw (e, steps_same j k (n / 10) (omega arith) (omega arith)))
 
 pub decimal-more : (n : ℕ) → 10 ≤ n → decimal n ≡ decimal (n / 10) ++ digit (n % 10) ∷ []
-unfolding decimal digitsIn
+unfolding decimal digits_in
 decimal-more zero h = absurd (omega arith)
-decimal-more (suc n) h = rw (le-ltb (suc n) 10 h, steps-same n (suc n / 10) (suc n / 10) (omega arith) (omega arith))
+decimal-more (suc n) h = rw (le-ltb (suc n) 10 h, steps_same n (suc n / 10) (suc n / 10) (omega arith) (omega arith))
 
 -- ---- how many there are
 
@@ -47,11 +47,11 @@ length-decimal (suc (suc j)) n p h = cases (truth (ltb n 10))
     (λ e. rw (length_more n (ltb-false n 10 e)) (omega (arith, length-decimal (suc j) (n / 10) (omega arith) (omega (arith, pow-suc 10 (suc j))))))
 
 -- a number of 32 bits
-pub word-digits : (n : ℕ) → n < 2 ^ 32 → length (decimal n) ≤ 10
-word-digits n h = length-decimal 10 n (omega arith) (omega arith)
+pub word_digits : (n : ℕ) → n < 2 ^ 32 → length (decimal n) ≤ 10
+word_digits n h = length-decimal 10 n (omega arith) (omega arith)
 
 -- an integer of 64 bits, its sign counted
-pub integer-digits : (z : ℤ) → mag z < 2 ^ 63 → length (integer z) ≤ 20
+pub integer_digits : (z : ℤ) → mag z < 2 ^ 63 → length (integer z) ≤ 20
 unfolding integer
-integer-digits (pos n) h = omega (arith, length-decimal 19 n (omega arith) (omega arith))
-integer-digits (negsuc n) h = omega (arith, length-decimal 19 (suc n) (omega arith) (omega arith))
+integer_digits (pos n) h = omega (arith, length-decimal 19 n (omega arith) (omega arith))
+integer_digits (negsuc n) h = omega (arith, length-decimal 19 (suc n) (omega arith) (omega arith))

@@ -16,14 +16,14 @@ abbrev pub digit : ℕ → ℕ
 digit n = 48 + n
 
 -- the digits of n in as many steps as are allowed, by whether it has just one
-unfoldable pub digitsIn : ℕ → Bool → ℕ → List ℕ
-digitsIn zero one n = digit n ∷ []
-digitsIn (suc steps) true n = digit n ∷ []
-digitsIn (suc steps) false n = digitsIn steps (ltb (n / 10) 10) (n / 10) ++ digit (n % 10) ∷ []
+unfoldable pub digits_in : ℕ → Bool → ℕ → List ℕ
+digits_in zero one n = digit n ∷ []
+digits_in (suc steps) true n = digit n ∷ []
+digits_in (suc steps) false n = digits_in steps (ltb (n / 10) 10) (n / 10) ++ digit (n % 10) ∷ []
 
 -- n steps are enough for n
 unfoldable pub decimal : ℕ → List ℕ
-decimal n = digitsIn n (ltb n 10) n
+decimal n = digits_in n (ltb n 10) n
 
 unfoldable pub integer : ℤ → List ℕ
 integer (pos n) = decimal n

@@ -3,9 +3,9 @@ ghost use mathlib.Core.List.{[], ◌∷◌, ◌++◌, flat_map};
 ghost use Rattle.std.specs.Prelude.{◌+◌, ◌*◌, ◌≤◌, length};
 ghost use Rattle.fields.specs.Written.{Wrote};
 ghost use Rattle.text_decimals.specs.Decimals.{decimal};
-ghost use Rattle.fields.specs.Words.{wordsAt};
-ghost use Rattle.archive_entries.specs.Places.{rowThere, baseThere, widthThere};
-ghost use Rattle.text_lines.specs.Lines.{codeText, rowText, setText, baseText, cellText, headText};
+ghost use Rattle.fields.specs.Words.{words_at};
+ghost use Rattle.archive_entries.specs.Places.{row_there, base_there, width_there};
+ghost use Rattle.text_lines.specs.Lines.{code_text, row_text, set_text, base_text, cell_text, head_text};
 
 // Writes a number, and the character that ends it.
 fn put_number(out: &mut [u8], n: u32, end: u8) -> usize
@@ -18,8 +18,8 @@ fn put_number(out: &mut [u8], n: u32, end: u8) -> usize
 
 // Writes a code or `*`, and a space.
 fn put_code(out: &mut [u8], c: u32) -> usize
-    requires { length (codeText c) ≤ length out.old }
-    ensures { Wrote (codeText c) out.old out.new result }
+    requires { length (code_text c) ≤ length out.old }
+    ensures { Wrote (code_text c) out.old out.new result }
 {
     if c == 65535 {
         let done = text_decimals::put_character(out, b'*');
@@ -31,8 +31,8 @@ fn put_code(out: &mut [u8], c: u32) -> usize
 // Writes the codes of an entry, from their place on.
 fn put_codes(out: &mut [u8], s: &[u8], at: usize, n: usize) -> usize
     requires n_in_bounds { at + 4 * n ≤ length s.now }
-    requires at_in_bounds { length (flat_map codeText (wordsAt s.now n at)) ≤ length out.old }
-    ensures { Wrote (flat_map codeText (wordsAt s.now n at)) out.old out.new result }
+    requires at_in_bounds { length (flat_map code_text (words_at s.now n at)) ≤ length out.old }
+    ensures { Wrote (flat_map code_text (words_at s.now n at)) out.old out.new result }
 {
     let mut done = 0;
     for i in 0..n {
@@ -44,8 +44,8 @@ fn put_codes(out: &mut [u8], s: &[u8], at: usize, n: usize) -> usize
 
 // Writes a space and a set's number.
 fn put_set(out: &mut [u8], set: u32) -> usize
-    requires { length (setText set) ≤ length out.old }
-    ensures { Wrote (setText set) out.old out.new result }
+    requires { length (set_text set) ≤ length out.old }
+    ensures { Wrote (set_text set) out.old out.new result }
 {
     let done = text_decimals::put_character(out, b' ');
     done + text_decimals::put_decimal(&mut out[done..], set as u64)
@@ -54,8 +54,8 @@ fn put_set(out: &mut [u8], set: u32) -> usize
 // Writes a list of sets, from its place on.
 fn put_sets(out: &mut [u8], s: &[u8], at: usize, n: usize) -> usize
     requires n_in_bounds { at + 4 * n ≤ length s.now }
-    requires at_in_bounds { length (flat_map setText (wordsAt s.now n at)) ≤ length out.old }
-    ensures { Wrote (flat_map setText (wordsAt s.now n at)) out.old out.new result }
+    requires at_in_bounds { length (flat_map set_text (words_at s.now n at)) ≤ length out.old }
+    ensures { Wrote (flat_map set_text (words_at s.now n at)) out.old out.new result }
 {
     let mut done = 0;
     for i in 0..n {
@@ -68,8 +68,8 @@ fn put_sets(out: &mut [u8], s: &[u8], at: usize, n: usize) -> usize
 // Writes the codes, the sum and the count of the entry at a place.
 fn put_row(out: &mut [u8], s: &[u8], at: usize, dims: usize) -> usize
     requires dims_in_bounds { at + 4 * dims + 12 ≤ length s.now }
-    requires at_in_bounds { length (rowText (rowThere s.now dims at)) ≤ length out.old }
-    ensures { Wrote (rowText (rowThere s.now dims at)) out.old out.new result }
+    requires at_in_bounds { length (row_text (row_there s.now dims at)) ≤ length out.old }
+    ensures { Wrote (row_text (row_there s.now dims at)) out.old out.new result }
 {
     let sum = fields_sums::sum_at(s, at + 4 * dims);
     let count = fields::word_at(s, at + 4 * dims + 8);
@@ -81,9 +81,9 @@ fn put_row(out: &mut [u8], s: &[u8], at: usize, dims: usize) -> usize
 
 // Writes the line of the base entry at a place.
 pub fn put_base(out: &mut [u8], s: &[u8], at: usize, dims: usize) -> usize
-    requires at_in_bounds { at + widthThere s.now dims at ≤ length s.now }
-    requires at_in_bounds_2 { length (baseText (baseThere s.now dims at)) ≤ length out.old }
-    ensures { Wrote (baseText (baseThere s.now dims at)) out.old out.new result }
+    requires at_in_bounds { at + width_there s.now dims at ≤ length s.now }
+    requires at_in_bounds_2 { length (base_text (base_there s.now dims at)) ≤ length out.old }
+    ensures { Wrote (base_text (base_there s.now dims at)) out.old out.new result }
 {
     let n = fields::word_at(s, at + 4 * dims + 12) as usize;
     let mut done = put_row(out, s, at, dims);
@@ -96,8 +96,8 @@ pub fn put_base(out: &mut [u8], s: &[u8], at: usize, dims: usize) -> usize
 // Writes the line of the normal entry at a place.
 pub fn put_cell(out: &mut [u8], s: &[u8], at: usize, dims: usize) -> usize
     requires dims_in_bounds { at + 4 * dims + 12 ≤ length s.now }
-    requires at_in_bounds { length (cellText (rowThere s.now dims at)) ≤ length out.old }
-    ensures { Wrote (cellText (rowThere s.now dims at)) out.old out.new result }
+    requires at_in_bounds { length (cell_text (row_there s.now dims at)) ≤ length out.old }
+    ensures { Wrote (cell_text (row_there s.now dims at)) out.old out.new result }
 {
     let done = put_row(out, s, at, dims);
     done + text_decimals::put_character(&mut out[done..], b'\n')
@@ -105,8 +105,8 @@ pub fn put_cell(out: &mut [u8], s: &[u8], at: usize, dims: usize) -> usize
 
 // Writes the first line: D, the base count, the normal count.
 pub fn put_head(out: &mut [u8], dims: u32, bases: u32, cells: u32) -> usize
-    requires { length (headText dims bases cells) ≤ length out.old }
-    ensures { Wrote (headText dims bases cells) out.old out.new result }
+    requires { length (head_text dims bases cells) ≤ length out.old }
+    ensures { Wrote (head_text dims bases cells) out.old out.new result }
 {
     let mut done = put_number(out, dims, b' ');
     done += put_number(&mut out[done..], bases, b' ');

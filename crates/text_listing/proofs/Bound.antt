@@ -10,21 +10,21 @@ use lib.ListN.{length, length-append}
 use Rattle.lists.specs.Lists.{◌∈◌}
 use Rattle.lists.proofs.Members.{flat-length}
 use Rattle.fields.specs.Words.{word_bytes}
-use Rattle.fields_check.specs.Check.{checkOf}
+use Rattle.fields_check.specs.Check.{check_of}
 use Rattle.text_decimals.specs.Decimals.{ascii, decimal}
-use Rattle.text_decimals.proofs.Digits.{word-digits, integer-digits}
-use Rattle.fields_walk.specs.Fields.{headerBytes}
+use Rattle.text_decimals.proofs.Digits.{word_digits, integer_digits}
+use Rattle.fields_walk.specs.Fields.{header_bytes}
 use Rattle.fields_walk.proofs.Lengths.{length-header}
 use Rattle.cube.specs.declared.Total.{Total}
 use Rattle.cube.specs.Measure.{Row}
 use Rattle.cube.specs.Codes.{ALL}
-use Rattle.archive_entries.specs.Layout.{CUBE, Based, Held, cellBytes, baseBytes, section, layout}
+use Rattle.archive_entries.specs.Layout.{CUBE, Based, Held, cell_bytes, base_bytes, section, layout}
 use Rattle.archive_entries.proofs.Walkable.{Walkable}
 use Rattle.archive_entries.proofs.Lengths.{cell-length, base-length}
-use Rattle.text_lines.specs.Lines.{codeText, rowText, setText, baseText, cellText, headText}
-use Rattle.text_lines.proofs.Texts.{length-rowText, length-baseText, length-cellText, length-headText}
+use Rattle.text_lines.specs.Lines.{code_text, row_text, set_text, base_text, cell_text, head_text}
+use Rattle.text_lines.proofs.Texts.{length-row_text, length-base_text, length-cell_text, length-head_text}
 use Rattle.text_listing.specs.Listing.{listing}
-use Rattle.text_listing.proofs.Fits.{RowFits, BaseFits, walkable-fits}
+use Rattle.text_listing.proofs.Fits.{RowFits, BaseFits, walkable_fits}
 
 -- texts that are at most 11 quarters as long as the bytes
 flat-within : {A : Type 0} (text bytes : A → List ℕ) (xs : List A) → ((x : A) → x ∈ xs → 4 * length (text x) ≤ 11 * length (bytes x))
@@ -39,70 +39,70 @@ flat-within text bytes (x ∷ xs) h = omega (
   flat-within text bytes xs (λ y m. h y (Memᴰ.tail m)),
 )
 
-code-few : (c : ℕ) → c < 2 ^ 32 → length (codeText c) ≤ 11
-unfolding codeText
+code-few : (c : ℕ) → c < 2 ^ 32 → length (code_text c) ≤ 11
+unfolding code_text
 code-few c h = omega (arith, length-append (cond (eqb c ALL) (ascii "*") (decimal c)) (ascii " "), go (eqb c ALL))
   where
     go : (b : Bool) → length (cond b (ascii "*") (decimal c)) ≤ 10
     go true = omega arith
-    go false = word-digits c h
+    go false = word_digits c h
 
-set-few : (s : ℕ) → s < 2 ^ 32 → length (setText s) ≤ 11
-unfolding setText
-set-few s h = omega (arith, word-digits s h)
+set-few : (s : ℕ) → s < 2 ^ 32 → length (set_text s) ≤ 11
+unfolding set_text
+set-few s h = omega (arith, word_digits s h)
 
-row-few : (d : ℕ) (r : Row Total) → RowFits d r → length (rowText r) ≤ 11 * d + 31
+row-few : (d : ℕ) (r : Row Total) → RowFits d r → length (row_text r) ≤ 11 * d + 31
 row-few d r f = omega (
   arith,
-  length-rowText r,
-  flat-length codeText 11 r.codes (λ c m. code-few c (f.0.1 c m)),
+  length-row_text r,
+  flat-length code_text 11 r.codes (λ c m. code-few c (f.0.1 c m)),
   f.0.0,
-  integer-digits r.total.sum f.1.0,
-  word-digits r.total.count f.1.1,
+  integer_digits r.total.sum f.1.0,
+  word_digits r.total.count f.1.1,
 )
 
-base-within : (d : ℕ) (b : Based) → BaseFits d b → 4 * length (baseText b) ≤ 11 * length (baseBytes b)
+base-within : (d : ℕ) (b : Based) → BaseFits d b → 4 * length (base_text b) ≤ 11 * length (base_bytes b)
 base-within d b f = omega (
   arith,
-  length-baseText b,
+  length-base_text b,
   row-few d b.row f.row,
-  flat-length setText 11 b.list (λ s m. set-few s (f.sets s m)),
+  flat-length set_text 11 b.list (λ s m. set-few s (f.sets s m)),
   base-length d b f.row.0.0,
 )
 
-cell-within : (d : ℕ) (r : Row Total) → RowFits d r → 4 * length (cellText r) ≤ 11 * length (cellBytes r)
-cell-within d r f = omega (arith, length-cellText r, row-few d r f, cell-length d r f.0.0)
+cell-within : (d : ℕ) (r : Row Total) → RowFits d r → 4 * length (cell_text r) ≤ 11 * length (cell_bytes r)
+cell-within d r f = omega (arith, length-cell_text r, row-few d r f, cell-length d r f.0.0)
 
-head_few : (d n m : ℕ) → d < 2 ^ 32 → n < 2 ^ 32 → m < 2 ^ 32 → length (headText d n m) ≤ 33
+head_few : (d n m : ℕ) → d < 2 ^ 32 → n < 2 ^ 32 → m < 2 ^ 32 → length (head_text d n m) ≤ 33
 head_few d n m p q r = omega (
   arith,
-  length-headText d n m,
+  length-head_text d n m,
   length-append (decimal d) (ascii " "),
   length-append (decimal n) (ascii " "),
   length-append (decimal m) (ascii "\n"),
-  word-digits d p,
-  word-digits n q,
-  word-digits m r,
+  word_digits d p,
+  word_digits n q,
+  word_digits m r,
 )
 
 pub listing-within : (a : Held) → Walkable a → 4 * length (listing a) ≤ 11 * length (layout a)
 unfolding listing layout
 listing-within a w =
     let d = length a.sizes in
-    let front = headerBytes CUBE a.sizes in
-    let bases = section baseBytes a.bases in
-    let cells = section cellBytes a.cells in
+    let front = header_bytes CUBE a.sizes in
+    let bases = section base_bytes a.bases in
+    let cells = section cell_bytes a.cells in
     let body = front ++ (bases ++ cells) in
-    let head = headText d (length a.bases) (length a.cells) in
+    let head = head_text d (length a.bases) (length a.cells) in
     omega (
       arith,
-      length-append body (word_bytes (checkOf body)),
+      length-append body (word_bytes (check_of body)),
       length-append front (bases ++ cells),
       length-append bases cells,
       length-header CUBE a.sizes,
-      length-append head (flat_map baseText a.bases ++ flat_map cellText a.cells),
-      length-append (flat_map baseText a.bases) (flat_map cellText a.cells),
+      length-append head (flat_map base_text a.bases ++ flat_map cell_text a.cells),
+      length-append (flat_map base_text a.bases) (flat_map cell_text a.cells),
       head_few d (length a.bases) (length a.cells) (omega (arith, w.sized.few)) (omega (arith, w.few)) w.count,
-      flat-within baseText baseBytes a.bases (λ b m. base-within d b (walkable-fits w b m)),
-      flat-within cellText cellBytes a.cells (λ r m. cell-within d r (w.each r m)),
+      flat-within base_text base_bytes a.bases (λ b m. base-within d b (walkable_fits w b m)),
+      flat-within cell_text cell_bytes a.cells (λ r m. cell-within d r (w.each r m)),
     )

@@ -13,7 +13,7 @@ use Rattle.cube.proofs.Codes.{cell_full}
 use Rattle.archive_entries.specs.Layout.{Based, Held}
 use Rattle.archive_entries.proofs.Written.{Words, Wide, Enters}
 use Rattle.archive_entries.proofs.Walkable.{Walkable}
-use Rattle.archive_entries.proofs.Entered.{entered-each}
+use Rattle.archive_entries.proofs.Entered.{entered_each}
 use Rattle.archive_entries.proofs.Limits.{cell-words}
 
 -- a row
@@ -27,12 +27,12 @@ pub record BaseFits (d : ℕ) (b : Based) : Type 0 where
   pub sets : (s : ℕ) → s ∈ b.list → s < 2 ^ 32
 
 -- the codes of a base entry are the cell of the full set
-enters-fits : {zs x : List ℕ} {before : ℕ} {b : Based} → Sized zs → Enters zs x before b → BaseFits (length zs) b
-enters-fits {zs} {b = b} s e =
+enters_fits : {zs x : List ℕ} {before : ℕ} {b : Based} → Sized zs → Enters zs x before b → BaseFits (length zs) b
+enters_fits {zs} {b = b} s e =
     let d = length zs in
     let y = b.row.codes in
     let k = below-coded zs y (λ z m. (s.each z m).1) e.below in
     record { row = (subst (Words d) (cell_full d y k) (cell-words d (full d) y k), e.wide); short = e.short; sets = e.sets }
 
-pub walkable-fits : {a : Held} → Walkable a → (b : Based) → b ∈ a.bases → BaseFits (length a.sizes) b
-walkable-fits {a} w b m = enters-fits w.sized (entered-each a.sizes [] 0 a.bases w.entered m).2
+pub walkable_fits : {a : Held} → Walkable a → (b : Based) → b ∈ a.bases → BaseFits (length a.sizes) b
+walkable_fits {a} w b m = enters_fits w.sized (entered_each a.sizes [] 0 a.bases w.entered m).2

@@ -5,22 +5,22 @@ use Prim.Native.Nat.{ℕ, ◌+◌, ◌*◌, ◌≤◌}
 use native.Mathlib.Omega.{arith}
 use lib.ListN.{length, drop}
 use Rattle.fields.specs.Words.{word_at}
-use Rattle.fields.specs.WordsLaws.{length-wordsAt}
+use Rattle.fields.specs.WordsLaws.{length_words_at}
 use Rattle.cube.specs.declared.Total.{Total}
 use Rattle.cube.specs.Measure.{Row}
-use Rattle.archive_entries.specs.Layout.{Based, cellBytes, baseBytes}
-use Rattle.archive_entries.specs.Places.{rowThere, baseThere, widthThere}
+use Rattle.archive_entries.specs.Layout.{Based, cell_bytes, base_bytes}
+use Rattle.archive_entries.specs.Places.{row_there, base_there, width_there}
 use Rattle.archive_entries.proofs.Lengths.{cell-length, base-length}
-use Rattle.archive_entries.proofs.There.{cell-there, base_there}
+use Rattle.archive_entries.proofs.There.{cell_there, base_there_lem}
 use Rattle.text_listing.proofs.Fits.{RowFits, BaseFits}
 
-pub cell-reads : (d : ℕ) (s : List ℕ) (r : Row Total) → RowFits d r → (at : ℕ) (rest : List ℕ) → at ≤ length s → drop at s ≡ cellBytes r ++ rest
-    → (rowThere s d at ≡ r) × (4 * d + 12 ≡ length (cellBytes r))
-cell-reads d s r f at rest h e = (cell-there s d r f at rest h e, sym (cell-length d r f.0.0))
+pub cell_reads : (d : ℕ) (s : List ℕ) (r : Row Total) → RowFits d r → (at : ℕ) (rest : List ℕ) → at ≤ length s → drop at s ≡ cell_bytes r ++ rest
+    → (row_there s d at ≡ r) × (4 * d + 12 ≡ length (cell_bytes r))
+cell_reads d s r f at rest h e = (cell_there s d r f at rest h e, sym (cell-length d r f.0.0))
 
-pub base-reads : (d : ℕ) (s : List ℕ) (b : Based) → BaseFits d b → (at : ℕ) (rest : List ℕ) → at ≤ length s → drop at s ≡ baseBytes b ++ rest
-    → (baseThere s d at ≡ b) × (widthThere s d at ≡ length (baseBytes b))
-base-reads d s b f at rest h e =
-    let there = base_there s d b f.row f.short f.sets at rest h e in
-    let sets : word_at s (at + 4 * d + 12) ≡ length b.list = sym (length-wordsAt s (word_at s (at + 4 * d + 12)) (at + 4 * d + 16)) ∙ ap (λ (x : Based). length x.list) there in
+pub base_reads : (d : ℕ) (s : List ℕ) (b : Based) → BaseFits d b → (at : ℕ) (rest : List ℕ) → at ≤ length s → drop at s ≡ base_bytes b ++ rest
+    → (base_there s d at ≡ b) × (width_there s d at ≡ length (base_bytes b))
+base_reads d s b f at rest h e =
+    let there = base_there_lem s d b f.row f.short f.sets at rest h e in
+    let sets : word_at s (at + 4 * d + 12) ≡ length b.list = sym (length_words_at s (word_at s (at + 4 * d + 12)) (at + 4 * d + 16)) ∙ ap (λ (x : Based). length x.list) there in
     (there, omega (arith, sets, base-length d b f.row.0.0))

@@ -11,7 +11,7 @@ use Rattle.lists.specs.Lists.{◌∈◌}
 use Rattle.lists.proofs.Parts.{drop-front}
 use Rattle.fields.specs.Written.{Wrote}
 use Rattle.archive_cells.specs.Writing.{Writing}
-use Rattle.archive_cells.specs.WritingLaws.{writing-none, writing_more, writing-done, writing-room}
+use Rattle.archive_cells.specs.WritingLaws.{writing_none, writing_more, writing_done, writing_room}
 
 -- things as bytes and as lines, and what is known of each
 module _ {A : Type 0} (bytes line : A → List ℕ) (P : A → Type 0) where
@@ -27,7 +27,7 @@ module _ {A : Type 0} (bytes line : A → List ℕ) (P : A → Type 0) where
 
   pub turn-start : (s : List ℕ) (xs : List A) (l : List ℕ) {n at : ℕ} (end : List ℕ) → length xs ≡ n → at ≤ length s → drop at s ≡ flat_map bytes xs ++ end
       → ((x : A) → x ∈ xs → P x) → Turn s xs l l 0 n at 0
-  turn-start s xs l end c h e p = record { left = xs; count = omega (arith, c); place = h; end = end; here = e; each = p; writing = writing-none (flat_map line xs) l }
+  turn-start s xs l end c h e p = record { left = xs; count = omega (arith, c); place = h; end = end; here = e; each = p; writing = writing_none (flat_map line xs) l }
 
   module _ {s : List ℕ} {xs : List A} {l m : List ℕ} {i n at done : ℕ} where
     -- the thing at the place, and those behind it
@@ -47,7 +47,7 @@ module _ {A : Type 0} (bytes line : A → List ℕ) (P : A → Type 0) where
   turn-done {xs = xs} {l} {m} {i} {n} {done = done} t h = go t.left t.count t.writing
     where
       go : (left : List A) → i + length left ≡ n → Writing (flat_map line xs) (flat_map line left) l m done → Wrote (flat_map line xs) l m done
-      go [] c w = writing-done w
+      go [] c w = writing_done w
       go (x ∷ behind) c w = absurd (omega arith)
 
 -- a thing is read at its place, and so is how many bytes it takes
@@ -66,12 +66,12 @@ module _ {A : Type 0} (bytes line : A → List ℕ) (P : A → Type 0) (there : 
   read : (there s at ≡ thing) × (width s at ≡ length (bytes thing))
   read = reads s thing ((next bytes line P t h).5 thing (Memᴰ.head refl)) at behind t.place here
 
-  pub thing-whole : at + width s at ≤ length s
-  thing-whole = omega (arith, ap length here, length-append (bytes thing) behind, length-drop at s, t.place, read.1)
+  pub thing_whole : at + width s at ≤ length s
+  thing_whole = omega (arith, ap length here, length-append (bytes thing) behind, length-drop at s, t.place, read.1)
 
   -- there is room for its line
-  pub thing-room : length (flat_map line xs) ≤ length l → done + length (line (there s at)) ≤ length m
-  thing-room r = rw read.0 (writing-room (line thing) (flat_map line (next bytes line P t h).1) (next bytes line P t h).6 r)
+  pub thing_room : length (flat_map line xs) ≤ length l → done + length (line (there s at)) ≤ length m
+  thing_room r = rw read.0 (writing_room (line thing) (flat_map line (next bytes line P t h).1) (next bytes line P t h).6 r)
 
   -- its line was written
   pub turn_on : {r : List ℕ} {k place : ℕ} → Wrote (line (there s at)) (mid_of done (length m - done) m) r k → place ≡ at + width s at
@@ -82,7 +82,7 @@ module _ {A : Type 0} (bytes line : A → List ℕ) (P : A → Type 0) (there : 
       record {
         left = g.1;
         count = g.3;
-        place = omega (arith, thing-whole);
+        place = omega (arith, thing_whole);
         end = g.2;
         here = ap (λ (j : ℕ). drop j s) e ∙ sym (drop-drop (width s at) at s) ∙ drop-front (bytes thing) behind (width s at) here (sym read.1);
         each = λ y i. g.5 y (Memᴰ.tail i);

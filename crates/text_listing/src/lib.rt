@@ -2,15 +2,15 @@
 ghost use mathlib.Core.List.{flat_map};
 ghost use Rattle.std.specs.Prelude.{ℕ, ◌≤◌, length};
 ghost use Rattle.fields.specs.Written.{Wrote};
-ghost use Rattle.archive_entries.specs.Reading.{readArchive};
-ghost use Rattle.text_lines.specs.Lines.{baseText, cellText};
-ghost use Rattle.text_listing.specs.Listing.{listing, heldBy, Accepted};
+ghost use Rattle.archive_entries.specs.Reading.{read_archive};
+ghost use Rattle.text_lines.specs.Lines.{base_text, cell_text};
+ghost use Rattle.text_listing.specs.Listing.{listing, held_by, Accepted};
 
 // Writes the lines of the base entries of an accepted archive.
 fn put_bases(out: &mut [u8], s: &[u8], dims: usize, bases: usize) -> usize
     requires by_index { (m : ℕ) × Accepted s.now dims bases m }
-    requires s_in_bounds { length (flat_map baseText (heldBy (readArchive s.now)).bases) ≤ length out.old }
-    ensures { Wrote (flat_map baseText (heldBy (readArchive s.now)).bases) out.old out.new result }
+    requires s_in_bounds { length (flat_map base_text (held_by (read_archive s.now)).bases) ≤ length out.old }
+    ensures { Wrote (flat_map base_text (held_by (read_archive s.now)).bases) out.old out.new result }
 {
     let mut done = 0;
     let mut at = 12 + 4 * dims;
@@ -27,8 +27,8 @@ fn put_bases(out: &mut [u8], s: &[u8], dims: usize, bases: usize) -> usize
 // Writes the lines of the normal entries of an accepted archive.
 fn put_cells(out: &mut [u8], s: &[u8], dims: usize, cells: usize) -> usize
     requires by_index { (n : ℕ) × Accepted s.now dims n cells }
-    requires s_in_bounds { length (flat_map cellText (heldBy (readArchive s.now)).cells) ≤ length out.old }
-    ensures { Wrote (flat_map cellText (heldBy (readArchive s.now)).cells) out.old out.new result }
+    requires s_in_bounds { length (flat_map cell_text (held_by (read_archive s.now)).cells) ≤ length out.old }
+    ensures { Wrote (flat_map cell_text (held_by (read_archive s.now)).cells) out.old out.new result }
 {
     let width = 4 * dims + 12;
     let mut done = 0;
@@ -45,8 +45,8 @@ fn put_cells(out: &mut [u8], s: &[u8], dims: usize, cells: usize) -> usize
 // Writes the text of an accepted archive, of which the two counts are known.
 pub fn put_listing(out: &mut [u8], s: &[u8], bases: u32, cells: u32) -> usize
     requires by_index { (d : ℕ) × Accepted s.now d bases cells }
-    requires s_in_bounds { length (listing (heldBy (readArchive s.now))) ≤ length out.old }
-    ensures { Wrote (listing (heldBy (readArchive s.now))) out.old out.new result }
+    requires s_in_bounds { length (listing (held_by (read_archive s.now))) ≤ length out.old }
+    ensures { Wrote (listing (held_by (read_archive s.now))) out.old out.new result }
 {
     let dims = fields::word_at(s, 4);
     let mut done = text_lines::put_head(out, dims, bases, cells);

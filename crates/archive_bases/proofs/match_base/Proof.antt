@@ -4,9 +4,9 @@ use mathlib.Core.List.{List, ◌++◌}
 use Prim.Native.Nat.{ℕ}
 use native.Mathlib.Omega.{arith}
 use lib.ListN.{length}
-use Rattle.fields.specs.Words.{wordsBytes}
+use Rattle.fields.specs.Words.{words_bytes}
 use Rattle.rows_lists.proofs.Lists.{list_length}
-use Rattle.archive_cells.specs.ListBytes.{listBytes}
+use Rattle.archive_cells.specs.ListBytes.{list_bytes}
 use Rattle.archive_compare.specs.MatchedLaws.{matched_as}
 use Rattle.archive_bases.proofs.Bases.{base-words}
 use borrow.Author.Rules.{rules}
@@ -24,7 +24,7 @@ returns : tie.Need-returns
 returns c =
     let p = c.before.before.before.before.before.before.requires in
     let entry = base-words p.0 c.before.before.before.before.before.before.args.row p.1 (λ i. omega (arith, c.before.before.before.before.shared-slice-known2.given i)) in
-    let same = ap₂ (λ (ws l : List ℕ). wordsBytes ws ++ listBytes l) c.before.before.words_of.ensures.0 c.before.list_of.ensures in
+    let same = ap₂ (λ (ws l : List ℕ). words_bytes ws ++ list_bytes l) c.before.before.words_of.ensures.0 c.before.list_of.ensures in
     matched_as (same ∙ sym entry) c.match-entry.ensures
 
 pub match-base-spec : {M : Type 1} → statement M

@@ -4,8 +4,8 @@ use Prim.Native.Nat.{◌+◌, ◌*◌, ◌-◌, ◌≤◌}
 use native.Mathlib.Omega.{arith}
 use lib.ListN.{get_or, drop}
 use Rattle.rows.specs.Rows.{rows_of}
-use Rattle.archive_entries.specs.Layout.{setsIn}
-use Rattle.archive_bases.specs.Listed.{ourBases}
+use Rattle.archive_entries.specs.Layout.{sets_in}
+use Rattle.archive_bases.specs.Listed.{our_bases}
 use Rattle.archive_bases.proofs.Bases.{sets-next, sets-none}
 use borrow.Author.Rules.{rules}
 use Rattle.archive_bases.proofs.sets_in.Statement.{statement}
@@ -13,7 +13,7 @@ use Rattle.archive_bases.proofs.sets_in.Tie as tie
 
 abbrev invariant-loop : tie.invariant-loop
 invariant-loop rows n dims lists all₀ i₀ all i =
-    (i ≤ n) × (all ≤ 70 * i) × (all + setsIn (drop i (ourBases dims (rows_of dims n rows))) ≡ setsIn (ourBases dims (rows_of dims n rows)))
+    (i ≤ n) × (all ≤ 70 * i) × (all + sets_in (drop i (our_bases dims (rows_of dims n rows))) ≡ sets_in (our_bases dims (rows_of dims n rows)))
 
 abbrev decreases-loop : tie.decreases-loop
 decreases-loop rows n dims lists all₀ i₀ all i = n - i

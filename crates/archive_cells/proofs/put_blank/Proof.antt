@@ -1,7 +1,7 @@
 -- `archive_cells::put_blank` meets its contract: the end of the blank words is the cell.
 use native.Mathlib.Omega.{arith}
 use lib.ListN.{length-take, length-drop}
-use Rattle.fields.specs.WordsLaws.{length-wordsBytes}
+use Rattle.fields.specs.WordsLaws.{length_words_bytes}
 use Rattle.archive_cells.specs.WritingLaws.{wrote_as}
 use Rattle.archive_cells.proofs.Cells.{blank-words}
 use borrow.Author.Rules.{rules}
@@ -9,7 +9,7 @@ use Rattle.archive_cells.proofs.put_blank.Statement.{statement}
 use Rattle.archive_cells.proofs.put_blank.Tie as tie
 
 put-words-requires : tie.Need-put-words-requires
-put-words-requires c κs = let p = c.before.before.before.before.requires in rw length-wordsBytes (simp (length-take, length-drop) (omega (arith, p.0, p.1)))
+put-words-requires c κs = let p = c.before.before.before.before.requires in rw length_words_bytes (simp (length-take, length-drop) (omega (arith, p.0, p.1)))
 
 returns : tie.Need-returns
 returns c = wrote_as (blank-words c.before.before.before.before.before.before.before.args.dims c.before.before.before.before.before.before.before.requires.0) c.before.before.put-words.ensures

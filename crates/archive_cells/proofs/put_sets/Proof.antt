@@ -2,16 +2,16 @@
 use Prim.Native.Nat.{◌+◌, ◌-◌, ◌≤◌}
 use native.Mathlib.Omega.{arith}
 use lib.ListN.{length, drop, length-take, length-drop}
-use Rattle.fields.specs.Words.{wordsBytes}
+use Rattle.fields.specs.Words.{words_bytes}
 use Rattle.archive_cells.specs.Writing.{Writing}
-use Rattle.archive_cells.specs.WritingLaws.{writing-none}
-use Rattle.archive_cells.proofs.Words.{words-room, words_more, words-done}
+use Rattle.archive_cells.specs.WritingLaws.{writing_none}
+use Rattle.archive_cells.proofs.Words.{words-room, words_more, words_done}
 use borrow.Author.Rules.{rules}
 use Rattle.archive_cells.proofs.put_sets.Statement.{statement}
 use Rattle.archive_cells.proofs.put_sets.Tie as tie
 
 abbrev invariant-loop : tie.invariant-loop
-invariant-loop out₀ sets at₀ i₀ i-end out at i = (i ≤ length sets) × Writing (wordsBytes sets) (wordsBytes (drop i sets)) out₀ out at
+invariant-loop out₀ sets at₀ i₀ i-end out at i = (i ≤ length sets) × Writing (words_bytes sets) (words_bytes (drop i sets)) out₀ out at
 
 abbrev decreases-loop : tie.decreases-loop
 decreases-loop out₀ sets at₀ i₀ i-end out at i = length sets - i
@@ -21,7 +21,7 @@ room : (c : tie.In-loop invariant-loop decreases-loop) → c.before.loop.at + 4 
 room c = words-room c.before.before.before.before.args.sets.now c.before.loop.i c.before.loop.invariant.1 c.loop-test.true c.before.before.before.before.requires
 
 loop-holds : tie.Need-loop-init invariant-loop decreases-loop
-loop-holds c = (search rules, writing-none _ _)
+loop-holds c = (search rules, writing_none _ _)
 
 sub-put-word : tie.Need-overflow-sub-put-word invariant-loop decreases-loop
 sub-put-word c = omega (arith, room c)
@@ -47,7 +47,7 @@ same_length : tie.Need-same-length invariant-loop decreases-loop
 same_length c = c.before.loop.invariant.1.wrote.same
 
 returns : tie.Need-returns invariant-loop decreases-loop
-returns c = words-done c.before.before.before.before.args.sets.now c.before.loop.i c.before.loop.invariant.1 c.loop-test.false
+returns c = words_done c.before.before.before.before.args.sets.now c.before.loop.i c.before.loop.invariant.1 c.loop-test.false
 
 pub put-sets-spec : {M : Type 1} → statement M
 put-sets-spec =

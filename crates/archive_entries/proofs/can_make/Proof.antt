@@ -7,7 +7,7 @@ use mir.Syntax.{w64}
 use mir.Val.{SFits, to_z}
 use mir.Facts.{to_z-of_z, to_z_pos}
 use Rattle.archive_entries.proofs.Bounds.{least_fits, greatest-fits}
-use Rattle.cube.specs.Bounds.{canMake}
+use Rattle.cube.specs.Bounds.{can_make}
 use Rattle.archive_entries.proofs.can_make.Statement.{statement}
 use Rattle.archive_entries.proofs.can_make.Tie as tie
 
@@ -27,14 +27,14 @@ mul-high : tie.Need-overflow-mul-high
 mul-high c = rw (count-is c) (high_fits c)
 
 returns : tie.Need-returns
-unfolding canMake
+unfolding can_make
 returns c =
     let b = c.before in
     let t = rw (count-is b, to_z-of_z (low_fits b), to_z-of_z b.ranges.sum) at c.if1.true in
     rw (count-is b, to_z-of_z b.ranges.sum, to_z-of_z (high_fits b), t)
 
 returns-2 : tie.Need-returns-2
-unfolding canMake
+unfolding can_make
 returns-2 c =
     let b = c.before in
     let t = rw (count-is b, to_z-of_z (low_fits b), to_z-of_z b.ranges.sum) at c.if1.false in

@@ -6,7 +6,7 @@ use borrow.Author.Rules.{rules}
 use mir.Syntax.{w64}
 use mir.Val.{Fits}
 use Rattle.fields_walk.proofs.Steps.{seen, place-got}
-use Rattle.archive_entries.proofs.Cells.{cells-off, cells-on}
+use Rattle.archive_entries.proofs.Cells.{cells-off, cells_on}
 use Rattle.archive_entries.proofs.check_cells.Statement.{statement}
 use Rattle.archive_entries.proofs.check_cells.Tie as tie
 
@@ -33,7 +33,7 @@ returns-2 : tie.Need-returns-2
 returns-2 c =
     let a = c.before.before.before.before.before.before.before.args in
     let g = seen c.before.before.before.next.given.1 c.before.before.before.before.before.check-room.ensures in
-    cells-on a.s.now a.dims a.at g.1 c.before.word-at.ensures c.check-room2.ensures
+    cells_on a.s.now a.dims a.at g.1 c.before.word-at.ensures c.check-room2.ensures
 
 pub check-cells-spec : {M : Type 1} → statement M
 check-cells-spec = tie.close (tie.spec (λ c κs. search rules) (λ c. search rules) (λ c. search rules) word-at-requires (λ c. search rules) (λ c. search rules) (λ c. search rules) mul-check-room-2 check-room-requires-2 returns returns-2)

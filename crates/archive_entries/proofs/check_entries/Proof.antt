@@ -8,29 +8,29 @@ use native.Mathlib.Omega.{arith}
 use native.Mathlib.Nat.{sub-zero}
 use borrow.Author.Rules.{rules}
 use lib.ListN.{length, drop}
-use Rattle.fields.specs.Words.{wordsAt}
+use Rattle.fields.specs.Words.{words_at}
 use Rattle.fields_walk.specs.declared.Walk.TheVariants.{At}
 use Rattle.fields_walk.specs.Walked.{Says}
 use Rattle.fields_walk.proofs.Steps.{seen}
-use Rattle.fields_walk.proofs.Loops.{Follows, follows-self}
+use Rattle.fields_walk.proofs.Loops.{Follows, follows_self}
 use Rattle.cube.specs.Bounds.{most}
 use Rattle.archive_entries.specs.Reading.{entry, entries}
 use Rattle.archive_entries.proofs.Entry.{Entry, entry_read}
-use Rattle.archive_entries.proofs.Entries.{entries-on, entries-off, entries-done}
+use Rattle.archive_entries.proofs.Entries.{entries_on, entries-off, entries-done}
 use Rattle.archive_entries.proofs.check_entries.Statement.{statement}
 use Rattle.archive_entries.proofs.check_entries.Tie as tie
 
 abbrev invariant-loop : tie.invariant-loop
 invariant-loop s sizes count start dims n₀ p₀ total₀ at₀ i₀ n p total at i =
-    (i ≤ count) × (at ≤ length s) × Follows s (entries sizes (count - i) (wordsAt s n p) total (drop at s)) (entries sizes count [] 0 (drop start s))
+    (i ≤ count) × (at ≤ length s) × Follows s (entries sizes (count - i) (words_at s n p) total (drop at s)) (entries sizes count [] 0 (drop start s))
     × (total ≤ most) × (p + 4 * n ≤ length s) × ((n ≡ 0) ⊎ (n ≡ length sizes))
 
 abbrev decreases-loop : tie.decreases-loop
 decreases-loop s sizes count start dims n₀ p₀ total₀ at₀ i₀ n p total at i = count - i
 
 loop-holds : tie.Need-loop-init invariant-loop decreases-loop
-unfolding wordsAt
-loop-holds c = (omega arith, omega arith, simp sub-zero (follows-self _ _), omega arith, omega arith, inl refl)
+unfolding words_at
+loop-holds c = (omega arith, omega arith, simp sub-zero (follows_self _ _), omega arith, omega arith, inl refl)
 
 check-entry-requires : tie.Need-check-entry-requires invariant-loop decreases-loop
 check-entry-requires c κs = ((search rules, search rules, search rules, search rules), (search rules, c.before.loop.invariant.5))
@@ -39,7 +39,7 @@ returns : tie.Need-returns invariant-loop decreases-loop
 returns c =
     let l = c.before.before.before.before.before.loop in
     let a = c.before.before.before.before.before.before.before.before.args in
-    record { says = entries-off a.sizes.now (wordsAt a.s.now l.n l.p) l.total l.at l.i a.count l.invariant.2 (search rules) (seen c.before.k.given.1 c.before.before.before.check-entry.ensures) }
+    record { says = entries-off a.sizes.now (words_at a.s.now l.n l.p) l.total l.at l.i a.count l.invariant.2 (search rules) (seen c.before.k.given.1 c.before.before.before.check-entry.ensures) }
 
 -- the entry that was passed is there, and its count is within the bound
 module _ (c : tie.After-known-told2 invariant-loop decreases-loop) where
@@ -50,7 +50,7 @@ module _ (c : tie.After-known-told2 invariant-loop decreases-loop) where
   zs = c.before.before.before.before.before.before.before.before.args.sizes.now
 
   abbrev before : List ℕ
-  before = let l = c.before.before.before.before.before.loop in wordsAt s l.n l.p
+  before = let l = c.before.before.before.before.before.loop in words_at s l.n l.p
 
   abbrev total : ℕ
   total = c.before.before.before.before.before.loop.total
@@ -86,7 +86,7 @@ loop-again c =
     let a = w.before.before.before.before.before.before.before.before.args in (
       omega arith,
       (read w).2,
-      entries-on (zs w) (before w) (total w) (at w) l.i a.count l.invariant.2 (omega arith) l.invariant.1 (read w).1 c.word-at.ensures,
+      entries_on (zs w) (before w) (total w) (at w) l.i a.count l.invariant.2 (omega arith) l.invariant.1 (read w).1 c.word-at.ensures,
       omega (arith, (there w).few, c.word-at.ensures),
       omega (arith, (there w).whole),
       inr refl,
@@ -96,7 +96,7 @@ returns-2 : tie.Need-returns-2 invariant-loop decreases-loop
 returns-2 c =
     let l = c.before.loop in
     let a = c.before.before.before.before.args in
-    record { says = entries-done a.sizes.now (wordsAt a.s.now l.n l.p) l.total l.at l.i a.count l.invariant.2 (search rules) l.invariant.1 }
+    record { says = entries-done a.sizes.now (words_at a.s.now l.n l.p) l.total l.at l.i a.count l.invariant.2 (search rules) l.invariant.1 }
 
 pub check-entries-spec : {M : Type 1} → statement M
 check-entries-spec = tie.close (tie.spec invariant-loop decreases-loop loop-holds check-entry-requires (λ c. search rules) returns (λ c. search rules) mul-word-at add-word-at add-word-at-2 word-at-requires add_total (λ c. search rules) (λ c. search rules) loop-again returns-2)

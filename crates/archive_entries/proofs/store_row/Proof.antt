@@ -5,7 +5,7 @@ use native.Mathlib.Omega.{arith}
 use lib.ListN.{length, take, drop, length-drop}
 use lib.Seq.{length-take-le}
 use borrow.Author.Rules.{rules}
-use Rattle.fields.specs.Words.{wordsAt}
+use Rattle.fields.specs.Words.{words_at}
 use Rattle.rows.specs.Rows.{width}
 use Rattle.archive_entries.proofs.Storing.{row_read}
 use Rattle.archive_entries.proofs.store_row.Statement.{statement}
@@ -25,7 +25,7 @@ returns : tie.Need-returns
 returns c =
     let s = c.before.before.before.before.before.before in
     let a = s.args in
-    row_read a.s.now a.dims a.at a.i a.rows.now _ s.requires.1 (c.before.before.read-words.ensures ∙ ap (λ (n : ℕ). wordsAt a.s.now n a.at) (part s))
+    row_read a.s.now a.dims a.at a.i a.rows.now _ s.requires.1 (c.before.before.read-words.ensures ∙ ap (λ (n : ℕ). words_at a.s.now n a.at) (part s))
 
 pub store-row-spec : {M : Type 1} → statement M
 store-row-spec =

@@ -7,7 +7,7 @@ use borrow.Author.Rules.{rules}
 use lib.ListN.{length}
 use Rattle.rows.specs.Rows.{width}
 use Rattle.rows.proofs.Rows.{row_within}
-use Rattle.archive_entries.specs.Places.{widthThere}
+use Rattle.archive_entries.specs.Places.{width_there}
 use Rattle.archive_entries.proofs.Fields.{accepted}
 use Rattle.archive_entries.proofs.Storing.{Turn, turn-start, turn-whole, turn_on, turn-done}
 use Rattle.archive_entries.proofs.store_rows.Statement.{statement}
@@ -32,7 +32,7 @@ store-row-requires c κs =
     (omega (arith, turn-whole _ _ _ _ l.invariant.1 h), omega (arith, l.invariant.0, s.requires.1, all, row_within (width s.args.dims) s.args.bases l.i h))
 
 -- the entry whose row was stored is there
-room : (c : tie.After-slice-known2 invariant-loop decreases-loop) → (let l = c.before.before.before.before.before.loop in let a = c.before.before.before.before.before.before.before.before.args in l.at + widthThere a.s.now a.dims l.at ≤ length a.s.now)
+room : (c : tie.After-slice-known2 invariant-loop decreases-loop) → (let l = c.before.before.before.before.before.loop in let a = c.before.before.before.before.before.before.before.before.args in l.at + width_there a.s.now a.dims l.at ≤ length a.s.now)
 room c = turn-whole _ _ _ _ c.before.before.before.before.before.loop.invariant.1 c.before.before.before.before.loop-test.true
 
 add-word-at : tie.Need-overflow-add-word-at invariant-loop decreases-loop

@@ -6,36 +6,36 @@ use native.Mathlib.Omega.{arith}
 use lib.ListN.{length, get_or}
 use Rattle.cube.specs.declared.Total.{Total}
 use Rattle.cube.specs.Measure.{Row, nothing}
-use Rattle.rows.specs.Rows.{cut, row_at, rowTotal}
+use Rattle.rows.specs.Rows.{cut, row_at, row_total}
 use Rattle.rows_order.specs.Index.{key}
 use Rattle.rows_runs.proofs.Totals.{Room}
-use Rattle.archive_entries.specs.Layout.{cellBytes}
-use Rattle.rows_slots.specs.Slots.{rowIn}
-use Rattle.rows_slots.specs.Summed.{plusRow}
-use Rattle.rows_slots.proofs.Summing.{rows_from, adding-none, adding-bounds, adding-on, adding-end, entry_named}
+use Rattle.archive_entries.specs.Layout.{cell_bytes}
+use Rattle.rows_slots.specs.Slots.{row_in}
+use Rattle.rows_slots.specs.Summed.{plus_row}
+use Rattle.rows_slots.proofs.Summing.{rows_from, adding_none, adding_bounds, adding_on, adding_end, entry_named}
 use Rattle.archive_compare.specs.Matched.{Matched, Matching}
-use Rattle.archive_compare.specs.MatchedLaws.{matching-none, matching-more, matching-off, matching-done, matched_as, matched-told}
+use Rattle.archive_compare.specs.MatchedLaws.{matching_none, matching_more, matching_off, matching_done, matched_as, matched_told}
 use Rattle.archive_groups.specs.Masks.{masked}
-use Rattle.archive_groups.specs.Groups.{groupBytes}
+use Rattle.archive_groups.specs.Groups.{group_bytes}
 use Rattle.archive_groups.proofs.Masks.{masked-key}
-use Rattle.archive_groups.proofs.Left.{left, left-on, left_end, left-none}
+use Rattle.archive_groups.proofs.Left.{left, left_on, left_end, left-none}
 use borrow.Author.Rules.{rules}
 use Rattle.archive_groups.proofs.match_groups.Statement.{statement}
 use Rattle.archive_groups.proofs.match_groups.Tie as tie
 
 abbrev invariant-loop : tie.invariant-loop
 invariant-loop s start rows n dims set slot missing at₀ total₀ i₀ i-end at total i =
-    (i ≤ length slot) × Room total (rows_from (rowTotal dims n rows) (key set (cut dims n rows)) slot i)
-    × Matching (groupBytes (rowTotal dims n rows) (key set (cut dims n rows)) slot) (left (rowTotal dims n rows) (key set (cut dims n rows)) slot total i) s start at
+    (i ≤ length slot) × Room total (rows_from (row_total dims n rows) (key set (cut dims n rows)) slot i)
+    × Matching (group_bytes (row_total dims n rows) (key set (cut dims n rows)) slot) (left (row_total dims n rows) (key set (cut dims n rows)) slot total i) s start at
 
 abbrev decreases-loop : tie.decreases-loop
 decreases-loop s start rows n dims set slot missing at₀ total₀ i₀ i-end at total i = length slot - i
 
 loop-holds : tie.Need-loop-init invariant-loop decreases-loop
-unfolding left groupBytes
+unfolding left group_bytes
 loop-holds c =
     let a = c.before.before.before.before.args in
-    (search rules, adding-none (rowTotal a.dims a.n a.rows.now) (key a.set (cut a.dims a.n a.rows.now)) a.slot.now c.before.before.before.before.requires.0.summable, matching-none _ _ _ c.before.before.before.before.requires.1)
+    (search rules, adding_none (row_total a.dims a.n a.rows.now) (key a.set (cut a.dims a.n a.rows.now)) a.slot.now c.before.before.before.before.requires.0.summable, matching_none _ _ _ c.before.before.before.before.requires.1)
 
 add-row-requires : tie.Need-add-row-requires invariant-loop decreases-loop
 add-row-requires c κs =
@@ -44,7 +44,7 @@ add-row-requires c κs =
     let l = c.before.before.before.loop in
     let h : l.i < length a.slot.now = c.before.before.loop-test.true in
     let n = entry_named a.slot.now a.n l.i p.names h in
-    let b = adding-bounds (rowTotal a.dims a.n a.rows.now) (key a.set (cut a.dims a.n a.rows.now)) a.slot.now l.total l.i h l.invariant.1 in
+    let b = adding_bounds (row_total a.dims a.n a.rows.now) (key a.set (cut a.dims a.n a.rows.now)) a.slot.now l.total l.i h l.invariant.1 in
     rw c.row_in.ensures.0 (p.size, n, b.0, b.1, b.2)
 
 loop-again : tie.Need-loop-preserved invariant-loop decreases-loop
@@ -55,8 +55,8 @@ loop-again c =
     let h : l.i < length a.slot.now = c.before.before.before.before.before.loop-test.true in
     rw (c.before.before.add_row.ensures, c.before.before.before.row_in.ensures.0) (
       search rules,
-      adding-on (rowTotal a.dims a.n a.rows.now) keys a.slot.now l.total l.i h l.invariant.1,
-      rw (left-on (rowTotal a.dims a.n a.rows.now) keys a.slot.now l.total l.i h (sym c.before.end-in.ensures.0 ∙ c.if1.true)) at l.invariant.2,
+      adding_on (row_total a.dims a.n a.rows.now) keys a.slot.now l.total l.i h l.invariant.1,
+      rw (left_on (row_total a.dims a.n a.rows.now) keys a.slot.now l.total l.i h (sym c.before.end-in.ensures.0 ∙ c.if1.true)) at l.invariant.2,
     )
 
 -- the row in hand
@@ -74,26 +74,26 @@ abbrev ended : (c : tie.After-match-group invariant-loop decreases-loop) → Row
 ended c =
     let a = c.before.before.before.before.before.before.before.before.before.before.before.before.before.before.args in
     let l = c.before.before.before.before.before.before.before.before.before.loop in
-    let row = rowIn (get_or a.slot.now l.i 0) in
-    record { codes = key a.set (cut a.dims a.n a.rows.now) row; total = plusRow (rowTotal a.dims a.n a.rows.now) l.total row }
+    let row = row_in (get_or a.slot.now l.i 0) in
+    record { codes = key a.set (cut a.dims a.n a.rows.now) row; total = plus_row (row_total a.dims a.n a.rows.now) l.total row }
 
 matching : (c : tie.After-match-group invariant-loop decreases-loop) → let a = c.before.before.before.before.before.before.before.before.before.before.before.before.before.before.args in
     let l = c.before.before.before.before.before.before.before.before.before.loop in
     let keys = key a.set (cut a.dims a.n a.rows.now) in
-    Matching (groupBytes (rowTotal a.dims a.n a.rows.now) keys a.slot.now) (cellBytes (ended c) ++ left (rowTotal a.dims a.n a.rows.now) keys a.slot.now nothing (l.i + 1)) a.s.now a.start l.at
+    Matching (group_bytes (row_total a.dims a.n a.rows.now) keys a.slot.now) (cell_bytes (ended c) ++ left (row_total a.dims a.n a.rows.now) keys a.slot.now nothing (l.i + 1)) a.s.now a.start l.at
 matching c =
     let a = c.before.before.before.before.before.before.before.before.before.before.before.before.before.before.args in
     let l = c.before.before.before.before.before.before.before.before.before.loop in
     let keys = key a.set (cut a.dims a.n a.rows.now) in
-    rw (left_end (rowTotal a.dims a.n a.rows.now) keys a.slot.now l.total l.i c.before.before.before.before.before.before.before.before.loop-test.true (λ z. c.before.before.before.if1.false (c.before.before.before.before.end-in.ensures.0 ∙ z))) at l.invariant.2
+    rw (left_end (row_total a.dims a.n a.rows.now) keys a.slot.now l.total l.i c.before.before.before.before.before.before.before.before.loop-test.true (λ z. c.before.before.before.if1.false (c.before.before.before.before.end-in.ensures.0 ∙ z))) at l.invariant.2
 
 -- what was compared is that group
-matched : (c : tie.After-match-group invariant-loop decreases-loop) → Matched c.before.before.before.before.before.before.before.before.before.before.before.before.before.before.args.s.now c.before.before.before.before.before.before.before.before.before.loop.at (cellBytes (ended c)) c.match-group.result
+matched : (c : tie.After-match-group invariant-loop decreases-loop) → Matched c.before.before.before.before.before.before.before.before.before.before.before.before.before.before.args.s.now c.before.before.before.before.before.before.before.before.before.loop.at (cell_bytes (ended c)) c.match-group.result
 matched c =
     let a = c.before.before.before.before.before.before.before.before.before.before.before.before.before.before.args in
     let l = c.before.before.before.before.before.before.before.before.before.loop in
     let e = c.before.before.before.before.before.before.row_in.ensures.0 in
-    let r = rowIn (get_or a.slot.now l.i 0) in
+    let r = row_in (get_or a.slot.now l.i 0) in
     let m = c.before.before.before.before.before.before.before.before.before.before.mask-of.result in
     let p = c.before.before.before.before.before.before.before.before.before.before.before.before.before.before.requires.0 in
     let n = entry_named a.slot.now a.n l.i p.names c.before.before.before.before.before.before.before.before.loop-test.true in
@@ -101,26 +101,26 @@ matched c =
     ap (masked m) c.before.before.row_of.ensures.0
     ∙ ap (λ (z : ℕ). masked m (row_at (cut a.dims a.n a.rows.now) z)) e
     ∙ masked-key a.dims a.n a.set r a.rows.now m p.dims p.valid c.before.before.before.before.before.before.before.before.before.before.mask-of.ensures n in
-    let total = c.before.before.before.before.before.add_row.ensures ∙ ap (plusRow (rowTotal a.dims a.n a.rows.now) l.total) e in
-    matched_as (ap₂ (λ (x : List ℕ) (t : Total). cellBytes (record { codes = x; total = t })) codes total) c.match-group.ensures
+    let total = c.before.before.before.before.before.add_row.ensures ∙ ap (plus_row (row_total a.dims a.n a.rows.now) l.total) e in
+    matched_as (ap₂ (λ (x : List ℕ) (t : Total). cell_bytes (record { codes = x; total = t })) codes total) c.match-group.ensures
 
 returns : tie.Need-returns invariant-loop decreases-loop
-returns c = matching-off (cellBytes (ended c.before.before.before)) _ (matching c.before.before.before) (matched-told c.before.stop.given.1 (matched c.before.before.before))
+returns c = matching_off (cell_bytes (ended c.before.before.before)) _ (matching c.before.before.before) (matched_told c.before.stop.given.1 (matched c.before.before.before))
 
 loop-again-2 : tie.Need-loop-preserved-2 invariant-loop decreases-loop
 loop-again-2 c =
     let a = c.before.before.before.before.before.before.before.before.before.before.before.before.before.before.before.before.before.args in
     let l = c.before.before.before.before.before.before.before.before.before.before.before.before.loop in (
       search rules,
-      adding-end (rowTotal a.dims a.n a.rows.now) (key a.set (cut a.dims a.n a.rows.now)) a.slot.now l.total l.i c.before.before.before.before.before.before.before.before.before.before.before.loop-test.true l.invariant.1,
-      matching-more (cellBytes (ended c.before.before.before)) _ (matching c.before.before.before) (matched-told c.before.next.given.1 (matched c.before.before.before)),
+      adding_end (row_total a.dims a.n a.rows.now) (key a.set (cut a.dims a.n a.rows.now)) a.slot.now l.total l.i c.before.before.before.before.before.before.before.before.before.before.before.loop-test.true l.invariant.1,
+      matching_more (cell_bytes (ended c.before.before.before)) _ (matching c.before.before.before) (matched_told c.before.next.given.1 (matched c.before.before.before)),
     )
 
 returns-2 : tie.Need-returns-2 invariant-loop decreases-loop
 returns-2 c =
     let a = c.before.before.before.before.before.before.args in
     let l = c.before.loop in
-    matching-done (rw (left-none (rowTotal a.dims a.n a.rows.now) (key a.set (cut a.dims a.n a.rows.now)) a.slot.now l.total l.i c.loop-test.false) at l.invariant.2)
+    matching_done (rw (left-none (row_total a.dims a.n a.rows.now) (key a.set (cut a.dims a.n a.rows.now)) a.slot.now l.total l.i c.loop-test.false) at l.invariant.2)
 
 add-i-2 : tie.Need-overflow-add-i-2 invariant-loop decreases-loop
 add-i-2 c = omega (arith, c.before.before.before.before.before.before.before.before.before.before.before.loop-test.true, c.before.before.before.before.before.before.before.before.before.before.before.before.before.before.before.before.before.requires.0.few)

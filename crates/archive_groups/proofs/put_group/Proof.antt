@@ -7,7 +7,7 @@ use lib.ListN.{length, length-take, length-drop}
 use mir.Syntax.{w64}
 use mir.Facts.{to_z-of_z}
 use Rattle.fields.specs.WrittenLaws.{wrote_then}
-use Rattle.archive_entries.specs.Layout.{cellBytes}
+use Rattle.archive_entries.specs.Layout.{cell_bytes}
 use Rattle.archive_groups.proofs.Shown.{shown-length}
 use borrow.Author.Rules.{rules}
 use Rattle.archive_groups.proofs.put_group.Statement.{statement}
@@ -42,7 +42,7 @@ add-result : tie.Need-overflow-add-result
 add-result c = omega (arith, codes c.before.before.before.before.before.before.before.before.before.before.before)
 
 returns : tie.Need-returns
-unfolding cellBytes
+unfolding cell_bytes
 returns c =
     let sum = to_z-of_z {w = w64} {z = c.before.before.before.before.before.before.before.before.before.before.before.before.before.before.before.args.total.sum} (record { sfits = c.before.before.before.before.before.before.before.before.struct_told.given.0.1 }) in
     rw (sum, append_assoc) at

@@ -4,17 +4,17 @@ use mathlib.Core.Bool.{Bool, ◌&&◌, and_assoc, and-true}
 use Prim.Native.Nat.{◌+◌, ◌*◌, ◌-◌, ◌≤◌}
 use native.Mathlib.Omega.{arith}
 use lib.ListN.{length, drop}
-use Rattle.fields.specs.Words.{wordsBytes}
+use Rattle.fields.specs.Words.{words_bytes}
 use Rattle.fields.specs.Opening.{starts_with}
 use Rattle.archive_groups.specs.Masks.{masked}
-use Rattle.archive_groups.proofs.Shown.{shownFrom, shown-all, shown-compared, shown-none}
+use Rattle.archive_groups.proofs.Shown.{shown_from, shown-all, shown-compared, shown-none}
 use borrow.Author.Rules.{rules}
 use Rattle.archive_groups.proofs.shown_is.Statement.{statement}
 use Rattle.archive_groups.proofs.shown_is.Tie as tie
 
 abbrev invariant-loop : tie.invariant-loop
 invariant-loop s start mine missing at₀ same₀ d₀ d-end at same d =
-    (d ≤ length mine) × (at ≡ start + 4 * d) × (starts_with (drop start s) (wordsBytes (masked missing mine)) ≡ same && starts_with (drop at s) (shownFrom missing mine d))
+    (d ≤ length mine) × (at ≡ start + 4 * d) × (starts_with (drop start s) (words_bytes (masked missing mine)) ≡ same && starts_with (drop at s) (shown_from missing mine d))
 
 abbrev decreases-loop : tie.decreases-loop
 decreases-loop s start mine missing at₀ same₀ d₀ d-end at same d = length mine - d
@@ -41,7 +41,7 @@ loop-again : tie.Need-loop-preserved invariant-loop decreases-loop
 loop-again c =
     let a = c.before.before.before.before.before.before.before.args in
     let l = c.before.before.before.before.loop in
-    let rest = starts_with (drop (l.at + 4) a.s.now) (shownFrom a.missing.now a.mine.now (l.d + 1)) in (
+    let rest = starts_with (drop (l.at + 4) a.s.now) (shown_from a.missing.now a.mine.now (l.d + 1)) in (
       search rules,
       omega (arith, l.invariant.1),
       l.invariant.2

@@ -3,10 +3,10 @@ use native.Mathlib.Omega.{arith}
 use Rattle.rows_ready.specs.Ready.{Ready}
 use Rattle.rows_ready.proofs.Ready.{ready-base}
 use Rattle.archive_normals.specs.Grouped.{Grouped}
-use Rattle.archive_compare.specs.MatchedLaws.{matched-told}
+use Rattle.archive_compare.specs.MatchedLaws.{matched_told}
 use Rattle.fields_walk.specs.Limits.{Bytes}
 use Rattle.fields_walk.proofs.Limits.{bytes_of}
-use Rattle.archive_judge.proofs.Judged.{read-ready, read-start, other-of, judged-of}
+use Rattle.archive_judge.proofs.Judged.{read-ready, read-start, other_of, judged_of}
 use borrow.Author.Rules.{rules}
 use Rattle.archive_judge.proofs.judge.Statement.{statement}
 use Rattle.archive_judge.proofs.judge.Tie as tie
@@ -51,13 +51,13 @@ match-sections-requires c κs =
     )
 
 returns : tie.Need-returns
-returns c = (other-of (are-bytes c.before.before.before.before.before.before.before.before.before.before.before.before.before.before.before.before.before.before.before.before) c.before.before.before.before.before.before.before.before.before.before.before.before.before.before.before.before.before.before.before.before.before.requires.0 (matched-told c.enum_told.given.1 c.before.before.match-sections.ensures), grouped c.before.before.before.before.before.before.before.before.before.before.before.before)
+returns c = (other_of (are-bytes c.before.before.before.before.before.before.before.before.before.before.before.before.before.before.before.before.before.before.before.before) c.before.before.before.before.before.before.before.before.before.before.before.before.before.before.before.before.before.before.before.before.before.requires.0 (matched_told c.enum_told.given.1 c.before.before.match-sections.ensures), grouped c.before.before.before.before.before.before.before.before.before.before.before.before)
 
 returns-2 : tie.Need-returns-2
-returns-2 c = (judged-of (are-bytes c.before.before.before.before.before.before.before.before.before.before.before.before.before.before.before.before.before.before.before.before.before) c.before.before.before.before.before.before.before.before.before.before.before.before.before.before.before.before.before.before.before.before.before.before.requires.0 (matched-told c.before.end.given.1 c.before.before.before.match-sections.ensures), grouped c.before.before.before.before.before.before.before.before.before.before.before.before.before)
+returns-2 c = (judged_of (are-bytes c.before.before.before.before.before.before.before.before.before.before.before.before.before.before.before.before.before.before.before.before.before) c.before.before.before.before.before.before.before.before.before.before.before.before.before.before.before.before.before.before.before.before.before.before.requires.0 (matched_told c.before.end.given.1 c.before.before.before.match-sections.ensures), grouped c.before.before.before.before.before.before.before.before.before.before.before.before.before)
 
 sub-result : tie.Need-overflow-sub-result
-sub-result c = omega (arith, (matched-told c.before.end.given.1 c.before.before.before.match-sections.ensures).meets.2)
+sub-result c = omega (arith, (matched_told c.before.end.given.1 c.before.before.before.match-sections.ensures).meets.2)
 
 pub judge-spec : {M : Type 1} → statement M
 judge-spec =

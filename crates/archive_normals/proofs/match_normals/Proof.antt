@@ -3,8 +3,8 @@ use mathlib.Core.Path.{◌≡◌}
 use mathlib.Core.List.{◌++◌}
 use Rattle.rows.specs.Rows.{rows_of}
 use Rattle.rows.proofs.Flat.{rows-length}
-use Rattle.archive_compare.specs.MatchedLaws.{matched-told, matched_as, matched-stop, matched-then}
-use Rattle.archive_normals.specs.Normals.{commonBytes, blankBytes, normalBytes}
+use Rattle.archive_compare.specs.MatchedLaws.{matched_told, matched_as, matched_stop, matched_then}
+use Rattle.archive_normals.specs.Normals.{common_bytes, blank_bytes, normal_bytes}
 use Rattle.archive_normals.proofs.Sections.{normal-parts}
 use borrow.Author.Rules.{rules}
 use Rattle.archive_normals.proofs.match_normals.Statement.{statement}
@@ -13,7 +13,7 @@ use Rattle.archive_normals.proofs.match_normals.Tie as tie
 -- the two parts as a whole
 whole : (c : tie.Start) → (let a = c.args in
     let n = rows_of a.dims a.n a.rows.now in
-    blankBytes a.dims a.n ++ commonBytes a.dims n ≡ normalBytes a.dims n)
+    blank_bytes a.dims a.n ++ common_bytes a.dims n ≡ normal_bytes a.dims n)
 whole c =
     let a = c.args in
     rw (rows-length a.dims a.n a.rows.now) at (normal-parts a.dims (rows_of a.dims a.n a.rows.now))
@@ -22,16 +22,16 @@ returns : tie.Need-returns
 returns c =
     let a = c.before.before.before.before.before.before.before.before.args in
     let n = rows_of a.dims a.n a.rows.now in
-    matched_as (whole c.before.before.before.before.before.before.before.before) (matched-stop (commonBytes a.dims n) (matched-told c.before.stop.given.1 c.before.before.before.match-blank.ensures))
+    matched_as (whole c.before.before.before.before.before.before.before.before) (matched_stop (common_bytes a.dims n) (matched_told c.before.stop.given.1 c.before.before.before.match-blank.ensures))
 
 match-common-requires : tie.Need-match-common-requires
-match-common-requires c κs = (c.before.before.before.before.before.before.before.before.requires.0, (matched-told c.before.next.given.1 c.before.before.before.match-blank.ensures).meets.2)
+match-common-requires c κs = (c.before.before.before.before.before.before.before.before.requires.0, (matched_told c.before.next.given.1 c.before.before.before.match-blank.ensures).meets.2)
 
 returns-2 : tie.Need-returns-2
 returns-2 c =
     let a = c.before.before.before.before.before.before.before.before.before.args in
     let n = rows_of a.dims a.n a.rows.now in
-    matched_as (whole c.before.before.before.before.before.before.before.before.before) (matched-then (commonBytes a.dims n) c.match-common.result (matched-told c.before.before.next.given.1 c.before.before.before.before.match-blank.ensures) c.match-common.ensures)
+    matched_as (whole c.before.before.before.before.before.before.before.before.before) (matched_then (common_bytes a.dims n) c.match-common.result (matched_told c.before.before.next.given.1 c.before.before.before.before.match-blank.ensures) c.match-common.ensures)
 
 pub match-normals-spec : {M : Type 1} → statement M
 match-normals-spec =

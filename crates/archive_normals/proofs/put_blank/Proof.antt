@@ -3,7 +3,7 @@ use mathlib.Core.Path.{sym}
 use native.Mathlib.Omega.{arith}
 use Rattle.fields.specs.WrittenLaws.{wrote_none}
 use Rattle.archive_cells.specs.WritingLaws.{wrote_as}
-use Rattle.archive_normals.proofs.Sections.{blank-long, blank_none, blank-one}
+use Rattle.archive_normals.proofs.Sections.{blank_long, blank_none, blank-one}
 use borrow.Author.Rules.{rules}
 use Rattle.archive_normals.proofs.put_blank.Statement.{statement}
 use Rattle.archive_normals.proofs.put_blank.Tie as tie
@@ -15,7 +15,7 @@ put-blank-requires : tie.Need-put-blank-requires
 put-blank-requires c κs =
     let a = c.before.before.before.args in
     let p = c.before.before.before.requires in
-    (p.0, omega (arith, blank-long a.dims a.n c.before.if1.false, p.1))
+    (p.0, omega (arith, blank_long a.dims a.n c.before.if1.false, p.1))
 
 returns-2 : tie.Need-returns-2
 returns-2 c = let a = c.before.before.before.before.before.before.args in wrote_as (blank-one a.dims a.n c.before.before.before.before.if1.false) c.before.before.put-blank.ensures

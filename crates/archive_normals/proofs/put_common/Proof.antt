@@ -8,17 +8,17 @@ use lib.ListN.{length, length-take, length-drop}
 use Rattle.lattice.specs.Sets.{full}
 use Rattle.rows.specs.Rows.{rows_of}
 use Rattle.archive_cells.specs.Writing.{Writing}
-use Rattle.archive_cells.specs.WritingLaws.{writing-none}
-use Rattle.archive_cells.proofs.Turns.{turns, write_skip, write-room, write-more, write_done}
-use Rattle.archive_normals.specs.Normals.{sharedBytes, commonBytes}
-use Rattle.archive_normals.proofs.Sections.{turns-start}
+use Rattle.archive_cells.specs.WritingLaws.{writing_none}
+use Rattle.archive_cells.proofs.Turns.{turns, write_skip, write_room, write_more, write_done}
+use Rattle.archive_normals.specs.Normals.{shared_bytes, common_bytes}
+use Rattle.archive_normals.proofs.Sections.{turns_start}
 use borrow.Author.Rules.{rules}
 use Rattle.archive_normals.proofs.put_common.Statement.{statement}
 use Rattle.archive_normals.proofs.put_common.Tie as tie
 
 abbrev invariant-loop : tie.invariant-loop
 invariant-loop out₀ rows n dims store used all at₀ k₀ out at k =
-    (k ≤ 256) × Writing (commonBytes dims (rows_of dims n rows)) (turns (sharedBytes dims (rows_of dims n rows)) (full dims) k) out₀ out at
+    (k ≤ 256) × Writing (common_bytes dims (rows_of dims n rows)) (turns (shared_bytes dims (rows_of dims n rows)) (full dims) k) out₀ out at
 
 abbrev decreases-loop : tie.decreases-loop
 decreases-loop out₀ rows n dims store used all at₀ k₀ out at k = 256 - k
@@ -36,8 +36,8 @@ loop-holds : tie.Need-loop-init invariant-loop decreases-loop
 loop-holds c =
     let a = c.before.before.before.before.before.args in
     let n = rows_of a.dims a.n a.rows.now in
-    let all = commonBytes a.dims n in
-    (omega arith, subst (λ (x : List _). Writing all x a.out.now a.out.now 0) (sym (turns-start a.dims n c.before.before.before.before.before.requires.0.ready.dims)) (writing-none all a.out.now))
+    let all = common_bytes a.dims n in
+    (omega arith, subst (λ (x : List _). Writing all x a.out.now a.out.now 0) (sym (turns_start a.dims n c.before.before.before.before.before.requires.0.ready.dims)) (writing_none all a.out.now))
 
 loop-again : tie.Need-loop-preserved invariant-loop decreases-loop
 loop-again c =
@@ -50,8 +50,8 @@ has-turn : (c : tie.Else1 invariant-loop decreases-loop) → c.before.set_at.res
 has-turn c = omega (arith, c.if1.false, c.before.before.before.before.sets_of.ensures)
 
 room : (c : tie.Else1 invariant-loop decreases-loop) → (let a = c.before.before.before.before.before.before.before.before.before.args in
-    c.before.before.before.loop.at + length (sharedBytes a.dims (rows_of a.dims a.n a.rows.now) c.before.set_at.result) ≤ length c.before.before.before.loop.out)
-room c = write-room _ (full c.before.before.before.before.before.before.before.before.before.args.dims) c.before.before.loop-test.true c.before.set_at.ensures c.before.before.before.loop.invariant.1 (has-turn c) c.before.before.before.before.before.before.before.before.before.requires.1
+    c.before.before.before.loop.at + length (shared_bytes a.dims (rows_of a.dims a.n a.rows.now) c.before.set_at.result) ≤ length c.before.before.before.loop.out)
+room c = write_room _ (full c.before.before.before.before.before.before.before.before.before.args.dims) c.before.before.loop-test.true c.before.set_at.ensures c.before.before.before.loop.invariant.1 (has-turn c) c.before.before.before.before.before.before.before.before.before.requires.1
 
 sub-put-shared : tie.Need-overflow-sub-put-shared invariant-loop decreases-loop
 sub-put-shared c = omega (arith, room c)
@@ -69,7 +69,7 @@ loop-again-2 : tie.Need-loop-preserved-2 invariant-loop decreases-loop
 loop-again-2 c =
     let a = c.before.before.before.before.before.before.before.before.before.before.before.before.before.args in
     let k = c.before.before.before.before.before.before.loop-test.true in
-    (omega (arith, k), write-more _ (full a.dims) k c.before.before.before.before.before.set_at.ensures c.before.before.before.before.before.before.before.loop.invariant.1 (has-turn c.before.before.before.before) c.before.before.put-shared.ensures)
+    (omega (arith, k), write_more _ (full a.dims) k c.before.before.before.before.before.set_at.ensures c.before.before.before.before.before.before.before.loop.invariant.1 (has-turn c.before.before.before.before) c.before.before.put-shared.ensures)
 
 same_length : tie.Need-same-length invariant-loop decreases-loop
 same_length c = c.before.loop.invariant.1.wrote.same

@@ -8,7 +8,7 @@ use Rattle.fields.specs.WrittenLaws.{wrote_then}
 use Rattle.rows.specs.Rows.{rows_of}
 use Rattle.rows.proofs.Flat.{rows-length}
 use Rattle.archive_cells.specs.WritingLaws.{wrote_as}
-use Rattle.archive_normals.specs.Normals.{commonBytes, blankBytes, normalBytes}
+use Rattle.archive_normals.specs.Normals.{common_bytes, blank_bytes, normal_bytes}
 use Rattle.archive_normals.proofs.Sections.{normal-parts}
 use borrow.Author.Rules.{rules}
 use Rattle.archive_normals.proofs.put_normals.Statement.{statement}
@@ -17,17 +17,17 @@ use Rattle.archive_normals.proofs.put_normals.Tie as tie
 -- the two parts as a whole, and that there is room for both
 whole : (c : tie.Start) → (let a = c.args in
     let n = rows_of a.dims a.n a.rows.now in
-    blankBytes a.dims a.n ++ commonBytes a.dims n ≡ normalBytes a.dims n)
+    blank_bytes a.dims a.n ++ common_bytes a.dims n ≡ normal_bytes a.dims n)
 whole c =
     let a = c.args in
     rw (rows-length a.dims a.n a.rows.now) at (normal-parts a.dims (rows_of a.dims a.n a.rows.now))
 
 room : (c : tie.Start) → (let a = c.args in
-    length (blankBytes a.dims a.n) + length (commonBytes a.dims (rows_of a.dims a.n a.rows.now)) ≤ length a.out.now)
+    length (blank_bytes a.dims a.n) + length (common_bytes a.dims (rows_of a.dims a.n a.rows.now)) ≤ length a.out.now)
 room c =
     let a = c.args in
     let n = rows_of a.dims a.n a.rows.now in
-    omega (arith, c.requires.1, ap length (whole c), length-append (blankBytes a.dims a.n) (commonBytes a.dims n))
+    omega (arith, c.requires.1, ap length (whole c), length-append (blank_bytes a.dims a.n) (common_bytes a.dims n))
 
 put-blank-requires : tie.Need-put-blank-requires
 put-blank-requires c κs = (c.before.before.before.before.before.requires.0.ready.dims, omega (arith, room c.before.before.before.before.before))

@@ -7,7 +7,7 @@ use Rattle.fields_walk.specs.Limits.{Bytes}
 use Rattle.rows.specs.Rows.{width}
 use Rattle.archive_judge.specs.Read.{Read}
 use Rattle.fields_walk.proofs.Limits.{bytes_of}
-use Rattle.archive_read.proofs.Reading.{read_small, read_of, passed-required, stopped-required}
+use Rattle.archive_read.proofs.Reading.{read_small, read_of, passed_required, stopped_required}
 use borrow.Author.Rules.{rules}
 use Rattle.archive_read.proofs.judge_read.Statement.{statement}
 use Rattle.archive_read.proofs.judge_read.Tie as tie
@@ -31,13 +31,13 @@ returns : tie.Need-returns
 returns c =
     let e = c.before.before.before.before.before.is-required.ensures in
     let p = c.before.before.before.before.before.before.before.before.before.before.before.before.before.requires.0 in
-    (passed-required p (read c.before.before.before.before.before.before.before.before.before.before.before.before) (sym c.if1.true ∙ e.0), e.1)
+    (passed_required p (read c.before.before.before.before.before.before.before.before.before.before.before.before) (sym c.if1.true ∙ e.0), e.1)
 
 returns-2 : tie.Need-returns-2
 returns-2 c =
     let e = c.before.before.before.before.before.is-required.ensures in
     let p = c.before.before.before.before.before.before.before.before.before.before.before.before.before.requires.0 in
-    (stopped-required p (read c.before.before.before.before.before.before.before.before.before.before.before.before) (sym c.if1.false ∙ e.0), e.1)
+    (stopped_required p (read c.before.before.before.before.before.before.before.before.before.before.before.before) (sym c.if1.false ∙ e.0), e.1)
 
 pub judge-read-spec : {M : Type 1} → statement M
 judge-read-spec =

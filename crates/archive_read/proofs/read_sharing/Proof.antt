@@ -1,7 +1,7 @@
 -- `archive_read::read_sharing` meets its contract: the walk answers for its stops, and what has right fields is stored and judged.
 use mathlib.Core.Path.{sym, ◌∙◌}
-use Rattle.archive_entries.specs.Reading.{walkArchive}
-use Rattle.archive_entries.proofs.Fields.{stopped-stored}
+use Rattle.archive_entries.specs.Reading.{walk_archive}
+use Rattle.archive_entries.proofs.Fields.{stopped_stored}
 use Rattle.archive_read.proofs.Reading.{stop-required, stored-required, shares-stop}
 use borrow.Author.Rules.{rules}
 use Rattle.archive_read.proofs.read_sharing.Statement.{statement}
@@ -14,7 +14,7 @@ returns : tie.Need-returns
 returns c =
     let s = c.before.before.before.before.before.args.s.now in
     let e = sym c.before.before.before.check-archive.ensures ∙ c.before.n.given.1 in
-    (stop-required s e, (stored-required s _ (stopped-stored (walkArchive s) _ e), shares-stop s _ _ e))
+    (stop-required s e, (stored-required s _ (stopped_stored (walk_archive s) _ e), shares-stop s _ _ e))
 
 returns-2 : tie.Need-returns-2
 returns-2 c = c.judge-sharing.ensures

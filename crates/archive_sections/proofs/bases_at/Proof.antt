@@ -10,9 +10,9 @@ use Rattle.fields_walk.proofs.Steps.{seen, walked_as}
 use Rattle.fields_walk.proofs.Places.{header_read}
 use Rattle.archive_entries.specs.Layout.{CUBE}
 use Rattle.archive_entries.specs.Reading.{bases}
-use Rattle.archive_entries.proofs.Front.{front-is, front_length, front-room}
+use Rattle.archive_entries.proofs.Front.{front_is, front_length, front-room}
 use Rattle.archive_entries.proofs.Walking.{Opened, opened}
-use Rattle.archive_sections.proofs.Ends.{bases-off, bases-on, bases-past}
+use Rattle.archive_sections.proofs.Ends.{bases-off, bases_on, bases_past}
 use Rattle.archive_sections.proofs.bases_at.Statement.{statement}
 use Rattle.archive_sections.proofs.bases_at.Tie as tie
 
@@ -26,7 +26,7 @@ returns : tie.Need-returns
 returns c = let a = c.before.before.before.before.before.before.args in record { says = bases-off a.s.now a.at (seen c.before.n.given.1 c.before.before.before.check-header.ensures) }
 
 returns-2 : tie.Need-returns-2
-returns-2 c = let a = c.before.before.before.before.before.before.args in record { says = bases-past a.s.now a.at (seen c.before.enum_told.given.1 c.before.before.before.check-header.ensures).1 c.if1.true }
+returns-2 c = let a = c.before.before.before.before.before.before.args in record { says = bases_past a.s.now a.at (seen c.before.enum_told.given.1 c.before.before.before.check-header.ensures).1 c.if1.true }
 
 word-at-requires : tie.Need-word-at-requires
 word-at-requires c κs = omega (arith, (header_read c.before.before.before.before.before.before.args.s.now CUBE (seen c.before.enum_told.given.1 c.before.before.before.check-header.ensures).1).whole)
@@ -56,8 +56,8 @@ returns-3 : tie.Need-returns-3
 returns-3 c =
     let a = c.before.before.before.before.before.before.before.before.before.before.before.before.args in
     let f = front c.before.before.before.before.before in
-    let zs = front-is _ zeros _ _ f.few c.before.before.before.read-words.ensures in
-    walked_as (bases-on a.s.now a.at f.read ∙ ap (λ (x : List ℕ). bases x (drop a.at a.s.now)) (sym zs)) c.check-bases.ensures
+    let zs = front_is _ zeros _ _ f.few c.before.before.before.read-words.ensures in
+    walked_as (bases_on a.s.now a.at f.read ∙ ap (λ (x : List ℕ). bases x (drop a.at a.s.now)) (sym zs)) c.check-bases.ensures
 
 pub bases-at-spec : {M : Type 1} → statement M
 bases-at-spec = tie.close (tie.spec (λ c κs. search rules) (λ c. search rules) returns (λ c. search rules) returns-2 word-at-requires (λ c. search rules) array-borrow-prefix-sizes slice-aggregate-read-words read-words-requires array-share-prefix-sizes slice-aggregate-check-bases check-bases-requires returns-3)

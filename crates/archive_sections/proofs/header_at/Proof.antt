@@ -12,7 +12,7 @@ use Rattle.fields_walk.specs.Fields.{header}
 use Rattle.fields_walk.specs.Walked.{Says}
 use Rattle.fields_walk.proofs.Steps.{seen}
 use Rattle.archive_entries.specs.Layout.{CUBE}
-use Rattle.archive_sections.proofs.Ends.{header-past}
+use Rattle.archive_sections.proofs.Ends.{header_past}
 use Rattle.archive_sections.proofs.header_at.Statement.{statement}
 use Rattle.archive_sections.proofs.header_at.Tie as tie
 
@@ -33,7 +33,7 @@ module _ (s : List ℕ) (at : ℕ) (h : at ≤ length s) where
   on {k} g = let e : header CUBE (drop at s) ≡ got g.0 (drop k (drop at s)) = rw same at g.1 in (g.0, e ∙ rw drop-drop, inside g.2)
 
 returns : tie.Need-returns
-returns c = let a = c.before.before.args in record { says = header-past a.s.now a.at c.if1.true }
+returns c = let a = c.before.before.args in record { says = header_past a.s.now a.at c.if1.true }
 
 add-t14 : tie.Need-overflow-add-t14
 add-t14 c =

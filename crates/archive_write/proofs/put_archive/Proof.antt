@@ -4,35 +4,35 @@ use Prim.Native.Nat.{◌+◌, ◌≤◌}
 use native.Mathlib.Omega.{arith}
 use lib.ListN.{length, length-take, length-drop}
 use Rattle.fields.specs.WrittenLaws.{wrote_then}
-use Rattle.fields_check.specs.CheckLaws.{wrote-check}
+use Rattle.fields_check.specs.CheckLaws.{wrote_check}
 use Rattle.fields_walk.proofs.Lengths.{length-header}
 use Rattle.rows.specs.Rows.{rows_of}
-use Rattle.archive_entries.specs.Layout.{CUBE, baseBytes}
+use Rattle.archive_entries.specs.Layout.{CUBE, base_bytes}
 use Rattle.archive_cells.specs.WritingLaws.{wrote_as}
-use Rattle.archive_bases.specs.Listed.{ourBases}
-use Rattle.archive_normals.specs.Normals.{normalBytes}
-use Rattle.archive_write.proofs.Archive.{archive-parts, archive-sum, cells-few}
+use Rattle.archive_bases.specs.Listed.{our_bases}
+use Rattle.archive_normals.specs.Normals.{normal_bytes}
+use Rattle.archive_write.proofs.Archive.{archive_parts, archive_sum, cells-few}
 use borrow.Author.Rules.{rules}
 use Rattle.archive_write.proofs.put_archive.Statement.{statement}
 use Rattle.archive_write.proofs.put_archive.Tie as tie
 
 -- there is room for the sections behind the header, and for those behind the base entries
 room : (c : tie.After-put-header) → (let a = c.before.before.before.before.before.before.before.before.args in let d = length a.sizes.now in let n = rows_of d a.n a.rows.now in
-    c.put-header.result + 4 + length (flat_map baseBytes (ourBases d n)) + 4 + length (normalBytes d n) + 4 ≤ length a.out.now)
+    c.put-header.result + 4 + length (flat_map base_bytes (our_bases d n)) + 4 + length (normal_bytes d n) + 4 ≤ length a.out.now)
 room c =
     let a = c.before.before.before.before.before.before.before.before.args in
     let p = c.before.before.before.before.before.before.before.before.requires in
-    omega (arith, c.put-header.ensures.count, length-header CUBE a.sizes.now, archive-sum a.sizes.now p.0.0 p.0.2, p.1)
+    omega (arith, c.put-header.ensures.count, length-header CUBE a.sizes.now, archive_sum a.sizes.now p.0.0 p.0.2, p.1)
 
 behind : (c : tie.After-put-bases) → (let a = c.before.before.before.before.before.before.before.before.before.before.before.before.before.before.before.before.args in let d = length a.sizes.now in let n = rows_of d a.n a.rows.now in
-    c.before.before.before.before.before.before.before.before.put-header.result + 4 + c.put-bases.result + 4 + length (normalBytes d n) + 4 ≤ length a.out.now)
+    c.before.before.before.before.before.before.before.before.put-header.result + 4 + c.put-bases.result + 4 + length (normal_bytes d n) + 4 ≤ length a.out.now)
 behind c = omega (arith, room c.before.before.before.before.before.before.before.before, c.put-bases.ensures.count)
 
 put-header-requires : tie.Need-put-header-requires
 put-header-requires c κs =
     let a = c.before.before.before.before.before.before.before.args in
     let p = c.before.before.before.before.before.before.before.requires in
-    (p.0.0.ready.dims, omega (arith, archive-sum a.sizes.now p.0.0 p.0.2, p.1))
+    (p.0.0.ready.dims, omega (arith, archive_sum a.sizes.now p.0.0 p.0.2, p.1))
 
 sub-put-word : tie.Need-overflow-sub-put-word
 sub-put-word c = omega (arith, room c.before.before)
@@ -93,7 +93,7 @@ returns c =
     let p = c.before.before.before.before.before.before.before.before.before.before.before.before.before.before.before.before.before.before.before.before.before.before.before.before.before.before.before.before.before.before.requires.0 in
     let w = wrote_then (wrote_then (wrote_then (wrote_then c.before.before.before.before.before.before.before.before.before.before.before.before.before.before.before.before.before.before.before.before.before.before.put-header.ensures c.before.before.before.before.before.before.before.before.before.before.before.before.before.before.before.before.before.before.put_word.ensures) c.before.before.before.before.before.before.before.before.before.before.before.before.before.before.put-bases.ensures) c.before.before.before.before.before.before.before.before.before.before.put-word2.ensures) c.before.before.before.before.before.before.put-normals.ensures in
     let r = c.before.before.put-check.ensures in
-    wrote_as (archive-parts c.before.before.before.before.before.before.before.before.before.before.before.before.before.before.before.before.before.before.before.before.before.before.before.before.before.before.before.before.before.before.args.sizes.now p.0 p.2) (wrote-check w r.0 (omega (arith, behind c.before.before.before.before.before.before.before.before.before.before.before.before.before.before, c.before.before.before.before.before.before.put-normals.ensures.count)) r.1)
+    wrote_as (archive_parts c.before.before.before.before.before.before.before.before.before.before.before.before.before.before.before.before.before.before.before.before.before.before.before.before.before.before.before.before.before.before.args.sizes.now p.0 p.2) (wrote_check w r.0 (omega (arith, behind c.before.before.before.before.before.before.before.before.before.before.before.before.before.before, c.before.before.before.before.before.before.put-normals.ensures.count)) r.1)
 
 pub put-archive-spec : {M : Type 1} → statement M
 put-archive-spec =

@@ -4,10 +4,10 @@ use mathlib.Core.List.{List}
 use Prim.Native.Nat.{ℕ}
 use lib.IntN.{ℤ}
 use lib.ListN.{length}
-use Rattle.fields.specs.Words.{wordsAt}
-use Rattle.fields.specs.WordsLaws.{length-wordsAt}
+use Rattle.fields.specs.Words.{words_at}
+use Rattle.fields.specs.WordsLaws.{length_words_at}
 use Rattle.rows.specs.Rows.{rows_of}
-use Rattle.call_answers.proofs.Answers.{answered-as}
+use Rattle.call_answers.proofs.Answers.{answered_as}
 use Rattle.call_join.specs.Stores.{Store}
 use Rattle.call_add.specs.Adds.{added}
 use Rattle.call_add.proofs.Adding.{same-reading}
@@ -22,8 +22,8 @@ returns : tie.Need-returns
 returns c =
     let s = c.before.before.before.before.before.before.before.before.before.before.before.before.before.before.before.before.before.before in
     let a = s.args in
-    let zs = wordsAt a.archive.now (length a.sizes.now) 8 in
-    answered-as (ap (λ (d : ℕ). added zs (rows_of d a.n a.rows.now) a.codes.now a.reading) (sym (length-wordsAt a.archive.now (length a.sizes.now) 8))
+    let zs = words_at a.archive.now (length a.sizes.now) 8 in
+    answered_as (ap (λ (d : ℕ). added zs (rows_of d a.n a.rows.now) a.codes.now a.reading) (sym (length_words_at a.archive.now (length a.sizes.now) 8))
     ∙ ap₂ (λ (zs : List ℕ) (z : ℤ). added zs (rows_of (length zs) a.n a.rows.now) a.codes.now z) (sym c.before.before.before.before.before.before.before.before.before.before.read-words.ensures) (sym (same-reading s.ranges.reading))) c.before.before.before.before.add_row.ensures
 
 pub add-sized-spec : {M : Type 1} → statement M

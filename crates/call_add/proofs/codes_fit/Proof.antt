@@ -4,9 +4,9 @@ use Prim.Native.Nat.{◌≤◌, ◌-◌}
 use borrow.Author.Rules.{rules}
 use borrow.Author.Tests.{lt-ltb, le-ltb}
 use lib.ListN.{get_or, drop}
-use Rattle.call_questions.proofs.Pairs.{pairs-done, pairs-skip, pairs-stop}
+use Rattle.call_questions.proofs.Pairs.{pairs_done, pairs_skip, pairs_stop}
 use Rattle.call_add.specs.Adds.{coded}
-use Rattle.call_add.proofs.Codes.{coded-pairs, coded-length}
+use Rattle.call_add.proofs.Codes.{coded_pairs, coded-length}
 use Rattle.call_add.proofs.codes_fit.Statement.{statement}
 use Rattle.call_add.proofs.codes_fit.Tie as tie
 
@@ -25,7 +25,7 @@ returns-2 c =
     let a = l.before.before.args in
     let d = l.loop.d in
     sym (sym l.loop.invariant.1
-    ∙ pairs-stop coded-pairs a.sizes.now a.codes.now d (search rules) (search rules) (le-ltb (get_or a.codes.now d 0) (get_or a.sizes.now d 0) c.if2.true))
+    ∙ pairs_stop coded_pairs a.sizes.now a.codes.now d (search rules) (search rules) (le-ltb (get_or a.codes.now d 0) (get_or a.sizes.now d 0) c.if2.true))
 
 loop-again : tie.Need-loop-preserved invariant-loop decreases-loop
 loop-again c =
@@ -33,7 +33,7 @@ loop-again c =
     let a = l.before.before.args in
     let d = l.loop.d in (
       search rules,
-      pairs-skip coded-pairs a.sizes.now a.codes.now d (search rules) (search rules) (lt-ltb (get_or a.codes.now d 0) (get_or a.sizes.now d 0) c.if2.false)
+      pairs_skip coded_pairs a.sizes.now a.codes.now d (search rules) (search rules) (lt-ltb (get_or a.codes.now d 0) (get_or a.sizes.now d 0) c.if2.false)
           ∙ l.loop.invariant.1,
     )
 
@@ -41,7 +41,7 @@ returns-3 : tie.Need-returns-3 invariant-loop decreases-loop
 returns-3 c =
     let l = c.before in
     let a = l.before.before.args in
-    sym (sym l.loop.invariant.1 ∙ pairs-done coded-pairs a.sizes.now a.codes.now l.loop.d (search rules) (search rules))
+    sym (sym l.loop.invariant.1 ∙ pairs_done coded_pairs a.sizes.now a.codes.now l.loop.d (search rules) (search rules))
 
 pub codes-fit-spec : {M : Type 1} → statement M
 codes-fit-spec =

@@ -3,14 +3,14 @@ use mathlib.Core.Path.{sym, subst}
 use Prim.Native.Nat.{ℕ, ◌+◌, ◌*◌, ◌≤◌}
 use native.Mathlib.Omega.{arith}
 use lib.ListN.{length, take, length-take}
-use Rattle.fields.specs.Words.{wordsAt}
+use Rattle.fields.specs.Words.{words_at}
 use Rattle.fields_walk.specs.Limits.{Bytes}
 use Rattle.rows.specs.Rows.{width, rows_of}
-use Rattle.archive_entries.specs.Layout.{archiveBytes, Limits}
+use Rattle.archive_entries.specs.Layout.{archive_bytes, Limits}
 use Rattle.fields_walk.proofs.Limits.{bytes_of}
 use Rattle.rows_ready.specs.Ready.{Ready}
 use Rattle.call_answers.specs.Answers.{bytes, Answered}
-use Rattle.call_answers.proofs.Answers.{answered-as}
+use Rattle.call_answers.proofs.Answers.{answered_as}
 use Rattle.call_build.proofs.Building.{Tabled, tabled}
 use borrow.Author.Rules.{rules}
 use Rattle.call_build.proofs.build_read.Statement.{statement}
@@ -39,15 +39,15 @@ write-sized-requires c κs =
     let a = c.before.before.before.before.before.before.before.args in
     let r = read c.before.before.before.before.before.before in
     let p = subst (λ (d : ℕ). (8 + 4 * d ≤ length a.s.now) × Ready d a.count (take (a.count * width a.dims) a.rows.now)
-    × Limits (wordsAt a.s.now d 8) (rows_of d a.count (take (a.count * width a.dims) a.rows.now)))
+    × Limits (words_at a.s.now d 8) (rows_of d a.count (take (a.count * width a.dims) a.rows.now)))
     (slice-aggregate-write-sized c.before.before.before) (r.headed, r.ready, r.limits) in
     ((p.0, p.1, omega arith), p.2)
 
 returns : tie.Need-returns
 returns c =
     let a = c.before.before.before.before.before.before.before.before.before.before.before.before.args in
-    answered-as (read c.before.before.before.before.before.before.before.before.before.before.before).built
-    (subst (λ (d : ℕ). Answered (bytes (archiveBytes (wordsAt a.s.now d 8) (rows_of d a.count (take (a.count * width a.dims) a.rows.now))))
+    answered_as (read c.before.before.before.before.before.before.before.before.before.before.before).built
+    (subst (λ (d : ℕ). Answered (bytes (archive_bytes (words_at a.s.now d 8) (rows_of d a.count (take (a.count * width a.dims) a.rows.now))))
     a.out.now c.before.before.before.before.write-sized.new.1.1.1.1.1.0 c.before.before.before.before.write-sized.result) (sym (slice-aggregate-write-sized c.before.before.before.before.before.before.before.before)) c.before.before.before.before.write-sized.ensures)
 
 pub build-read-spec : {M : Type 1} → statement M

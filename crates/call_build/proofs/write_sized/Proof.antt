@@ -3,13 +3,13 @@ use mathlib.Core.Path.{◌≡◌, sym, ap, ap₂, subst, ◌∙◌}
 use mathlib.Core.List.{List}
 use Prim.Native.Nat.{ℕ}
 use lib.ListN.{length}
-use Rattle.fields.specs.Words.{wordsAt}
-use Rattle.fields.specs.WordsLaws.{length-wordsAt}
+use Rattle.fields.specs.Words.{words_at}
+use Rattle.fields.specs.WordsLaws.{length_words_at}
 use Rattle.rows.specs.Rows.{rows_of}
-use Rattle.archive_entries.specs.Layout.{archiveBytes, Limits}
+use Rattle.archive_entries.specs.Layout.{archive_bytes, Limits}
 use Rattle.rows_ready.specs.Ready.{Ready}
 use Rattle.call_answers.specs.Answers.{bytes}
-use Rattle.call_answers.proofs.Answers.{answered-as}
+use Rattle.call_answers.proofs.Answers.{answered_as}
 use borrow.Author.Rules.{rules}
 use Rattle.call_build.proofs.write_sized.Statement.{statement}
 use Rattle.call_build.proofs.write_sized.Tie as tie
@@ -19,7 +19,7 @@ abbrev sizes : tie.After-read-words → List ℕ
 sizes c = c.read-words.new.1.1.0
 
 long : (c : tie.After-read-words) → length c.before.before.before.before.before.before.before.args.sizes.now ≡ length (sizes c)
-long c = sym (ap length c.read-words.ensures ∙ length-wordsAt c.before.before.before.before.before.before.before.args.s.now (length c.before.before.before.before.before.before.before.args.sizes.now) _)
+long c = sym (ap length c.read-words.ensures ∙ length_words_at c.before.before.before.before.before.before.before.args.s.now (length c.before.before.before.before.before.before.before.args.sizes.now) _)
 
 fit-archive-requires : tie.Need-fit-archive-requires
 fit-archive-requires c κs =
@@ -34,13 +34,13 @@ fit-archive-requires c κs =
 
 -- the archive by the sizes that stand in the bytes and by those in the buffer
 same-archive : (c : tie.After-read-words) → (let a = c.before.before.before.before.before.before.before.args in
-    bytes (archiveBytes (wordsAt a.s.now (length a.sizes.now) 8) (rows_of (length a.sizes.now) a.n a.rows.now))
-    ≡ bytes (archiveBytes (sizes c) (rows_of (length (sizes c)) a.n a.rows.now)))
+    bytes (archive_bytes (words_at a.s.now (length a.sizes.now) 8) (rows_of (length a.sizes.now) a.n a.rows.now))
+    ≡ bytes (archive_bytes (sizes c) (rows_of (length (sizes c)) a.n a.rows.now)))
 same-archive c = let a = c.before.before.before.before.before.before.before.args in
-    ap₂ (λ (zs : List ℕ) (d : ℕ). bytes (archiveBytes zs (rows_of d a.n a.rows.now))) (sym c.read-words.ensures) (long c)
+    ap₂ (λ (zs : List ℕ) (d : ℕ). bytes (archive_bytes zs (rows_of d a.n a.rows.now))) (sym c.read-words.ensures) (long c)
 
 returns : tie.Need-returns
-returns c = answered-as (same-archive c.before.before.before.before.before.before.before.before.before.before) c.before.before.before.before.fit-archive.ensures
+returns c = answered_as (same-archive c.before.before.before.before.before.before.before.before.before.before) c.before.before.before.before.fit-archive.ensures
 
 pub write-sized-spec : {M : Type 1} → statement M
 write-sized-spec =

@@ -4,7 +4,7 @@ use mathlib.Core.List.{List}
 use Prim.Native.Nat.{◌≤◌}
 use native.Mathlib.Omega.{arith}
 use lib.ListN.{length}
-use Rattle.rows.proofs.Rows.{rows-small}
+use Rattle.rows.proofs.Rows.{rows_small}
 use Rattle.cube.specs.declared.Total.{Total}
 use Rattle.cube.specs.Measure.{Row, sums as measure}
 use Rattle.cube.specs.Codes.{plain}
@@ -27,7 +27,7 @@ group-rows-requires : tie.Need-group-rows-requires
 group-rows-requires c κs =
     let p = c.before.before.before.before.before.before.requires.0.0 in
     let q = c.before.before.before.before.before.before.requires.1 in
-    ((p.size, c.before.before.before.before.before.before.requires.0.1, p.few), (omega (arith, rows-small c.before.before.before.before.before.before.args.dims c.before.before.before.before.before.before.args.n p.dims p.few, q), (p.table, p.summable)))
+    ((p.size, c.before.before.before.before.before.before.requires.0.1, p.few), (omega (arith, rows_small c.before.before.before.before.before.before.args.dims c.before.before.before.before.before.before.args.n p.dims p.few, q), (p.table, p.summable)))
 
 returns-2 : tie.Need-returns-2
 returns-2 c =

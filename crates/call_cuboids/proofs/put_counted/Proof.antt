@@ -6,13 +6,13 @@ use native.Mathlib.Omega.{arith}
 use lib.ListN.{length, take, length-take, length-drop}
 use lib.Seq.{length-take-le}
 use Rattle.lists.proofs.Places.{below-take}
-use Rattle.fields.specs.Words.{word_bytes, wordsBytes}
-use Rattle.fields.specs.WordsLaws.{length-wordsBytes}
+use Rattle.fields.specs.Words.{word_bytes, words_bytes}
+use Rattle.fields.specs.WordsLaws.{length_words_bytes}
 use Rattle.fields.specs.WrittenLaws.{wrote_then}
 use Rattle.rows.specs.Rows.{width}
 use Rattle.rows.proofs.Flat.{rows-length}
 use Rattle.rows_ready.proofs.Ready.{rows-front}
-use Rattle.archive_entries.specs.Layout.{cellBytes}
+use Rattle.archive_entries.specs.Layout.{cell_bytes}
 use Rattle.archive_cells.specs.WritingLaws.{wrote_as}
 use Rattle.archive_cells.proofs.Cells.{cells-words}
 use borrow.Author.Rules.{rules}
@@ -23,8 +23,8 @@ use Rattle.call_cuboids.proofs.put_counted.Tie as tie
 size : (c : tie.Start) → let a = c.args in length (take (a.n * width a.dims) a.cells.now) ≡ a.n * width a.dims
 size c = length-take-le (c.args.n * width c.args.dims) c.args.cells.now c.requires.2
 
-long : (c : tie.Start) → let a = c.args in length (wordsBytes (take (a.n * width a.dims) a.cells.now)) ≡ 4 * (a.n * width a.dims)
-long c = length-wordsBytes _ ∙ ap (λ (k : ℕ). 4 * k) (size c)
+long : (c : tie.Start) → let a = c.args in length (words_bytes (take (a.n * width a.dims) a.cells.now)) ≡ 4 * (a.n * width a.dims)
+long c = length_words_bytes _ ∙ ap (λ (k : ℕ). 4 * k) (size c)
 
 slice-aggregate-put-words : tie.Need-slice-aggregate-put-words
 slice-aggregate-put-words c = sym (size c.before.before.before.before.before.before.before.before)
@@ -40,7 +40,7 @@ returns c =
     let a = c.before.before.before.before.before.before.before.before.before.before.before.args in
     let cells = take (a.n * width a.dims) a.cells.now in
     let words = cells-words a.dims a.n cells (sym (size c.before.before.before.before.before.before.before.before.before.before.before)) (below-take (2 ^ 32) (a.n * width a.dims) a.cells.now (λ i. omega (arith, c.before.before.before.before.before.before.before.before.before.shared-slice-known.given i))) in
-    let same = sym words ∙ ap (flat_map cellBytes) (rows-front a.dims a.n a.cells.now) in
+    let same = sym words ∙ ap (flat_map cell_bytes) (rows-front a.dims a.n a.cells.now) in
     rw (rows-length a.dims a.n a.cells.now) (wrote_as (ap (λ (l : List ℕ). word_bytes a.n ++ l) same) (wrote_then c.before.before.before.before.before.before.before.put_word.ensures c.before.before.put-words.ensures))
 
 pub put-counted-spec : {M : Type 1} → statement M

@@ -5,16 +5,16 @@ use native.Mathlib.Nat.{mul-le-mul}
 use native.Mathlib.Omega.{arith}
 use lib.ListN.{length}
 use lib.Seq.{length-take-le}
-use Rattle.rows.proofs.Rows.{rows-small}
+use Rattle.rows.proofs.Rows.{rows_small}
 use Rattle.cube.specs.Measure.{sums as measure}
 use Rattle.cube.specs.Codes.{plain}
 use Rattle.cube.specs.Cube.{cells}
 use Rattle.fields.specs.Written.{Wrote}
 use Rattle.rows.specs.Rows.{width, rows_of}
 use Rattle.rows.proofs.Flat.{rows-length}
-use Rattle.archive_entries.specs.Layout.{section, cellBytes}
+use Rattle.archive_entries.specs.Layout.{section, cell_bytes}
 use Rattle.archive_cells.specs.WritingLaws.{wrote_as}
-use Rattle.call_cuboids.specs.Cuboids.{cuboidBytes}
+use Rattle.call_cuboids.specs.Cuboids.{cuboid_bytes}
 use Rattle.call_cuboids.proofs.Lengths.{cuboid-length}
 use borrow.Author.Rules.{rules}
 use Rattle.call_cuboids.proofs.write_cuboid.Statement.{statement}
@@ -34,7 +34,7 @@ size : (c : tie.After-cells2) → (c.before.before.find-cells.result * width c.b
 size c =
     let wide : 4 * c.before.before.before.before.before.before.before.args.dims + 12 ≤ 44 = omega (arith, c.before.before.before.before.before.before.before.requires.dims) in
     let k = mul-le-mul (few c) wide in
-    (rows-small c.before.before.before.before.before.before.before.args.dims c.before.before.find-cells.result c.before.before.before.before.before.before.before.requires.dims (few c), omega (arith, k))
+    (rows_small c.before.before.before.before.before.before.before.args.dims c.before.before.find-cells.result c.before.before.before.before.before.before.before.requires.dims (few c), omega (arith, k))
 
 mul-len-2 : tie.Need-overflow-mul-len-2
 mul-len-2 c = omega (arith, (size c).1)
@@ -43,7 +43,7 @@ add-len-2 : tie.Need-overflow-add-len-2
 add-len-2 c = omega (arith, (size c).1)
 
 -- how long the cuboid is
-long : (c : tie.After-cells2) → (let a = c.before.before.before.before.before.before.before.args in length (cuboidBytes a.dims (rows_of a.dims a.n a.rows.now) a.set) ≡ 4 + c.before.before.find-cells.result * (4 * a.dims + 12))
+long : (c : tie.After-cells2) → (let a = c.before.before.before.before.before.before.before.args in length (cuboid_bytes a.dims (rows_of a.dims a.n a.rows.now) a.set) ≡ 4 + c.before.before.find-cells.result * (4 * a.dims + 12))
 long c =
     let a = c.before.before.before.before.before.before.before.args in
     let rows = rows_of a.dims a.n a.rows.now in
@@ -60,9 +60,9 @@ put-counted-requires c κs =
     (c.before.before.before.before.before.before.before.before.before.before.requires.dims, few c.before.before.before, omega (arith, s, room), omega (arith, c.before.before.if1.false))
 
 -- what is written
-wrote : (c : tie.After-slice-known2) → (let a = c.before.before.before.before.before.before.before.before.before.before.before.before.before.args in Wrote (cuboidBytes a.dims (rows_of a.dims a.n a.rows.now) a.set) a.out.now c.before.before.put-counted.new.0 c.before.before.put-counted.result)
-unfolding cuboidBytes
-wrote c = wrote_as (ap (section cellBytes) c.before.before.before.before.before.before.before.before.find-cells.ensures.0) c.before.before.put-counted.ensures
+wrote : (c : tie.After-slice-known2) → (let a = c.before.before.before.before.before.before.before.before.before.before.before.before.before.args in Wrote (cuboid_bytes a.dims (rows_of a.dims a.n a.rows.now) a.set) a.out.now c.before.before.put-counted.new.0 c.before.before.put-counted.result)
+unfolding cuboid_bytes
+wrote c = wrote_as (ap (section cell_bytes) c.before.before.before.before.before.before.before.before.find-cells.ensures.0) c.before.before.put-counted.ensures
 
 returns-2 : tie.Need-returns-2
 returns-2 c = let w = wrote c in record { count = w.count; fits = λ h. w.list; short = λ h. absurd (omega (arith, h, long c.before.before.before.before.before.before, c.before.before.before.before.before.if1.false)) }

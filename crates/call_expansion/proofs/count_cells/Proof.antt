@@ -4,21 +4,21 @@ use mathlib.Core.List.{List}
 use Prim.Native.Nat.{ℕ, zero, suc}
 use native.Mathlib.Omega.{arith}
 use Rattle.rows_crowds.specs.Crowds.{ends}
-use Rattle.call_expansion.specs.Slotted.{cellCount}
+use Rattle.call_expansion.specs.Slotted.{cell_count}
 use borrow.Author.Rules.{rules}
 use Rattle.call_expansion.proofs.count_cells.Statement.{statement}
 use Rattle.call_expansion.proofs.count_cells.Tie as tie
 
-rows-count : (n s : ℕ) (slot : List ℕ) → (n ≡ 0 → ⊥) → ends slot ≡ cellCount n s slot
+rows-count : (n s : ℕ) (slot : List ℕ) → (n ≡ 0 → ⊥) → ends slot ≡ cell_count n s slot
 rows-count zero s slot h = absurd (h refl)
 rows-count (suc n) s slot h = refl
 
-one-count : (n s : ℕ) (slot : List ℕ) → n ≡ 0 → s ≡ 0 → 1 ≡ cellCount n s slot
+one-count : (n s : ℕ) (slot : List ℕ) → n ≡ 0 → s ≡ 0 → 1 ≡ cell_count n s slot
 one-count zero zero slot e f = refl
 one-count zero (suc s) slot e f = absurd (omega (arith, f))
 one-count (suc n) s slot e f = absurd (omega (arith, e))
 
-no-count : (n s : ℕ) (slot : List ℕ) → n ≡ 0 → (s ≡ 0 → ⊥) → 0 ≡ cellCount n s slot
+no-count : (n s : ℕ) (slot : List ℕ) → n ≡ 0 → (s ≡ 0 → ⊥) → 0 ≡ cell_count n s slot
 no-count zero zero slot e f = absurd (f refl)
 no-count zero (suc s) slot e f = refl
 no-count (suc n) s slot e f = absurd (omega (arith, e))

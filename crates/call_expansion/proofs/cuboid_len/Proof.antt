@@ -3,7 +3,7 @@ use mathlib.Core.Path.{sym, ap, ◌∙◌}
 use Prim.Native.Nat.{ℕ, ◌+◌, ◌*◌, ◌≤◌}
 use native.Mathlib.Nat.{mul-le-mul}
 use native.Mathlib.Omega.{arith}
-use Rattle.call_expansion.proofs.Slots.{slot-place, slot-few, cells-few, slot-long}
+use Rattle.call_expansion.proofs.Slots.{slot-place, slot-few, cells-few, slot_long}
 use borrow.Author.Rules.{rules}
 use Rattle.call_expansion.proofs.cuboid_len.Statement.{statement}
 use Rattle.call_expansion.proofs.cuboid_len.Tie as tie
@@ -31,7 +31,7 @@ add-result-2 c = omega (arith, size c)
 returns : tie.Need-returns
 returns c =
     let p = c.before.before.before.before.before.requires in
-    (ap (λ (n : ℕ). 4 + n * (4 * c.before.before.before.before.before.args.dims + 12)) c.count-cells.ensures ∙ sym (slot-long p.0 p.1 c.before.slot_of.ensures), omega (arith, size c))
+    (ap (λ (n : ℕ). 4 + n * (4 * c.before.before.before.before.before.args.dims + 12)) c.count-cells.ensures ∙ sym (slot_long p.0 p.1 c.before.slot_of.ensures), omega (arith, size c))
 
 pub cuboid-len-spec : {M : Type 1} → statement M
 cuboid-len-spec =

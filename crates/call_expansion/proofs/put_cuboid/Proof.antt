@@ -10,9 +10,9 @@ use Rattle.cube.specs.Measure.{sums as measure}
 use Rattle.cube.specs.Codes.{plain}
 use Rattle.cube.specs.Cube.{cells}
 use Rattle.rows.specs.Rows.{rows_of}
-use Rattle.archive_entries.specs.Layout.{cellBytes}
+use Rattle.archive_entries.specs.Layout.{cell_bytes}
 use Rattle.archive_cells.specs.WritingLaws.{wrote_as}
-use Rattle.call_cuboids.specs.Cuboids.{cuboidBytes}
+use Rattle.call_cuboids.specs.Cuboids.{cuboid_bytes}
 use Rattle.call_expansion.proofs.Slots.{slot-place, slot_is, slot-few, slot-count, cells-few}
 use borrow.Author.Rules.{rules}
 use Rattle.call_expansion.proofs.put_cuboid.Statement.{statement}
@@ -32,19 +32,19 @@ count c =
     c.count-cells.ensures ∙ slot-count a.dims a.n p.0.ready a.set (slot_is p.0 p.1 c.before.slot_of.ensures)
 
 whole : (c : tie.After-count-cells) → (let a = c.before.before.before.before.before.before.args in let rows = rows_of a.dims a.n a.rows.now in
-    word_bytes c.count-cells.result ++ flat_map cellBytes (cells (plain a.dims) measure rows a.set) ≡ cuboidBytes a.dims rows a.set)
-unfolding cuboidBytes
+    word_bytes c.count-cells.result ++ flat_map cell_bytes (cells (plain a.dims) measure rows a.set) ≡ cuboid_bytes a.dims rows a.set)
+unfolding cuboid_bytes
 whole c =
     let a = c.before.before.before.before.before.before.args in
     let rows = rows_of a.dims a.n a.rows.now in
-    ap (λ (k : ℕ). word_bytes k ++ flat_map cellBytes (cells (plain a.dims) measure rows a.set)) (count c)
+    ap (λ (k : ℕ). word_bytes k ++ flat_map cell_bytes (cells (plain a.dims) measure rows a.set)) (count c)
 
 room : (c : tie.After-count-cells) → (let a = c.before.before.before.before.before.before.args in let rows = rows_of a.dims a.n a.rows.now in
-    4 + length (flat_map cellBytes (cells (plain a.dims) measure rows a.set)) ≤ length a.out.now)
+    4 + length (flat_map cell_bytes (cells (plain a.dims) measure rows a.set)) ≤ length a.out.now)
 room c =
     let a = c.before.before.before.before.before.before.args in
     let rows = rows_of a.dims a.n a.rows.now in
-    omega (arith, ap length (whole c), length-append (word_bytes c.count-cells.result) (flat_map cellBytes (cells (plain a.dims) measure rows a.set)), c.before.before.before.before.before.before.requires.1)
+    omega (arith, ap length (whole c), length-append (word_bytes c.count-cells.result) (flat_map cell_bytes (cells (plain a.dims) measure rows a.set)), c.before.before.before.before.before.before.requires.1)
 
 cast-put-word : tie.Need-overflow-cast-put-word
 cast-put-word c = let p = c.before.before.before.before.before.before.before.requires.0 in omega (arith, c.before.count-cells.ensures, cells-few p.0 p.1 c.before.before.slot_of.ensures)

@@ -6,17 +6,17 @@ use mathlib.Core.List.{List}
 use lib.ListN.{length, length-take, length-drop}
 use Rattle.rows.specs.Rows.{rows_of}
 use Rattle.archive_cells.specs.Writing.{Writing}
-use Rattle.archive_cells.specs.WritingLaws.{writing-none}
-use Rattle.archive_cells.proofs.Turns.{turns, write_skip, write-room, write-more, write_done}
-use Rattle.call_cuboids.specs.Cuboids.{cuboidBytes, expansionBytes}
-use Rattle.call_cuboids.proofs.Lengths.{turns-start}
+use Rattle.archive_cells.specs.WritingLaws.{writing_none}
+use Rattle.archive_cells.proofs.Turns.{turns, write_skip, write_room, write_more, write_done}
+use Rattle.call_cuboids.specs.Cuboids.{cuboid_bytes, expansion_bytes}
+use Rattle.call_cuboids.proofs.Lengths.{turns_start}
 use borrow.Author.Rules.{rules}
 use Rattle.call_expansion.proofs.put_expansion.Statement.{statement}
 use Rattle.call_expansion.proofs.put_expansion.Tie as tie
 
 abbrev invariant-loop : tie.invariant-loop
 invariant-loop out₀ rows n dims store used all at₀ k₀ out at k =
-    (k ≤ 256) × Writing (expansionBytes dims (rows_of dims n rows)) (turns (cuboidBytes dims (rows_of dims n rows)) (2 ^ dims) k) out₀ out at
+    (k ≤ 256) × Writing (expansion_bytes dims (rows_of dims n rows)) (turns (cuboid_bytes dims (rows_of dims n rows)) (2 ^ dims) k) out₀ out at
 
 abbrev decreases-loop : tie.decreases-loop
 decreases-loop out₀ rows n dims store used all at₀ k₀ out at k = 256 - k
@@ -31,8 +31,8 @@ loop-holds : tie.Need-loop-init invariant-loop decreases-loop
 loop-holds c =
     let a = c.before.before.before.before.before.args in
     let rows = rows_of a.dims a.n a.rows.now in
-    let all = expansionBytes a.dims rows in
-    (omega arith, subst (λ (x : List _). Writing all x a.out.now a.out.now 0) (sym (turns-start a.dims rows c.before.before.before.before.before.requires.0.ready.dims)) (writing-none all a.out.now))
+    let all = expansion_bytes a.dims rows in
+    (omega arith, subst (λ (x : List _). Writing all x a.out.now a.out.now 0) (sym (turns_start a.dims rows c.before.before.before.before.before.requires.0.ready.dims)) (writing_none all a.out.now))
 
 loop-again : tie.Need-loop-preserved invariant-loop decreases-loop
 loop-again c =
@@ -45,8 +45,8 @@ has-turn : (c : tie.Else1 invariant-loop decreases-loop) → c.before.set_at.res
 has-turn c = omega (arith, c.if1.false, c.before.before.before.before.sets_of.ensures)
 
 room : (c : tie.Else1 invariant-loop decreases-loop) → (let a = c.before.before.before.before.before.before.before.before.before.args in
-    c.before.before.before.loop.at + length (cuboidBytes a.dims (rows_of a.dims a.n a.rows.now) c.before.set_at.result) ≤ length c.before.before.before.loop.out)
-room c = write-room _ (2 ^ c.before.before.before.before.before.before.before.before.before.args.dims) c.before.before.loop-test.true c.before.set_at.ensures c.before.before.before.loop.invariant.1 (has-turn c) c.before.before.before.before.before.before.before.before.before.requires.1
+    c.before.before.before.loop.at + length (cuboid_bytes a.dims (rows_of a.dims a.n a.rows.now) c.before.set_at.result) ≤ length c.before.before.before.loop.out)
+room c = write_room _ (2 ^ c.before.before.before.before.before.before.before.before.before.args.dims) c.before.before.loop-test.true c.before.set_at.ensures c.before.before.before.loop.invariant.1 (has-turn c) c.before.before.before.before.before.before.before.before.before.requires.1
 
 sub-put-cuboid : tie.Need-overflow-sub-put-cuboid invariant-loop decreases-loop
 sub-put-cuboid c = omega (arith, room c)
@@ -64,7 +64,7 @@ loop-again-2 : tie.Need-loop-preserved-2 invariant-loop decreases-loop
 loop-again-2 c =
     let a = c.before.before.before.before.before.before.before.before.before.before.before.before.before.args in
     let k = c.before.before.before.before.before.before.loop-test.true in
-    (omega (arith, k), write-more _ (2 ^ a.dims) k c.before.before.before.before.before.set_at.ensures c.before.before.before.before.before.before.before.loop.invariant.1 (has-turn c.before.before.before.before) c.before.before.put-cuboid.ensures)
+    (omega (arith, k), write_more _ (2 ^ a.dims) k c.before.before.before.before.before.set_at.ensures c.before.before.before.before.before.before.before.loop.invariant.1 (has-turn c.before.before.before.before) c.before.before.put-cuboid.ensures)
 
 same_length : tie.Need-same-length invariant-loop decreases-loop
 same_length c = c.before.loop.invariant.1.wrote.same

@@ -4,7 +4,7 @@ use Prim.Native.Nat.{◌*◌, ◌≤◌, ◌<◌}
 use native.Mathlib.Omega.{arith}
 use lib.ListN.{length}
 use lib.Seq.{length-take-le}
-use Rattle.rows.proofs.Rows.{rows-small}
+use Rattle.rows.proofs.Rows.{rows_small}
 use Rattle.rows.specs.Rows.{width, rows_of}
 use Rattle.rows.proofs.Flat.{rows-length}
 use Rattle.call_fee.proofs.Counts.{weights-grouped}
@@ -18,11 +18,11 @@ slice-aggregate-group-rows c = sym (length-take-le c.before.before.before.args.n
 group-rows-requires : tie.Need-group-rows-requires
 group-rows-requires c κs =
     let p = c.before.before.before.before.requires.0 in
-    ((p.size, sym (slice-aggregate-group-rows c.before), p.few), (omega (arith, rows-small c.before.before.before.before.args.dims c.before.before.before.before.args.n p.dims p.few), (p.table, p.summable)))
+    ((p.size, sym (slice-aggregate-group-rows c.before), p.few), (omega (arith, rows_small c.before.before.before.before.args.dims c.before.before.before.before.args.n p.dims p.few), (p.table, p.summable)))
 
 -- the groups are within the array
 size : (c : tie.After-cells2) → c.before.before.group-rows.result * width c.before.before.before.before.before.before.before.args.dims ≤ 11264
-size c = let p = c.before.before.before.before.before.before.before.requires.0 in rows-small c.before.before.before.before.before.before.before.args.dims c.before.before.group-rows.result p.dims (omega (arith, c.before.before.group-rows.ensures.1, p.few))
+size c = let p = c.before.before.before.before.before.before.before.requires.0 in rows_small c.before.before.before.before.before.before.before.args.dims c.before.before.group-rows.result p.dims (omega (arith, c.before.before.group-rows.ensures.1, p.few))
 
 mul-size : tie.Need-overflow-mul-size
 mul-size c = omega (arith, size c)

@@ -5,7 +5,7 @@ use Prim.Native.Nat.{◌-◌, ◌≤◌}
 use native.Mathlib.Omega.{arith}
 use lib.ListN.{length, take, length-set}
 use Rattle.rows.specs.Rows.{rows_of}
-use Rattle.call_fee.specs.Fees.{countIn}
+use Rattle.call_fee.specs.Fees.{count_in}
 use Rattle.call_fee.proofs.Counts.{counts-none, counts-more}
 use borrow.Author.Rules.{rules}
 use Rattle.call_fee.proofs.copy_counts.Statement.{statement}
@@ -13,7 +13,7 @@ use Rattle.call_fee.proofs.copy_counts.Tie as tie
 
 abbrev invariant-loop : tie.invariant-loop
 invariant-loop rows n dims counts₀ i₀ counts i =
-    (i ≤ n) × (length counts ≡ length counts₀) × (take i counts ≡ map countIn (rows_of dims i rows))
+    (i ≤ n) × (length counts ≡ length counts₀) × (take i counts ≡ map count_in (rows_of dims i rows))
 
 abbrev decreases-loop : tie.decreases-loop
 decreases-loop rows n dims counts₀ i₀ counts i = n - i

@@ -1,7 +1,7 @@
 -- `call_fee::share_in` meets its contract: the reader's stops, or the shares over an archive that it accepts.
 use mathlib.Core.Path.{sym, ◌∙◌}
 use Rattle.call_answers.proofs.Answers.{stopped}
-use Rattle.call_fee.proofs.Outcomes.{fee-refused}
+use Rattle.call_fee.proofs.Outcomes.{fee_refused}
 use borrow.Author.Rules.{rules}
 use Rattle.call_fee.proofs.share_in.Statement.{statement}
 use Rattle.call_fee.proofs.share_in.Tie as tie
@@ -14,7 +14,7 @@ share-read-requires c κs =
 returns : tie.Need-returns
 returns c =
     let a = c.before.before.before.before.before.before.before.args in
-    stopped a.out.now (fee-refused a.s.now (sym c.before.before.before.read-required.ensures.0 ∙ c.before.n.given.1) a.fee a.set)
+    stopped a.out.now (fee_refused a.s.now (sym c.before.before.before.read-required.ensures.0 ∙ c.before.n.given.1) a.fee a.set)
 
 pub share-in-spec : {M : Type 1} → statement M
 share-in-spec =

@@ -9,9 +9,9 @@ use Rattle.lists.specs.Lists.{sum}
 use Rattle.lattice.proofs.Sets.{sets_of}
 use Rattle.rows.specs.Rows.{rows_of}
 use Rattle.rows.proofs.Flat.{rows-length}
-use Rattle.call_answers.proofs.Answers.{answered-as}
+use Rattle.call_answers.proofs.Answers.{answered_as}
 use Rattle.call_answers.specs.Answers.{bytes}
-use Rattle.fee_list.specs.Listed.{feeBytes}
+use Rattle.fee_list.specs.Listed.{fee_bytes}
 use Rattle.call_fee.proofs.Counts.{weights-total, some-rows}
 use borrow.Author.Rules.{rules}
 use Rattle.call_fee.proofs.share_rows.Statement.{statement}
@@ -45,7 +45,7 @@ fit-fee-requires c κs =
     )
 
 returns : tie.Need-returns
-returns c = let a = c.before.before.before.before.before.before.before.before.before.before.args in answered-as (ap (λ (l : List ℕ). bytes (feeBytes a.fee l)) (sym c.before.before.before.before.before.before.cell-counts.ensures.0)) c.before.before.fit-fee.ensures
+returns c = let a = c.before.before.before.before.before.before.before.before.before.before.args in answered_as (ap (λ (l : List ℕ). bytes (fee_bytes a.fee l)) (sym c.before.before.before.before.before.before.cell-counts.ensures.0)) c.before.before.fit-fee.ensures
 
 pub share-rows-spec : {M : Type 1} → statement M
 share-rows-spec =

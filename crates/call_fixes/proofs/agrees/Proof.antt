@@ -2,13 +2,13 @@
 use mathlib.Core.Path.{◌≡◌, sym, ◌∙◌}
 use Rattle.cube.specs.Codes.{agree}
 use Rattle.rows_compare.specs.declared.Order.{Order}
-use Rattle.call_fixes.proofs.Follows.{isEqual, equal-agree}
+use Rattle.call_fixes.proofs.Follows.{is_equal, equal-agree}
 use borrow.Author.Rules.{rules}
 use Rattle.call_fixes.proofs.agrees.Statement.{statement}
 use Rattle.call_fixes.proofs.agrees.Tie as tie
 
 -- what the comparison told settles the answer
-told : (c : tie.After-compare) (o : Order) → c.compare.result ≡ o → (let a = c.before.before.before.args in isEqual o ≡ agree a.set a.mine.now a.other.now)
+told : (c : tie.After-compare) (o : Order) → c.compare.result ≡ o → (let a = c.before.before.before.args in is_equal o ≡ agree a.set a.mine.now a.other.now)
 told c o e = let a = c.before.before.before.args in equal-agree a.set a.mine.now a.other.now o (sym c.compare.ensures ∙ e)
 
 returns : tie.Need-returns

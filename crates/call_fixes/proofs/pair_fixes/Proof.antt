@@ -3,7 +3,7 @@ use mathlib.Core.Path.{◌≡◌, sym, ap₂, ◌∙◌}
 use borrow.Author.Tests.{not-true, not-false}
 use Rattle.rows.specs.Rows.{cut, row_at}
 use Rattle.call_keys.specs.Laid.{follows}
-use Rattle.call_fixes.proofs.Follows.{follows-apart, follows-as}
+use Rattle.call_fixes.proofs.Follows.{follows-apart, follows_as}
 use borrow.Author.Rules.{rules}
 use Rattle.call_fixes.proofs.pair_fixes.Statement.{statement}
 use Rattle.call_fixes.proofs.pair_fixes.Tie as tie
@@ -22,7 +22,7 @@ returns-2 : tie.Need-returns-2
 returns-2 c =
     let a = c.before.before.before.before.before.before.args in
     c.agrees2.ensures
-    ∙ sym (compared c.before.before.before ∙ follows-as a.set a.fixed c.before.before.before.before.row_of.result.now c.before.before.before.row-of2.result.now (sym c.before.before.agrees.ensures ∙ not-false _ c.before.if1.false))
+    ∙ sym (compared c.before.before.before ∙ follows_as a.set a.fixed c.before.before.before.before.row_of.result.now c.before.before.before.row-of2.result.now (sym c.before.before.agrees.ensures ∙ not-false _ c.before.if1.false))
 
 pub pair-fixes-spec : {M : Type 1} → statement M
 pair-fixes-spec =

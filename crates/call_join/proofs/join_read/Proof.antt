@@ -6,12 +6,12 @@ use native.Mathlib.Omega.{arith}
 use lib.ListN.{take, drop}
 use lib.Seq.{length-take-le}
 use Rattle.lists.specs.Order.{same}
-use Rattle.fields.specs.Words.{wordsAt}
+use Rattle.fields.specs.Words.{words_at}
 use Rattle.fields_walk.proofs.Limits.{bytes_of}
-use Rattle.archive_entries.proofs.Front.{front-is, front_length, front-room}
-use Rattle.call_answers.proofs.Answers.{stopped, answered-as}
-use Rattle.call_ask.proofs.Opened.{OpenedIn, opened, opened-small}
-use Rattle.call_join.proofs.Outcomes.{opened-sizes, opened-store, opened-other, joins-dims, joins-sizes, joins-filed}
+use Rattle.archive_entries.proofs.Front.{front_is, front_length, front-room}
+use Rattle.call_answers.proofs.Answers.{stopped, answered_as}
+use Rattle.call_ask.proofs.Opened.{OpenedIn, opened, opened_small}
+use Rattle.call_join.proofs.Outcomes.{opened_sizes, opened_store, opened_other, joins-dims, joins-sizes, joins-filed}
 use borrow.Author.Rules.{rules}
 use Rattle.call_join.proofs.join_read.Statement.{statement}
 use Rattle.call_join.proofs.join_read.Tie as tie
@@ -34,10 +34,10 @@ returns : tie.Need-returns
 returns c = stopped c.before.before.before.before.before.before.before.args.out.now (joins-dims (one c.before.before) (other c.before.before) c.if1.true)
 
 mul-size1 : tie.Need-overflow-mul-size1
-mul-size1 c = omega (arith, opened-small (one c.before.before))
+mul-size1 c = omega (arith, opened_small (one c.before.before))
 
 mul-size2 : tie.Need-overflow-mul-size2
-mul-size2 c = omega (arith, opened-small (alike c))
+mul-size2 c = omega (arith, opened_small (alike c))
 
 array-borrow-prefix-sizes : tie.Need-array-borrow-prefix-sizes
 array-borrow-prefix-sizes c = (one c.before.before).ready.dims
@@ -52,14 +52,14 @@ slice-aggregate-same-sizes-2 : tie.Need-slice-aggregate-same-sizes-2
 slice-aggregate-same-sizes-2 c = sym (length-take-le c.before.before.before.before.before.before.before.before.before.args.dims1 zeros (one c.before.before.before.before).ready.dims)
 
 same-sizes-requires : tie.Need-same-sizes-requires
-same-sizes-requires c κs = let h = (one c.before.before.before.before).ready.dims in rw (length-take-le c.before.before.before.before.before.before.before.before.before.args.dims1 zeros h) ((h, refl), (opened-sizes (one c.before.before.before.before), opened-sizes (alike c.before.before)))
+same-sizes-requires c κs = let h = (one c.before.before.before.before).ready.dims in rw (length-take-le c.before.before.before.before.before.before.before.before.before.args.dims1 zeros h) ((h, refl), (opened_sizes (one c.before.before.before.before), opened_sizes (alike c.before.before)))
 
 -- whether the sizes are the same, and the first's in the buffer
-told : (c : tie.After-same-sizes) → (let a = c.before.before.before.before.before.before.before.before.before.before.args in c.same-sizes.result ≡ same (wordsAt a.first.now a.dims1 8) (wordsAt a.second.now a.dims1 8))
-told c = let a = c.before.before.before.before.before.before.before.before.before.before.args in subst (λ (n : ℕ). c.same-sizes.result ≡ same (wordsAt a.first.now n 8) (wordsAt a.second.now n 8)) (length-take-le a.dims1 zeros (one c.before.before.before.before.before).ready.dims) c.same-sizes.ensures.1
+told : (c : tie.After-same-sizes) → (let a = c.before.before.before.before.before.before.before.before.before.before.args in c.same-sizes.result ≡ same (words_at a.first.now a.dims1 8) (words_at a.second.now a.dims1 8))
+told c = let a = c.before.before.before.before.before.before.before.before.before.before.args in subst (λ (n : ℕ). c.same-sizes.result ≡ same (words_at a.first.now n 8) (words_at a.second.now n 8)) (length-take-le a.dims1 zeros (one c.before.before.before.before.before).ready.dims) c.same-sizes.ensures.1
 
-sizes : (c : tie.After-same-sizes) → (let a = c.before.before.before.before.before.before.before.before.before.before.args in take a.dims1 (c.same-sizes.new.1.1.0 ++ drop a.dims1 zeros) ≡ wordsAt a.first.now a.dims1 8)
-sizes c = front-is c.before.before.before.before.before.before.before.before.before.before.args.first.now zeros c.before.before.before.before.before.before.before.before.before.before.args.dims1 8 (one c.before.before.before.before.before).ready.dims c.same-sizes.ensures.0
+sizes : (c : tie.After-same-sizes) → (let a = c.before.before.before.before.before.before.before.before.before.before.args in take a.dims1 (c.same-sizes.new.1.1.0 ++ drop a.dims1 zeros) ≡ words_at a.first.now a.dims1 8)
+sizes c = front_is c.before.before.before.before.before.before.before.before.before.before.args.first.now zeros c.before.before.before.before.before.before.before.before.before.before.args.dims1 8 (one c.before.before.before.before.before).ready.dims c.same-sizes.ensures.0
 
 array-share-prefix-sizes : tie.Need-array-share-prefix-sizes
 array-share-prefix-sizes c = front-room c.before.before.before.before.before.before.before.before.before.before.before.before.before.args.first.now zeros c.before.before.before.before.before.before.before.before.before.before.before.before.before.args.dims1 8 (one c.before.before.before.before.before.before.before.before).ready.dims c.before.before.before.same-sizes.ensures.0
@@ -79,7 +79,7 @@ join-rows-requires c κs =
     let e = sym c.before.before.before.before.before.if2.true ∙ told s in
     let o = one s.before.before.before.before.before in
     let p = alike s.before.before.before in
-    (opened-store o (sizes s), opened-other o p e (sizes s), c.before.before.before.before.before.before.before.before.before.before.before.before.before.before.before.before.before.before.requires.2)
+    (opened_store o (sizes s), opened_other o p e (sizes s), c.before.before.before.before.before.before.before.before.before.before.before.before.before.before.before.before.before.before.requires.2)
 
 returns-2 : tie.Need-returns-2
 returns-2 c =
@@ -87,7 +87,7 @@ returns-2 c =
     let e = sym c.before.before.before.before.before.before.before.before.before.before.if2.true ∙ told s in
     let o = one s.before.before.before.before.before in
     let p = alike s.before.before.before in
-    answered-as (joins-filed o p e (sizes s)) c.before.before.before.before.join-rows.ensures
+    answered_as (joins-filed o p e (sizes s)) c.before.before.before.before.join-rows.ensures
 
 returns-3 : tie.Need-returns-3
 returns-3 c = stopped c.before.before.before.before.before.before.before.before.before.before.before.before.before.args.out.now (joins-sizes (one c.before.before.before.before.before.before.before.before) (alike c.before.before.before.before.before.before) (sym c.if2.false ∙ told c.before.before.before))

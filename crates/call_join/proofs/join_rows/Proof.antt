@@ -5,8 +5,8 @@ use lib.ListN.{length, take}
 use Rattle.cube.specs.Bounds.{count_of}
 use Rattle.rows.specs.Rows.{width, rows_of}
 use Rattle.rows_ready.specs.Ready.{Ready}
-use Rattle.call_answers.proofs.Answers.{stopped, answered-as}
-use Rattle.call_join.proofs.Uniting.{stores-small, stores-many, stores-pair, stored-over, stored-small, stored-limits, stored-ready, stored-filed}
+use Rattle.call_answers.proofs.Answers.{stopped, answered_as}
+use Rattle.call_join.proofs.Uniting.{stores_small, stores_many, stores_pair, stored-over, stored_small, stored-limits, stored-ready, stored-filed}
 use borrow.Author.Rules.{rules}
 use Rattle.call_join.proofs.join_rows.Statement.{statement}
 use Rattle.call_join.proofs.join_rows.Tie as tie
@@ -18,17 +18,17 @@ readings-in-requires-2 : tie.Need-readings-in-requires-2
 readings-in-requires-2 c κs = let p = c.before.before.before.before.before.before.requires.1 in (p.ready.size, p.limits.counts)
 
 add-if1 : tie.Need-overflow-add-if1
-add-if1 c = let p = c.before.before.before.before.before.before.before.requires in omega (arith, stores-small p.0 p.1, c.readings-in2.ensures, c.before.readings-in.ensures)
+add-if1 c = let p = c.before.before.before.before.before.before.before.requires in omega (arith, stores_small p.0 p.1, c.readings-in2.ensures, c.before.readings-in.ensures)
 
 returns : tie.Need-returns
-returns c = let p = c.before.before.before.before.before.before.before.before.requires in stopped c.before.before.before.before.before.before.before.before.args.out.now (stores-many p.0 p.1 (omega (arith, c.if1.true, c.before.readings-in2.ensures, c.before.before.readings-in.ensures)))
+returns c = let p = c.before.before.before.before.before.before.before.before.requires in stopped c.before.before.before.before.before.before.before.before.args.out.now (stores_many p.0 p.1 (omega (arith, c.if1.true, c.before.readings-in2.ensures, c.before.before.readings-in.ensures)))
 
 -- not too many readings
 few : (c : tie.Else1) → (let a = c.before.before.before.before.before.before.before.before.args in let d = length a.sizes.now in count_of (rows_of d a.n a.rows1.now) + count_of (rows_of d a.m a.rows2.now) ≤ 1048576)
 few c = omega (arith, c.if1.false, c.before.readings-in2.ensures, c.before.before.readings-in.ensures)
 
 merge-rows-requires : tie.Need-merge-rows-requires
-merge-rows-requires c κs = let p = c.before.before.before.before.before.before.before.before.before.requires in (stores-pair p.0 p.1 (few c.before), search rules)
+merge-rows-requires c κs = let p = c.before.before.before.before.before.before.before.before.before.requires in (stores_pair p.0 p.1 (few c.before), search rules)
 
 returns-2 : tie.Need-returns-2
 returns-2 c = let p = c.before.before.before.before.before.before.before.before.before.before.before.before.requires in stopped c.before.before.before.before.before.before.before.before.before.before.before.before.args.out.now (stored-over p.0 p.1 c.before.before.merge-rows.ensures c.if2.true)
@@ -38,7 +38,7 @@ room : (c : tie.After-merge-rows) → 11264 ≤ length c.merge-rows.new.1.1.1.1.
 room c = search rules
 
 small : (c : tie.Else2) → c.before.before.merge-rows.result * width (length c.before.before.before.before.before.before.before.before.before.before.before.before.args.sizes.now) ≤ 11264
-small c = let p = c.before.before.before.before.before.before.before.before.before.before.before.before.requires in stored-small p.0 p.1 c.before.before.merge-rows.ensures (room c.before.before) (few c.before.before.before.before) c.if2.false
+small c = let p = c.before.before.before.before.before.before.before.before.before.before.before.before.requires in stored_small p.0 p.1 c.before.before.merge-rows.ensures (room c.before.before) (few c.before.before.before.before) c.if2.false
 
 -- the front of the array is ready
 ready : (c : tie.Else2) → (let k = c.before.before.merge-rows.result in let d = length c.before.before.before.before.before.before.before.before.before.before.before.before.args.sizes.now in Ready d k (take (k * width d) c.before.before.merge-rows.new.1.1.1.1.1.0))
@@ -63,7 +63,7 @@ returns-3 : tie.Need-returns-3
 returns-3 c =
     let b = c.before.before.before.before.before.before.before.before in
     let p = c.before.before.before.before.before.before.before.before.before.before.before.before.before.before.before.before.before.before.before.before.requires in
-    answered-as (stored-filed p.0 p.1 b.before.before.merge-rows.ensures (room b.before.before) (few b.before.before.before.before) b.if2.false) c.before.before.before.before.fit-archive.ensures
+    answered_as (stored-filed p.0 p.1 b.before.before.merge-rows.ensures (room b.before.before) (few b.before.before.before.before) b.if2.false) c.before.before.before.before.fit-archive.ensures
 
 pub join_rows_spec : {M : Type 1} → statement M
 join_rows_spec =

@@ -6,8 +6,8 @@ use native.Mathlib.Omega.{arith}
 use lib.ListN.{length}
 use lib.Seq.{length-take-le}
 use Rattle.call_answers.specs.Answers.{bytes}
-use Rattle.call_answers.proofs.Answers.{answered-as}
-use Rattle.archive_cells.specs.ListBytes.{listBytes}
+use Rattle.call_answers.proofs.Answers.{answered_as}
+use Rattle.archive_cells.specs.ListBytes.{list_bytes}
 use borrow.Author.Rules.{rules}
 use Rattle.call_keys.proofs.fit_bare.Statement.{statement}
 use Rattle.call_keys.proofs.fit_bare.Tie as tie
@@ -22,7 +22,7 @@ fit-list-requires : tie.Need-fit-list-requires
 fit-list-requires c κs = omega (arith, slice-aggregate-fit-list c, c.before.before.before.list-bare.ensures.1)
 
 returns : tie.Need-returns
-returns c = answered-as (ap (λ (l : List ℕ). bytes (listBytes l)) (sym c.before.before.before.before.before.before.list-bare.ensures.0)) c.before.before.fit-list.ensures
+returns c = answered_as (ap (λ (l : List ℕ). bytes (list_bytes l)) (sym c.before.before.before.before.before.before.list-bare.ensures.0)) c.before.before.fit-list.ensures
 
 pub fit-bare-spec : {M : Type 1} → statement M
 fit-bare-spec =

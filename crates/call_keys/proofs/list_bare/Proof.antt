@@ -6,7 +6,7 @@ use borrow.Author.Rules.{rules}
 use borrow.Author.Tests.{not-true, not-false}
 use lib.ListN.{length, length-set}
 use lib.Seq.{length-take-le}
-use Rattle.call_keys.proofs.Listing.{Listing, listing_start, listing-few, listing-done, listing-off, listing-held, listing-no, listing-room, listing-more}
+use Rattle.call_keys.proofs.Listing.{Listing, listing_start, listing-few, listing-done, listing-off, listing-held, listing_no, listing-room, listing-more}
 use Rattle.call_keys.proofs.list_bare.Statement.{statement}
 use Rattle.call_keys.proofs.list_bare.Tie as tie
 
@@ -54,7 +54,7 @@ loop-again-3 : tie.Need-loop-preserved-3 invariant-loop decreases-loop
 loop-again-3 c =
     let s = c.before.before.before.before.before.before.before.before.before.before.before.before in
     let l = c.before.before.before.before.before.before.before.before.loop in
-    (l.invariant.0, listing-no s.args.dims s.args.used.now s.requires.0 s.requires.2 l.invariant.1 c.before.before.before.before.before.before.before.loop-test.true c.before.before.before.before.before.before.set_at.ensures (below c.before.before.before.before.before) (sym c.before.is-bare.ensures ∙ not-true _ c.if3.true))
+    (l.invariant.0, listing_no s.args.dims s.args.used.now s.requires.0 s.requires.2 l.invariant.1 c.before.before.before.before.before.before.before.loop-test.true c.before.before.before.before.before.before.set_at.ensures (below c.before.before.before.before.before) (sym c.before.is-bare.ensures ∙ not-true _ c.if3.true))
 
 -- there is room for one more
 room : (c : tie.Else3 invariant-loop decreases-loop) → c.before.before.before.before.before.before.before.before.loop.n < 70

@@ -6,7 +6,7 @@ use borrow.Author.Tests.{not-true, not-false}
 use lib.ListN.{length, get_or, drop}
 use Rattle.lists.proofs.Tests.{cases}
 use Rattle.cube.specs.Codes.{falls}
-use Rattle.call_questions.proofs.Pairs.{pairs-done, pairs-skip, pairs-stop, falls-pairs, meets-all, meets-code, meets-not}
+use Rattle.call_questions.proofs.Pairs.{pairs_done, pairs_skip, pairs_stop, falls_pairs, meets-all, meets-code, meets_not}
 use Rattle.call_questions.proofs.falls_in.Statement.{statement}
 use Rattle.call_questions.proofs.falls_in.Tie as tie
 
@@ -21,8 +21,8 @@ returns c =
     let l = c.before.before.before.before.before in
     let a = l.before.args in
     sym (sym l.loop.invariant.1
-    ∙ pairs-stop falls-pairs a.cell.now a.mine.now l.loop.d (search rules) (search rules)
-    (meets-not _ _ c.before.before.if1.true (not-true _ c.if2.true)))
+    ∙ pairs_stop falls_pairs a.cell.now a.mine.now l.loop.d (search rules) (search rules)
+    (meets_not _ _ c.before.before.if1.true (not-true _ c.if2.true)))
 
 loop-again : tie.Need-loop-preserved invariant-loop decreases-loop
 loop-again c =
@@ -31,7 +31,7 @@ loop-again c =
     let mine = l.before.args.mine.now in
     let d = l.loop.d in (
       search rules,
-      pairs-skip falls-pairs cell mine d (search rules) (search rules)
+      pairs_skip falls_pairs cell mine d (search rules) (search rules)
           (cases c.if1.branch (λ w. meets-code (get_or cell d 0) (get_or mine d 0) (not-false _ w.2.left)) (λ w. meets-all _ _ w.left))
           ∙ l.loop.invariant.1,
     )
@@ -40,7 +40,7 @@ returns-2 : tie.Need-returns-2 invariant-loop decreases-loop
 returns-2 c =
     let l = c.before in
     let a = l.before.args in
-    sym (sym l.loop.invariant.1 ∙ pairs-done falls-pairs a.cell.now a.mine.now l.loop.d (search rules) (search rules))
+    sym (sym l.loop.invariant.1 ∙ pairs_done falls_pairs a.cell.now a.mine.now l.loop.d (search rules) (search rules))
 
 pub falls-in-spec : {M : Type 1} → statement M
 falls-in-spec =

@@ -5,12 +5,12 @@ use borrow.Author.Rules.{rules}
 use Rattle.cube.specs.Codes.{falls}
 use Rattle.rows.specs.Rows.{cut}
 use Rattle.rows.proofs.Rows.{cut-length}
-use Rattle.call_questions.proofs.Search.{NoneBefore, none-start, none_more, rowFalls, first-here, first-none}
+use Rattle.call_questions.proofs.Search.{NoneBefore, none-start, none_more, row_falls, first-here, first-none}
 use Rattle.call_questions.proofs.first_row.Statement.{statement}
 use Rattle.call_questions.proofs.first_row.Tie as tie
 
 abbrev invariant-loop : tie.invariant-loop
-invariant-loop rows n dims cell i₀ i = (i ≤ n) × NoneBefore (rowFalls cell (cut dims n rows)) i
+invariant-loop rows n dims cell i₀ i = (i ≤ n) × NoneBefore (row_falls cell (cut dims n rows)) i
 
 abbrev decreases-loop : tie.decreases-loop
 decreases-loop rows n dims cell i₀ i = n - i
@@ -19,7 +19,7 @@ decreases-loop rows n dims cell i₀ i = n - i
 told : (c : tie.After-falls-in invariant-loop decreases-loop)
     → (let l = c.before.before.before in
     let a = l.before.before.before.args in
-    c.falls-in.result ≡ rowFalls a.cell.now (cut a.dims a.n a.rows.now) l.loop.i)
+    c.falls-in.result ≡ row_falls a.cell.now (cut a.dims a.n a.rows.now) l.loop.i)
 told c =
     let a = c.before.before.before.before.before.before.args in
     c.falls-in.ensures ∙ ap (falls a.cell.now) c.before.row_of.ensures.0

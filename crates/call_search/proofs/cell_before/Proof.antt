@@ -7,7 +7,7 @@ use Rattle.lists.specs.Order.{earlier}
 use Rattle.lattice.specs.Sets.{size}
 use Rattle.cube.specs.Codes.{set-of, keys}
 use Rattle.cube.proofs.CellOrder.{keys-size, keys-set, keys-codes}
-use Rattle.rows_compare.specs.Compare.{isBefore}
+use Rattle.rows_compare.specs.Compare.{is_before}
 use Rattle.archive_entries.proofs.After.{earlier-compared}
 use Rattle.call_search.proofs.cell_before.Statement.{statement}
 use Rattle.call_search.proofs.cell_before.Tie as tie
@@ -20,7 +20,7 @@ cell-size : (c : tie.After-size-of-set2) → c.size-of-set2.result ≡ size (set
 cell-size c = c.size-of-set2.ensures ∙ ap size c.before.before.set-of2.ensures
 
 -- where the sets are one, the codes decide
-told : (c : tie.After-compare) → (let a = c.before.before.before.before.before.before.before.before.before.args in earlier (keys a.mine.now) (keys a.cell.now) ≡ isBefore c.compare.result)
+told : (c : tie.After-compare) → (let a = c.before.before.before.before.before.before.before.before.before.args in earlier (keys a.mine.now) (keys a.cell.now) ≡ is_before c.compare.result)
 told c =
     let p = c.before.before.before.before.before.before.before.before.before in
     let mine = p.args.mine.now in
@@ -44,13 +44,13 @@ returns-2 c =
     ∙ ap₂ ltb (sym p) (sym q))
 
 returns-3 : tie.Need-returns-3
-returns-3 c = sym (told c.before.before ∙ ap isBefore c.enum_told.given.1)
+returns-3 c = sym (told c.before.before ∙ ap is_before c.enum_told.given.1)
 
 returns-4 : tie.Need-returns-4
-returns-4 c = sym (told c.before.before ∙ ap isBefore c.enum-told2.given.1)
+returns-4 c = sym (told c.before.before ∙ ap is_before c.enum-told2.given.1)
 
 returns-5 : tie.Need-returns-5
-returns-5 c = sym (told c.before.before ∙ ap isBefore c.enum-told3.given.1)
+returns-5 c = sym (told c.before.before ∙ ap is_before c.enum-told3.given.1)
 
 pub cell-before-spec : {M : Type 1} → statement M
 cell-before-spec =

@@ -7,7 +7,7 @@ use lib.Seq.{length-take-le}
 use borrow.Author.Rules.{rules}
 use Rattle.lists.specs.Order.{earlier}
 use Rattle.cube.specs.Codes.{keys}
-use Rattle.archive_entries.proofs.Front.{front-is, front_length, front-room}
+use Rattle.archive_entries.proofs.Front.{front_is, front_length, front-room}
 use Rattle.call_search.proofs.entry_before.Statement.{statement}
 use Rattle.call_search.proofs.entry_before.Tie as tie
 
@@ -32,7 +32,7 @@ cell-before-requires c κs = (sym (front_length _ zeros _ _ c.before.before.befo
 returns : tie.Need-returns
 returns c =
     let p = c.before.before.before.before.before.before.before in
-    c.cell-before.ensures ∙ ap (λ (x : List ℕ). earlier (keys x) (keys p.args.cell.now)) (front-is _ zeros _ _ p.requires.0 c.before.before.before.read-words.ensures)
+    c.cell-before.ensures ∙ ap (λ (x : List ℕ). earlier (keys x) (keys p.args.cell.now)) (front_is _ zeros _ _ p.requires.0 c.before.before.before.read-words.ensures)
 
 pub entry-before-spec : {M : Type 1} → statement M
 entry-before-spec =

@@ -5,14 +5,14 @@ use native.Mathlib.Omega.{arith}
 use borrow.Author.Rules.{rules}
 use lib.ListN.{length}
 use Rattle.lists.specs.Search.{Between}
-use Rattle.lists.proofs.Search.{between-all, between_left, between-right, between_done}
+use Rattle.lists.proofs.Search.{between_all, between_left, between_right, between_done}
 use Rattle.rows.proofs.Rows.{row_within}
-use Rattle.call_search.specs.Search.{entryBefore}
+use Rattle.call_search.specs.Search.{entry_before}
 use Rattle.call_search.proofs.find_cell.Statement.{statement}
 use Rattle.call_search.proofs.find_cell.Tie as tie
 
 abbrev invariant-loop : tie.invariant-loop
-invariant-loop s at n cell width low₀ high₀ low high = Between (entryBefore s at cell) n low high
+invariant-loop s at n cell width low₀ high₀ low high = Between (entry_before s at cell) n low high
 
 abbrev decreases-loop : tie.decreases-loop
 decreases-loop s at n cell width low₀ high₀ low high = high - low
@@ -28,7 +28,7 @@ room c =
     omega (arith, p.requires.1, row_within (4 * length p.args.cell.now + 12) p.args.n (l.low + (l.high - l.low) / 2) (omega arith))
 
 loop-holds : tie.Need-loop-init invariant-loop decreases-loop
-loop-holds c = between-all _ _
+loop-holds c = between_all _ _
 
 mul-entry-before : tie.Need-overflow-mul-entry-before invariant-loop decreases-loop
 mul-entry-before c = omega (arith, room c)
@@ -42,7 +42,7 @@ entry-before-requires c κs = (c.before.before.before.before.requires.0, omega (
 loop-again : tie.Need-loop-preserved invariant-loop decreases-loop
 loop-again c =
     let l = c.before.before.before.loop in
-    between-right _ _ l.invariant (l.low + (l.high - l.low) / 2) (omega arith) (omega arith) (sym c.before.entry-before.ensures ∙ c.if1.true)
+    between_right _ _ l.invariant (l.low + (l.high - l.low) / 2) (omega arith) (omega arith) (sym c.before.entry-before.ensures ∙ c.if1.true)
 
 loop-again-2 : tie.Need-loop-preserved-2 invariant-loop decreases-loop
 loop-again-2 c =

@@ -5,7 +5,7 @@ use native.Mathlib.Omega.{arith}
 use borrow.Author.Rules.{rules}
 use lib.ListN.{length, drop}
 use Rattle.cube.specs.Codes.{set-of}
-use Rattle.call_search.proofs.CellSet.{set-none, set-small, set-with, set-without}
+use Rattle.call_search.proofs.CellSet.{set-none, set_small, set_with, set_without}
 use Rattle.call_search.proofs.set_of.Statement.{statement}
 use Rattle.call_search.proofs.set_of.Tie as tie
 
@@ -19,7 +19,7 @@ decreases-loop cell set₀ d₀ set d = d
 small : (c : tie.In-loop invariant-loop decreases-loop) → c.before.loop.set < 128
 small c =
     let l = c.before.loop in
-    omega (arith, l.invariant.1, set-small c.before.before.args.cell.now l.d c.loop-test.true c.before.before.requires)
+    omega (arith, l.invariant.1, set_small c.before.before.args.cell.now l.d c.loop-test.true c.before.before.requires)
 
 loop-holds : tie.Need-loop-init invariant-loop decreases-loop
 loop-holds c = (search rules, set-none c.args.cell.now)
@@ -33,13 +33,13 @@ add-set c = omega (arith, small c.before.before)
 loop-again : tie.Need-loop-preserved invariant-loop decreases-loop
 loop-again c =
     let l = c.before.before.before in
-    let p = set-with l.before.args.cell.now l.loop.d c.before.before.loop-test.true l.loop.invariant.0 c.if1.true in
+    let p = set_with l.before.args.cell.now l.loop.d c.before.before.loop-test.true l.loop.invariant.0 c.if1.true in
     (search rules, omega (arith, l.loop.invariant.1, p))
 
 loop-again-2 : tie.Need-loop-preserved-2 invariant-loop decreases-loop
 loop-again-2 c =
     let l = c.before.before.before in
-    let p = set-without l.before.args.cell.now l.loop.d c.before.before.loop-test.true l.loop.invariant.0 c.if1.false in
+    let p = set_without l.before.args.cell.now l.loop.d c.before.before.loop-test.true l.loop.invariant.0 c.if1.false in
     (search rules, omega (arith, l.loop.invariant.1, p))
 
 returns : tie.Need-returns invariant-loop decreases-loop

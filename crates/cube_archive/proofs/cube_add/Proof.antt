@@ -1,6 +1,6 @@
 -- `cube_archive::cube_add` meets its contract: the call's answer as a number, and its output.
 use mathlib.Core.Path.{ap, ◌∙◌}
-use Rattle.call_answers.specs.Numbers.{writtenNumber}
+use Rattle.call_answers.specs.Numbers.{written_number}
 use Rattle.call_add.proofs.Adding.{answered-adds}
 use borrow.Author.Rules.{rules}
 use Rattle.cube_archive.proofs.cube_add.Statement.{statement}
@@ -10,7 +10,7 @@ returns : tie.Need-returns
 returns c =
     let s = c.before.before.before.before.before.before.before.before in
     let a = answered-adds s.args.archive.now s.args.codes.now s.ranges.reading c.before.before.before.add.ensures in
-    (c.number.ensures ∙ ap writtenNumber a.answer, a.output)
+    (c.number.ensures ∙ ap written_number a.answer, a.output)
 
 pub cube-add-spec : {M : Type 1} → statement M
 cube-add-spec =

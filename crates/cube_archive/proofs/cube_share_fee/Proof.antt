@@ -1,12 +1,12 @@
 -- `cube_archive::cube_share_fee` meets its contract: the call's answer as a number, and its output.
 use mathlib.Core.Path.{ap, ◌∙◌}
-use Rattle.call_answers.specs.Numbers.{writtenNumber}
+use Rattle.call_answers.specs.Numbers.{written_number}
 use borrow.Author.Rules.{rules}
 use Rattle.cube_archive.proofs.cube_share_fee.Statement.{statement}
 use Rattle.cube_archive.proofs.cube_share_fee.Tie as tie
 
 returns : tie.Need-returns
-returns c = (c.number.ensures ∙ ap writtenNumber c.before.before.before.share-fee.ensures.answer, c.before.before.before.share-fee.ensures.output)
+returns c = (c.number.ensures ∙ ap written_number c.before.before.before.share-fee.ensures.answer, c.before.before.before.share-fee.ensures.output)
 
 pub cube-share-fee-spec : {M : Type 1} → statement M
 cube-share-fee-spec =

@@ -5,7 +5,7 @@ use Prim.Native.Nat.{◌-◌, ◌≤◌, ◌<◌}
 use native.Mathlib.Omega.{arith}
 use lib.ListN.{length, take, length-set}
 use Rattle.fee_shares.specs.Shares.{quota, rest}
-use Rattle.fee_shares.proofs.Walking.{weight-low, quotas-low, map_more, map-done}
+use Rattle.fee_shares.proofs.Walking.{weight_low, quotas-low, map_more, map-done}
 use borrow.Author.Rules.{rules}
 use Rattle.fee_shares.proofs.divide.Statement.{statement}
 use Rattle.fee_shares.proofs.divide.Tie as tie
@@ -24,12 +24,12 @@ loop-holds c = (search rules, search rules, search rules, refl, refl)
 quota-requires : tie.Need-quota-requires invariant-loop decreases-loop
 quota-requires c κs =
     let p = c.before.before.before.before.before.before.requires.0 in
-    (p.0, omega (arith, weight-low c.before.before.before.before.before.before.args.counts.now c.before.before.loop.i, p.1), p.2, p.3)
+    (p.0, omega (arith, weight_low c.before.before.before.before.before.before.args.counts.now c.before.before.loop.i, p.1), p.2, p.3)
 
 rest-requires : tie.Need-rest-requires invariant-loop decreases-loop
 rest-requires c κs =
     let p = c.before.before.before.before.before.before.before.requires.0 in
-    (p.0, omega (arith, weight-low c.before.before.before.before.before.before.before.args.counts.now c.before.before.before.loop.i, p.1), p.2, p.3)
+    (p.0, omega (arith, weight_low c.before.before.before.before.before.before.before.args.counts.now c.before.before.before.loop.i, p.1), p.2, p.3)
 
 loop-again : tie.Need-loop-preserved invariant-loop decreases-loop
 loop-again c =

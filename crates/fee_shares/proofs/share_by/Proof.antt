@@ -3,7 +3,7 @@ use native.Mathlib.Omega.{arith}
 use mathlib.Core.Path.{sym, ◌∙◌, ap}
 use lib.ListN.{length, length-map}
 use Rattle.fee_shares.specs.Shares.{quota, rest}
-use Rattle.fee_shares.proofs.Sharing.{Divided, divided-le, divided-few, divided-low, divided-above, divided-given}
+use Rattle.fee_shares.proofs.Sharing.{Divided, divided_le, divided_few, divided_low, divided_above, divided_given}
 use borrow.Author.Rules.{rules}
 use Rattle.fee_shares.proofs.share_by.Statement.{statement}
 use Rattle.fee_shares.proofs.share_by.Tie as tie
@@ -19,16 +19,16 @@ divided c = record {
 }
 
 sub-left : tie.Need-overflow-sub-left
-sub-left c = divided-le (divided c)
+sub-left c = divided_le (divided c)
 
 threshold-requires : tie.Need-threshold-requires
-threshold-requires c κs = let d = divided c.before in (search rules, divided-few d, divided-low d)
+threshold-requires c κs = let d = divided c.before in (search rules, divided_few d, divided_low d)
 
 add-at-least : tie.Need-overflow-add-at-least
 add-at-least c = omega (arith, c.before.threshold.ensures.1, c.before.before.before.before.before.before.before.before.before.before.before.before.total_of.ensures, c.before.before.before.before.before.before.before.before.before.before.before.before.before.before.before.before.requires.0.3)
 
 sub-give : tie.Need-overflow-sub-give
-sub-give c = divided-above (divided c.before.before.before.before.before) c.before.before.before.threshold.ensures.0 c.before.at_least.ensures
+sub-give c = divided_above (divided c.before.before.before.before.before) c.before.before.before.threshold.ensures.0 c.before.at_least.ensures
 
 give-requires : tie.Need-give-requires
 give-requires c κs =
@@ -39,7 +39,7 @@ give-requires c κs =
     )
 
 returns : tie.Need-returns
-returns c = c.before.before.give.ensures ∙ divided-given (divided c.before.before.before.before.before.before.before.before.before) c.before.before.before.before.before.before.before.threshold.ensures.0 c.before.before.before.before.before.at_least.ensures
+returns c = c.before.before.give.ensures ∙ divided_given (divided c.before.before.before.before.before.before.before.before.before) c.before.before.before.before.before.before.before.threshold.ensures.0 c.before.before.before.before.before.at_least.ensures
 
 pub share-by-spec : {M : Type 1} → statement M
 share-by-spec =

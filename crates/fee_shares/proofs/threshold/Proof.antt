@@ -4,7 +4,7 @@ use native.Mathlib.Omega.{arith}
 use lib.Dec.{leb}
 use Rattle.fee_shares.specs.Shares.{count}
 use Rattle.fee_shares.proofs.Counts.{count-all}
-use Rattle.fee_shares.proofs.Given.{threshold-between}
+use Rattle.fee_shares.proofs.Given.{threshold_between}
 use borrow.Author.Rules.{rules}
 use Rattle.fee_shares.proofs.threshold.Statement.{statement}
 use Rattle.fee_shares.proofs.threshold.Tie as tie
@@ -22,7 +22,7 @@ returns : tie.Need-returns invariant-loop decreases-loop
 returns c =
     let a = c.before.before.before.args in
     let l = c.before.loop in
-    (threshold-between l.low l.high a.m a.rests.now l.invariant.0 (search rules) l.invariant.2 l.invariant.3, search rules)
+    (threshold_between l.low l.high a.m a.rests.now l.invariant.0 (search rules) l.invariant.2 l.invariant.3, search rules)
 
 pub threshold-spec : {M : Type 1} → statement M
 threshold-spec =

@@ -7,7 +7,7 @@ use borrow.Author.Tests.{eq-eqb, ne_eqb}
 use lib.Dec.{eqb}
 use lib.ListN.{length, drop, get_or, drop_of_length-le}
 use Rattle.fields.specs.Opening.{starts_with}
-use Rattle.fields.specs.OpeningLaws.{starts-at, starts-ended}
+use Rattle.fields.specs.OpeningLaws.{starts_at, starts_ended}
 use Rattle.fields.proofs.begins.Statement.{statement}
 use Rattle.fields.proofs.begins.Tie as tie
 
@@ -21,21 +21,21 @@ returns : tie.Need-returns invariant-loop decreases-loop
 returns c =
     let l = c.before.before.loop in
     let a = c.before.before.before.args in
-    sym (starts-ended a.s.now a.xs.now l.i (search rules) (search rules)) ∙ l.invariant.1
+    sym (starts_ended a.s.now a.xs.now l.i (search rules) (search rules)) ∙ l.invariant.1
 
 returns-2 : tie.Need-returns-2 invariant-loop decreases-loop
 returns-2 c =
     let l = c.before.before.before.before.before.loop in
     let a = c.before.before.before.before.before.before.args in
     let off : eqb (get_or a.s.now l.i 0) (get_or a.xs.now l.i 0) ≡ false = ne_eqb _ _ c.if2.true in
-    sym (starts-at a.s.now a.xs.now l.i (search rules) (search rules) ∙ simp off) ∙ l.invariant.1
+    sym (starts_at a.s.now a.xs.now l.i (search rules) (search rules) ∙ simp off) ∙ l.invariant.1
 
 loop-again : tie.Need-loop-preserved invariant-loop decreases-loop
 loop-again c =
     let l = c.before.before.before.before.before.loop in
     let a = c.before.before.before.before.before.before.args in
     let on : eqb (get_or a.s.now l.i 0) (get_or a.xs.now l.i 0) ≡ true = eq-eqb _ _ c.if2.false in
-    (search rules, sym (starts-at a.s.now a.xs.now l.i (search rules) (search rules) ∙ simp on) ∙ l.invariant.1)
+    (search rules, sym (starts_at a.s.now a.xs.now l.i (search rules) (search rules) ∙ simp on) ∙ l.invariant.1)
 
 returns-3 : tie.Need-returns-3 invariant-loop decreases-loop
 returns-3 c =

@@ -4,25 +4,25 @@ use Prim.Native.Nat.{◌≤◌, ◌-◌, ◌+◌}
 use native.Mathlib.Omega.{arith}
 use lib.ListN.{length, take, length-take, length-drop}
 use lib.Seq.{take_all}
-use Rattle.fields.specs.Words.{wordsBytes}
+use Rattle.fields.specs.Words.{words_bytes}
 use Rattle.fields.specs.Written.{Wrote}
-use Rattle.fields.specs.WordsLaws.{wordsBytes-room, wordsBytes-snoc}
+use Rattle.fields.specs.WordsLaws.{words_bytes_room, words_bytes_snoc}
 use Rattle.fields.specs.WrittenLaws.{wrote_none, wrote_then}
 use Rattle.fields.proofs.put_words.Statement.{statement}
 use Rattle.fields.proofs.put_words.Tie as tie
 
 abbrev invariant-loop : tie.invariant-loop
-invariant-loop out₀ ws at₀ i₀ out at i = (i ≤ length ws) × Wrote (wordsBytes (take i ws)) out₀ out at
+invariant-loop out₀ ws at₀ i₀ out at i = (i ≤ length ws) × Wrote (words_bytes (take i ws)) out₀ out at
 
 abbrev decreases-loop : tie.decreases-loop
 decreases-loop out₀ ws at₀ i₀ out at i = length ws - i
 
 -- there is room for one more word
 room : (c : tie.In-loop invariant-loop decreases-loop) → c.before.loop.at + 4 ≤ length c.before.loop.out
-room c = omega (arith, wordsBytes-room c.before.before.before.before.args.ws.now c.before.loop.i c.loop-test.true)
+room c = omega (arith, words_bytes_room c.before.before.before.before.args.ws.now c.before.loop.i c.loop-test.true)
 
 loop-holds : tie.Need-loop-init invariant-loop decreases-loop
-unfolding wordsBytes
+unfolding words_bytes
 loop-holds c = (search rules, wrote_none _)
 
 sub-put-word : tie.Need-overflow-sub-put-word invariant-loop decreases-loop
@@ -41,7 +41,7 @@ loop-again : tie.Need-loop-preserved invariant-loop decreases-loop
 loop-again c =
     let l = c.before.before.before.before.before.before.loop in
     let ws = c.before.before.before.before.before.before.before.before.before.args.ws.now in
-    (search rules, rw (wordsBytes-snoc ws l.i (search rules)) (wrote_then l.invariant.1 c.before.before.put_word.ensures))
+    (search rules, rw (words_bytes_snoc ws l.i (search rules)) (wrote_then l.invariant.1 c.before.before.put_word.ensures))
 
 returns : tie.Need-returns invariant-loop decreases-loop
 returns c =

@@ -5,13 +5,13 @@ use mathlib.Core.List.{◌++◌}
 use native.Mathlib.Omega.{arith}
 use native.Mathlib.Nat.{sub-zero, add-zero, mul-zero}
 use lib.ListN.{length, take, length-set}
-use Rattle.fields.specs.Words.{wordsAt}
-use Rattle.fields.specs.WordsLaws.{words-on, words-done}
+use Rattle.fields.specs.Words.{words_at}
+use Rattle.fields.specs.WordsLaws.{words_on, words_done}
 use Rattle.fields.proofs.read_words.Statement.{statement}
 use Rattle.fields.proofs.read_words.Tie as tie
 
 abbrev invariant-loop : tie.invariant-loop
-invariant-loop s at out₀ i₀ out i = (i ≤ length out₀) × (length out ≡ length out₀) × (wordsAt s (length out₀) at ≡ take i out ++ wordsAt s (length out₀ - i) (at + 4 * i))
+invariant-loop s at out₀ i₀ out i = (i ≤ length out₀) × (length out ≡ length out₀) × (words_at s (length out₀) at ≡ take i out ++ words_at s (length out₀ - i) (at + 4 * i))
 
 abbrev decreases-loop : tie.decreases-loop
 decreases-loop s at out₀ i₀ out i = length out₀ - i
@@ -41,13 +41,13 @@ loop-less : tie.Need-loop-smaller invariant-loop decreases-loop
 loop-less c = omega arith
 
 loop-again : tie.Need-loop-preserved invariant-loop decreases-loop
-loop-again c = (omega arith, simp length-set (omega arith), c.before.before.loop.invariant.2 ∙ words-on c.before.before.before.before.before.args.s.now c.before.before.loop.out c.before.before.before.before.before.args.at c.before.before.loop.i (length c.before.before.before.before.before.args.out.now) (omega arith) (omega arith) c.word-at.ensures)
+loop-again c = (omega arith, simp length-set (omega arith), c.before.before.loop.invariant.2 ∙ words_on c.before.before.before.before.before.args.s.now c.before.before.loop.out c.before.before.before.before.before.args.at c.before.before.loop.i (length c.before.before.before.before.before.args.out.now) (omega arith) (omega arith) c.word-at.ensures)
 
 same_length : tie.Need-same-length invariant-loop decreases-loop
 same_length c = c.before.loop.invariant.1
 
 returns : tie.Need-returns invariant-loop decreases-loop
-returns c = sym (c.before.loop.invariant.2 ∙ words-done c.before.before.before.before.args.s.now c.before.loop.out c.before.before.before.before.args.at c.before.loop.i (length c.before.before.before.before.args.out.now) (omega arith) (omega arith))
+returns c = sym (c.before.loop.invariant.2 ∙ words_done c.before.before.before.before.args.s.now c.before.loop.out c.before.before.before.before.args.at c.before.loop.i (length c.before.before.before.before.args.out.now) (omega arith) (omega arith))
 
 pub read-words-spec : {M : Type 1} → statement M
 read-words-spec =

@@ -1,7 +1,7 @@
 -- `fields_check::sum_back` meets its contract: the five sums have together the check word of the bytes behind the place.
 use Rattle.std.proofs.Common.{◌-◌, ◌*◌, ◌/◌, length, drop, ap, ◌∙◌, arith, length-drop, take_all, rules}
-use Rattle.fields_check.specs.Check.{checkOf}
-use Rattle.fields_check.proofs.Summed.{Behind, behind-none, behind-on, behind-all}
+use Rattle.fields_check.specs.Check.{check_of}
+use Rattle.fields_check.proofs.Summed.{Behind, behind_none, behind_on, behind_all}
 use Rattle.fields_check.proofs.sum_back.Statement.{statement}
 use Rattle.fields_check.proofs.sum_back.Tie as tie
 
@@ -15,7 +15,7 @@ loop-holds : tie.Need-loop-init invariant-loop decreases-loop
 loop-holds c =
     let s = c.before.before.before.args.s.now in
     let at = length s / 16 * 16 in
-    behind-none (omega arith) (omega arith) (c.sum-words.ensures ∙ ap checkOf (take_all (length s - at) (drop at s) (simp length-drop (omega arith))))
+    behind_none (omega arith) (omega arith) (c.sum-words.ensures ∙ ap check_of (take_all (length s - at) (drop at s) (simp length-drop (omega arith))))
 
 loop-again : tie.Need-loop-preserved invariant-loop decreases-loop
 loop-again c =
@@ -23,11 +23,11 @@ loop-again c =
     let third = fourth.before.before in
     let second = third.before.before in
     let first = second.before.before in
-    behind-on first.before.before.loop.invariant (omega (arith, first.before.loop-test.true)) first.word-at.ensures second.word-at2.ensures third.word-at3.ensures fourth.word-at4.ensures second.before.wrapping-add-u32.ensures third.before.wrapping-add-u322.ensures fourth.before.wrapping-add-u323.ensures c.wrapping-add-u324.ensures
+    behind_on first.before.before.loop.invariant (omega (arith, first.before.loop-test.true)) first.word-at.ensures second.word-at2.ensures third.word-at3.ensures fourth.word-at4.ensures second.before.wrapping-add-u32.ensures third.before.wrapping-add-u322.ensures fourth.before.wrapping-add-u323.ensures c.wrapping-add-u324.ensures
 
 returns : tie.Need-returns invariant-loop decreases-loop
 returns c =
-    let all = behind-all c.before.before.before.before.before.loop.invariant c.before.before.before.before.loop-test.false in
+    let all = behind_all c.before.before.before.before.before.loop.invariant c.before.before.before.before.loop-test.false in
     omega (arith, all, c.before.before.before.wrapping-add-u325.ensures, c.before.before.wrapping-add-u326.ensures, c.before.wrapping-add-u327.ensures, c.wrapping-add-u328.ensures)
 
 pub sum-back-spec : {M : Type 1} → statement M

@@ -5,7 +5,7 @@ use Prim.Native.Nat.{ℕ, ◌+◌}
 use lib.ListN.{drop}
 use mir.Facts.{to_z-of_z}
 use Rattle.fields.specs.Words.{word_bytes}
-use Rattle.fields_sums.specs.Twos.{lowOf, high_of}
+use Rattle.fields_sums.specs.Twos.{low_of, high_of}
 use Rattle.fields.specs.Opening.{starts_with}
 use Rattle.fields_sums.proofs.Sums.{starts-sum}
 use borrow.Author.Rules.{rules}
@@ -13,10 +13,10 @@ use Rattle.fields_sums.proofs.sum_is.Statement.{statement}
 use Rattle.fields_sums.proofs.sum_is.Tie as tie
 
 -- what the low word tells
-low : (c : tie.After-word-is) → let a = c.before.before.before.args in c.word-is.result ≡ starts_with (drop a.at a.s.now) (word_bytes (lowOf a.sum))
+low : (c : tie.After-word-is) → let a = c.before.before.before.args in c.word-is.result ≡ starts_with (drop a.at a.s.now) (word_bytes (low_of a.sum))
 low c =
     let a = c.before.before.before.args in
-    c.word-is.ensures ∙ ap (λ (w : ℕ). starts_with (drop a.at a.s.now) (word_bytes w)) (c.before.low_of.ensures ∙ ap lowOf (to_z-of_z c.before.before.before.ranges.sum))
+    c.word-is.ensures ∙ ap (λ (w : ℕ). starts_with (drop a.at a.s.now) (word_bytes w)) (c.before.low_of.ensures ∙ ap low_of (to_z-of_z c.before.before.before.ranges.sum))
 
 returns : tie.Need-returns
 returns c =

@@ -6,7 +6,7 @@ use mir.Val.{to_z, of_z}
 use mir.Facts.{Fits-of_z}
 use native.Mathlib.Omega.{arith}
 use Rattle.fields_sums.specs.Twos.{bits_of}
-use Rattle.fields_sums.proofs.Machine.{less-fits, lower, lower-bits, same, bits-ofZ}
+use Rattle.fields_sums.proofs.Machine.{less_fits, lower, lower_bits, same, bits_of_z}
 use mathlib.Core.Path.{◌≡◌}
 use Rattle.fields_sums.proofs.unsigned.Statement.{statement}
 use Rattle.fields_sums.proofs.unsigned.Tie as tie
@@ -18,7 +18,7 @@ high : (c : tie.Else1) → to_z w64 (of_z w64 c.before.args.z) ≡ pos (bits_of 
 high c = same c.before.args.z c.before.ranges.z c.if1.false
 
 sub-result : tie.Need-overflow-sub-result
-sub-result c = less-fits c.before.args.z c.before.ranges.z c.if1.true
+sub-result c = less_fits c.before.args.z c.before.ranges.z c.if1.true
 
 cast-result : tie.Need-overflow-cast-result
 cast-result c = rw (low c) (tt, record { fits = omega arith })
@@ -27,10 +27,10 @@ sub-result-2 : tie.Need-overflow-sub-result-2
 sub-result-2 c = rw (low c) (omega arith)
 
 cast-result-2 : tie.Need-overflow-cast-result-2
-cast-result-2 c = rw (high c) (tt, rw (bits-ofZ c.before.args.z) at (Fits-of_z c.before.ranges.z))
+cast-result-2 c = rw (high c) (tt, rw (bits_of_z c.before.args.z) at (Fits-of_z c.before.ranges.z))
 
 returns : tie.Need-returns
-returns c = rw (low c) (lower-bits c.before.args.z c.before.ranges.z c.if1.true)
+returns c = rw (low c) (lower_bits c.before.args.z c.before.ranges.z c.if1.true)
 
 returns-2 : tie.Need-returns-2
 returns-2 c = rw (high c)

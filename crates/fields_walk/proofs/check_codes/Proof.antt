@@ -5,7 +5,7 @@ use borrow.Author.Rules.{rules}
 use lib.ListN.{length, drop}
 use Rattle.fields_walk.specs.Fields.{codes}
 use Rattle.fields_walk.proofs.Steps.{seen}
-use Rattle.fields_walk.proofs.Loops.{Follows, follows-self, codes-on, codes-off, codes-done}
+use Rattle.fields_walk.proofs.Loops.{Follows, follows_self, codes_on, codes-off, codes-done}
 use Rattle.fields_walk.proofs.check_codes.Statement.{statement}
 use Rattle.fields_walk.proofs.check_codes.Tie as tie
 
@@ -16,7 +16,7 @@ abbrev decreases-loop : tie.decreases-loop
 decreases-loop s sizes start at₀ i₀ at i = length sizes - i
 
 loop-holds : tie.Need-loop-init invariant-loop decreases-loop
-loop-holds c = (omega arith, omega arith, follows-self _ _)
+loop-holds c = (omega arith, omega arith, follows_self _ _)
 
 returns : tie.Need-returns invariant-loop decreases-loop
 returns c =
@@ -27,7 +27,7 @@ loop-again : tie.Need-loop-preserved invariant-loop decreases-loop
 loop-again c =
     let l = c.before.before.before.before.before.before.loop in
     let g = seen c.before.next.given.1 c.before.before.before.check-field.ensures in
-    (search rules, g.2, codes-on c.before.before.before.before.before.before.before.before.before.args.sizes.now l.at l.i l.invariant.2 (search rules) g.1)
+    (search rules, g.2, codes_on c.before.before.before.before.before.before.before.before.before.args.sizes.now l.at l.i l.invariant.2 (search rules) g.1)
 
 returns-2 : tie.Need-returns-2 invariant-loop decreases-loop
 returns-2 c =

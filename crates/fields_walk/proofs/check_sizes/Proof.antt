@@ -6,7 +6,7 @@ use borrow.Author.Rules.{rules}
 use lib.ListN.{length, drop}
 use Rattle.fields_walk.specs.Fields.{field, sizes}
 use Rattle.fields_walk.proofs.Steps.{seen}
-use Rattle.fields_walk.proofs.Loops.{Follows, follows-self, many-on, many-off, many-done}
+use Rattle.fields_walk.proofs.Loops.{Follows, follows_self, many_on, many-off, many-done}
 use Rattle.fields_walk.proofs.check_sizes.Statement.{statement}
 use Rattle.fields_walk.proofs.check_sizes.Tie as tie
 
@@ -17,7 +17,7 @@ abbrev decreases-loop : tie.decreases-loop
 decreases-loop s dims start at₀ i₀ at i = dims - i
 
 loop-holds : tie.Need-loop-init invariant-loop decreases-loop
-loop-holds c = (omega arith, omega arith, simp sub-zero (follows-self _ _))
+loop-holds c = (omega arith, omega arith, simp sub-zero (follows_self _ _))
 
 returns : tie.Need-returns invariant-loop decreases-loop
 returns c =
@@ -28,7 +28,7 @@ loop-again : tie.Need-loop-preserved invariant-loop decreases-loop
 loop-again c =
     let l = c.before.before.before.before.before.loop in
     let g = seen c.before.next.given.1 c.before.before.before.check-field.ensures in
-    (omega arith, g.2, many-on (field 1 65536 4) l.at l.i c.before.before.before.before.before.before.before.args.dims l.invariant.2 (omega arith) g.1)
+    (omega arith, g.2, many_on (field 1 65536 4) l.at l.i c.before.before.before.before.before.before.before.args.dims l.invariant.2 (omega arith) g.1)
 
 returns-2 : tie.Need-returns-2 invariant-loop decreases-loop
 returns-2 c =

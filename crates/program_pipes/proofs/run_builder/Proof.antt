@@ -2,15 +2,15 @@
 use borrow.Author.Rules.{rules}
 use lib.Seq.{length-take-le}
 use mathlib.Core.Path.{sym}
-use Rattle.fields.specs.WrittenLaws.{wrote-within}
+use Rattle.fields.specs.WrittenLaws.{wrote_within}
 use Rattle.program_pipes.proofs.run_builder.Statement.{statement}
 use Rattle.program_pipes.proofs.run_builder.Tie as tie
 
 array-share-prefix-out : tie.Need-array-share-prefix-out
-array-share-prefix-out c = wrote-within c.before.build-text.ensures
+array-share-prefix-out c = wrote_within c.before.build-text.ensures
 
 slice-aggregate-write-all : tie.Need-slice-aggregate-write-all
-slice-aggregate-write-all c = sym (length-take-le _ _ (wrote-within c.before.before.build-text.ensures))
+slice-aggregate-write-all c = sym (length-take-le _ _ (wrote_within c.before.before.build-text.ensures))
 
 pub run-builder-spec : {M : Type 1} → statement M
 run-builder-spec =

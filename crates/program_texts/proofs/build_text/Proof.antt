@@ -2,14 +2,14 @@
 use mathlib.Core.Path.{sym}
 use borrow.Author.Rules.{rules}
 use Rattle.archive_cells.specs.WritingLaws.{wrote_as}
-use Rattle.program_texts.proofs.Printed.{builder-long, builder-refused, builder-wrote}
+use Rattle.program_texts.proofs.Printed.{builder_long, builder-refused, builder-wrote}
 use Rattle.program_texts.proofs.build_text.Statement.{statement}
 use Rattle.program_texts.proofs.build_text.Tie as tie
 
 returns : tie.Need-returns
 returns c =
     let s = c.before.before.before.before.before.before.before.args.input.now in
-    wrote_as (sym (builder-long s c.before.before.before.before.if1.true)) c.before.before.put-too-long.ensures
+    wrote_as (sym (builder_long s c.before.before.before.before.if1.true)) c.before.before.put-too-long.ensures
 
 returns-2 : tie.Need-returns-2
 returns-2 c =

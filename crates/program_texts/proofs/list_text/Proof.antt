@@ -5,14 +5,14 @@ use borrow.Author.Rules.{rules}
 use Rattle.fields_walk.proofs.Limits.{bytes_of}
 use Rattle.archive_cells.specs.WritingLaws.{wrote_as}
 use Rattle.text_listing.proofs.Places.{listing-few}
-use Rattle.program_texts.proofs.Printed.{lister-long, lister-refused, lister-listing, accepted}
+use Rattle.program_texts.proofs.Printed.{lister_long, lister-refused, lister-listing, accepted}
 use Rattle.program_texts.proofs.list_text.Statement.{statement}
 use Rattle.program_texts.proofs.list_text.Tie as tie
 
 returns : tie.Need-returns
 returns c =
     let s = c.before.before.before.before.before.before.before.args.input.now in
-    wrote_as (sym (lister-long s c.before.before.before.before.if1.true)) c.before.before.put-too-long.ensures
+    wrote_as (sym (lister_long s c.before.before.before.before.if1.true)) c.before.before.put-too-long.ensures
 
 put-listing-requires : tie.Need-put-listing-requires
 put-listing-requires c κs =

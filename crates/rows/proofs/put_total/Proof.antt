@@ -6,8 +6,8 @@ use mir.Syntax.{w64}
 use mir.Val.{SFits}
 use mir.Facts.{to_z-of_z}
 use borrow.Author.Rules.{rules}
-use Rattle.fields_sums.specs.Twos.{lowOf, high_of}
-use Rattle.rows.proofs.Flat.{total-put}
+use Rattle.fields_sums.specs.Twos.{low_of, high_of}
+use Rattle.rows.proofs.Flat.{total_put}
 use Rattle.rows.proofs.put_total.Statement.{statement}
 use Rattle.rows.proofs.put_total.Tie as tie
 
@@ -22,8 +22,8 @@ returns c =
     let s = c.before.before.before.before in
     let a = s.args in
     let fits : SFits w64 a.total.sum = record { sfits = c.before.before.struct_told.given.0.1 } in
-    rw (c.before.low_of.ensures ∙ ap lowOf (to_z-of_z fits), c.high-of.ensures ∙ ap high_of (to_z-of_z fits))
-    (total-put a.dims a.row.now a.total.sum a.total.count s.requires fits.sfits)
+    rw (c.before.low_of.ensures ∙ ap low_of (to_z-of_z fits), c.high-of.ensures ∙ ap high_of (to_z-of_z fits))
+    (total_put a.dims a.row.now a.total.sum a.total.count s.requires fits.sfits)
 
 pub put-total-spec : {M : Type 1} → statement M
 put-total-spec =

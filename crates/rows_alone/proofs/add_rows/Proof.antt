@@ -3,7 +3,7 @@ use mathlib.Core.Path.{◌≡◌, refl}
 use Prim.Native.Nat.{◌-◌, ◌≤◌}
 use native.Mathlib.Omega.{arith}
 use lib.ListN.{length}
-use Rattle.rows_alone.proofs.Words.{Adding, adding-more, adding-done}
+use Rattle.rows_alone.proofs.Words.{Adding, adding_more, adding_done}
 use borrow.Author.Rules.{rules}
 use Rattle.rows_alone.proofs.add_rows.Statement.{statement}
 use Rattle.rows_alone.proofs.add_rows.Tie as tie
@@ -25,13 +25,13 @@ loop-again c =
     let a = c.before.before.before.before.before.before.before.before.before.args in
     let l = c.before.before.before.before.before.before.loop in
     let r = c.before.before.add.ensures in
-    (search rules, r.0, adding-more a.rows.now a.words.now l.words l.i l.invariant.2 _ c.before.before.before.before.before.loop-test.true r.1)
+    (search rules, r.0, adding_more a.rows.now a.words.now l.words l.i l.invariant.2 _ c.before.before.before.before.before.loop-test.true r.1)
 
 returns : tie.Need-returns invariant-loop decreases-loop
 returns c =
     let a = c.before.before.before.before.args in
     let l = c.before.loop in
-    (l.invariant.1, adding-done a.rows.now a.words.now l.words l.i l.invariant.2 c.loop-test.false)
+    (l.invariant.1, adding_done a.rows.now a.words.now l.words l.i l.invariant.2 c.loop-test.false)
 
 pub add-rows-spec : {M : Type 1} → statement M
 add-rows-spec =

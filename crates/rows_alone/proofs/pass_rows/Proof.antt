@@ -7,10 +7,10 @@ use native.Mathlib.Omega.{arith}
 use lib.ListN.{length}
 use borrow.Author.Tests.{not-true, not-false}
 use Rattle.lattice.specs.Sets.{holds}
-use Rattle.lattice.proofs.Less.{less-within}
+use Rattle.lattice.proofs.Less.{less_within}
 use Rattle.rows_bits.specs.Rowsets.{has}
-use Rattle.rows_alone.specs.Alone.{wordsOf, passes}
-use Rattle.rows_alone.proofs.Words.{words-length, cleared-none, passes-start, passes-off, passes_on}
+use Rattle.rows_alone.specs.Alone.{words_of, passes}
+use Rattle.rows_alone.proofs.Words.{words-length, cleared_none, passes-start, passes-off, passes_on}
 use borrow.Author.Rules.{rules}
 use Rattle.rows_alone.proofs.pass_rows.Statement.{statement}
 use Rattle.rows_alone.proofs.pass_rows.Tie as tie
@@ -25,7 +25,7 @@ loop-holds : tie.Need-loop-init invariant-loop decreases-loop
 loop-holds c =
     let a = c.before.before.before.before.before.before.args in
     let r = c.before.before.clear.ensures in
-    (omega arith, r.0 ∙ c.before.before.before.before.before.before.requires.2, λ x. cleared-none c.before.before.clear.new.0 r.1 x ∙ sym (passes-start a.alone.now a.set x))
+    (omega arith, r.0 ∙ c.before.before.before.before.before.before.requires.2, λ x. cleared_none c.before.before.clear.new.0 r.1 x ∙ sym (passes-start a.alone.now a.set x))
 
 -- whether the set has the dimension
 tested : (c : tie.After-holds-set invariant-loop decreases-loop) → c.holds-set.result ≡ holds 32 c.before.before.before.before.before.before.before.before.before.before.args.set (2 ^ c.before.before.before.loop.d)
@@ -42,7 +42,7 @@ had : (c : tie.Else1 invariant-loop decreases-loop) → holds 32 c.before.before
 had c = sym (tested c.before) ∙ not-false c.before.holds-set.result c.if1.false
 
 sub-words-of : tie.Need-overflow-sub-words-of invariant-loop decreases-loop
-sub-words-of c = omega (arith, c.before.before.before.sets_of.ensures, less-within 32 c.before.before.before.before.before.loop.d c.before.before.before.before.before.before.before.before.before.before.before.before.args.set (omega (arith, c.before.before.before.before.loop-test.true)) (had c.before))
+sub-words-of c = omega (arith, c.before.before.before.sets_of.ensures, less_within 32 c.before.before.before.before.before.loop.d c.before.before.before.before.before.before.before.before.before.before.before.before.args.set (omega (arith, c.before.before.before.before.loop-test.true)) (had c.before))
 
 words-of-requires : tie.Need-words-of-requires invariant-loop decreases-loop
 words-of-requires c κs = let p = c.before.before.before.before.before.before.before.before.before.before.before.before.requires in (p.0, omega (arith, p.1))
@@ -58,7 +58,7 @@ loop-again-2 c =
     let a = c.before.before.before.before.before.before.before.before.before.before.before.before.before.before.before.before.args in
     let l = c.before.before.before.before.before.before.before.before.before.loop in
     let r = c.before.before.join.ensures in
-    let less = c.before.before.before.words_of.ensures ∙ ap (λ (u : ℕ). wordsOf a.alone.now (a.set - u)) c.before.before.before.before.before.before.before.sets_of.ensures in
+    let less = c.before.before.before.words_of.ensures ∙ ap (λ (u : ℕ). words_of a.alone.now (a.set - u)) c.before.before.before.before.before.before.before.sets_of.ensures in
     (search rules, r.0, λ x. r.1 x ∙ ap₂ ◌||◌ (l.invariant.2 x) (ap (λ (w : List ℕ). has w x) less) ∙ sym (passes_on a.alone.now a.set x l.d (had c.before.before.before.before.before)))
 
 returns : tie.Need-returns invariant-loop decreases-loop

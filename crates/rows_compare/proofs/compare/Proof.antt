@@ -7,7 +7,7 @@ use lib.ListN.{length, drop}
 use Rattle.lists.proofs.Tests.{cases}
 use Rattle.rows_compare.specs.Compare.{compared}
 use Rattle.rows_compare.proofs.Agree.{alike-out}
-use Rattle.rows_compare.proofs.Compared.{further, further-none, alike-in, compared-skip, compared-less, compared-more, compared-done}
+use Rattle.rows_compare.proofs.Compared.{further, further_none, alike_in, compared_skip, compared_less, compared-more, compared-done}
 use Rattle.rows_compare.proofs.compare.Statement.{statement}
 use Rattle.rows_compare.proofs.compare.Tie as tie
 
@@ -19,13 +19,13 @@ abbrev decreases-loop : tie.decreases-loop
 decreases-loop mine other set rest₀ d₀ d-end rest d = length mine - d
 
 loop-holds : tie.Need-loop-init invariant-loop decreases-loop
-loop-holds c = (omega arith, further-none _)
+loop-holds c = (omega arith, further_none _)
 
 returns : tie.Need-returns invariant-loop decreases-loop
 returns c =
     let l = c.before.before.before.before.before in
     sym (sym l.loop.invariant.1
-    ∙ compared-less l.loop.rest l.before.args.mine.now l.before.args.other.now l.loop.d (search rules) (search rules)
+    ∙ compared_less l.loop.rest l.before.args.mine.now l.before.args.other.now l.loop.d (search rules) (search rules)
     c.before.if1.true c.if2.true)
 
 returns-2 : tie.Need-returns-2 invariant-loop decreases-loop
@@ -39,8 +39,8 @@ loop-again : tie.Need-loop-preserved invariant-loop decreases-loop
 loop-again c =
     let l = c.before.before.before.before in (
       search rules,
-      compared-skip l.loop.rest l.before.args.mine.now l.before.args.other.now l.loop.d (search rules) (search rules)
-          (cases c.if1.branch (λ w. alike-in _ _ _ w.0.taken (omega (arith, w.1.left, w.2.left))) (λ w. alike-out _ _ _ w.left))
+      compared_skip l.loop.rest l.before.args.mine.now l.before.args.other.now l.loop.d (search rules) (search rules)
+          (cases c.if1.branch (λ w. alike_in _ _ _ w.0.taken (omega (arith, w.1.left, w.2.left))) (λ w. alike-out _ _ _ w.left))
           ∙ l.loop.invariant.1,
     )
 

@@ -13,9 +13,9 @@ use Rattle.cube.specs.Codes.{agree, plain}
 use Rattle.cube.specs.Condensed.{single}
 use Rattle.rows.specs.Rows.{cut, row_at}
 use Rattle.rows.proofs.Rows.{cut-length}
-use Rattle.rows_compare.proofs.Agree.{alike-out, agree-skip, agree-stop, agree-done}
+use Rattle.rows_compare.proofs.Agree.{alike-out, agree_skip, agree-stop, agree-done}
 use Rattle.lists.proofs.Places.{distinct-at}
-use Rattle.rows_compare.proofs.Singles.{single-own, single-skip, single-stop, single-done}
+use Rattle.rows_compare.proofs.Singles.{single-own, single_skip, single-stop, single-done}
 use Rattle.rows_compare.proofs.is_single.Statement.{statement}
 use Rattle.rows_compare.proofs.is_single.Tie as tie
 
@@ -76,7 +76,7 @@ rows-again-2 c =
       p.rows.invariant.0,
       search rules,
       rw l.loop.invariant.0
-          (single-skip (plain a.dims) a.set mine (cut a.dims a.n a.rows.now) p.rows.i (within l.before.before.before)
+          (single_skip (plain a.dims) a.set mine (cut a.dims a.n a.rows.now) p.rows.i (within l.before.before.before)
           l.before.row-of2.ensures.0 (sym l.loop.invariant.2 ∙ stop) ∙ p.rows.invariant.2),
     )
 
@@ -85,7 +85,7 @@ loop-again c =
     let l = c.before.before.loop in (
       search rules,
       search rules,
-      agree-skip l.rest _ _ l.d (search rules) (search rules)
+      agree_skip l.rest _ _ l.d (search rules) (search rules)
           (cases c.if2.branch (λ w. rw w.0.taken (not-false _ w.3.left)) (λ w. alike-out _ _ _ w.left)) ∙ l.invariant.2,
     )
 

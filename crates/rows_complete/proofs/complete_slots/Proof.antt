@@ -6,10 +6,10 @@ use lib.Pow.{pow_pos, pow_mono}
 use lib.ListN.{length}
 use Rattle.lattice.specs.Sets.{full}
 use Rattle.rows_crowds.specs.Crowds.{Passing, AllHold}
-use Rattle.rows_crowds.proofs.Shorter.{shorter-less}
-use Rattle.rows_crowds.proofs.Filling.{passing-none}
-use Rattle.rows_crowds.proofs.Turns.{filling-shorter, filling-done}
-use Rattle.rows_complete.proofs.Completing.{Completing, whole-filled, completing-start, completing-skip, completing-more, all_more}
+use Rattle.rows_crowds.proofs.Shorter.{shorter_less}
+use Rattle.rows_crowds.proofs.Filling.{passing_none}
+use Rattle.rows_crowds.proofs.Turns.{filling_shorter, filling_done}
+use Rattle.rows_complete.proofs.Completing.{Completing, whole-filled, completing_start, completing_skip, completing_more, all_more}
 use borrow.Author.Rules.{rules}
 use Rattle.rows_complete.proofs.complete_slots.Statement.{statement}
 use Rattle.rows_complete.proofs.complete_slots.Tie as tie
@@ -45,12 +45,12 @@ loop-holds : tie.Need-loop-init invariant-loop decreases-loop
 loop-holds c =
     let a = c.before.before.before.before.before.before.before.args in
     let e : full a.dims ≡ c.sets_of.result - 1 = omega (arith, all-sets c) in
-    (refl, refl, search rules, search rules, search rules, passing-none 1 a.dims a.n a.rows.now, completing-start (omega (arith, few c)) (subst (AllHold 2 a.dims a.n a.rows.now a.store.now a.sizes.now) e c.before.before.before.before.before.before.before.requires.1.2))
+    (refl, refl, search rules, search rules, search rules, passing_none 1 a.dims a.n a.rows.now, completing_start (omega (arith, few c)) (subst (AllHold 2 a.dims a.n a.rows.now a.store.now a.sizes.now) e c.before.before.before.before.before.before.before.requires.1.2))
 
 loop-again : tie.Need-loop-preserved invariant-loop decreases-loop
 loop-again c =
     let v = c.before.before.before.loop.invariant in
-    (v.0, v.1, v.2, v.3, v.4, v.5, completing-skip (omega (arith, few c.before.before.before.before)) v.6 c.before.before.loop-test.true c.before.set_at.ensures c.if1.true)
+    (v.0, v.1, v.2, v.3, v.4, v.5, completing_skip (omega (arith, few c.before.before.before.before)) v.6 c.before.before.loop-test.true c.before.set_at.ensures c.if1.true)
 
 -- the set has its turn
 below : (c : tie.Else1 invariant-loop decreases-loop) → c.before.set_at.result < c.before.before.before.before.sets_of.result - 1
@@ -70,7 +70,7 @@ loop-again-2 c =
     let h = below c.before.before in
     let low = few c.before.before.before.before.before.before in
     let w = whole-filled p.0.0 (omega (arith, h, low)) (omega (arith, v.0, p.1.0)) (v.6.each c.before.before.before.set_at.result h).1 c.if2.true in
-    (v.0, v.1, v.2, v.3, v.4, v.5, completing-more (omega (arith, low)) v.6 c.before.before.before.before.loop-test.true c.before.before.before.set_at.ensures h w)
+    (v.0, v.1, v.2, v.3, v.4, v.5, completing_more (omega (arith, low)) v.6 c.before.before.before.before.loop-test.true c.before.before.before.set_at.ensures h w)
 
 -- it is filled
 fill-set-requires : tie.Need-fill-set-requires invariant-loop decreases-loop
@@ -82,14 +82,14 @@ fill-set-requires c κs =
       (p.0.0, omega arith, omega arith, p.0.3),
       (
         (omega (arith, v.0, p.1.0), omega (arith, v.1, p.1.1), v.2, v.3, v.4),
-        (p.0.1, c.before.before.before.before.before.before.before.before.before.before.before.before.before.before.before.read-columns.ensures, omega (arith, h, all-sets c.before.before.before.before.before.before.before.before.before.before.before.before.before), v.5 c.before.before.before.before.before.before.before.before.before.before.set_at.result, filling-shorter (omega (arith, low)) v.6.filling c.before.before.before.before.before.before.before.before.before.before.before.loop-test.true c.before.before.before.before.before.before.before.before.before.before.set_at.ensures h),
+        (p.0.1, c.before.before.before.before.before.before.before.before.before.before.before.before.before.before.before.read-columns.ensures, omega (arith, h, all-sets c.before.before.before.before.before.before.before.before.before.before.before.before.before), v.5 c.before.before.before.before.before.before.before.before.before.before.set_at.result, filling_shorter (omega (arith, low)) v.6.filling c.before.before.before.before.before.before.before.before.before.before.before.loop-test.true c.before.before.before.before.before.before.before.before.before.before.set_at.ensures h),
       ),
     )
 
 loop-again-3 : tie.Need-loop-preserved-3 invariant-loop decreases-loop
 loop-again-3 c =
     let v = c.before.before.before.before.before.before.before.before.before.before.before.before.before.before.before.before.before.before.before.before.loop.invariant in
-    (search rules, search rules, search rules, search rules, search rules, v.5, completing-more (omega (arith, few c.before.before.before.before.before.before.before.before.before.before.before.before.before.before.before.before.before.before.before.before.before)) v.6 c.before.before.before.before.before.before.before.before.before.before.before.before.before.before.before.before.before.before.before.loop-test.true c.before.before.before.before.before.before.before.before.before.before.before.before.before.before.before.before.before.before.set_at.ensures (below c.before.before.before.before.before.before.before.before.before.before.before.before.before.before.before.before.before) c.before.before.before.before.before.before.before.fill-set.ensures.0)
+    (search rules, search rules, search rules, search rules, search rules, v.5, completing_more (omega (arith, few c.before.before.before.before.before.before.before.before.before.before.before.before.before.before.before.before.before.before.before.before.before)) v.6 c.before.before.before.before.before.before.before.before.before.before.before.before.before.before.before.before.before.before.before.loop-test.true c.before.before.before.before.before.before.before.before.before.before.before.before.before.before.before.before.before.before.set_at.ensures (below c.before.before.before.before.before.before.before.before.before.before.before.before.before.before.before.before.before) c.before.before.before.before.before.before.before.fill-set.ensures.0)
 
 -- the full set
 fill-set-requires-2 : tie.Need-fill-set-requires-2 invariant-loop decreases-loop
@@ -98,18 +98,18 @@ fill-set-requires-2 c κs =
     let v = c.before.before.before.before.before.before.before.before.loop.invariant in
     let all = c.before.before.before.before.before.before.before.before.before.sets_of.result - 1 in
     let low = few c.before.before.before.before.before.before.before.before.before in
-    let held = filling-done (omega (arith, low)) v.6.filling c.before.before.before.before.before.before.before.loop-test.false in (
+    let held = filling_done (omega (arith, low)) v.6.filling c.before.before.before.before.before.before.before.loop-test.false in (
       (p.0.0, omega arith, omega arith, p.0.3),
       (
         (omega (arith, v.0, p.1.0), omega (arith, v.1, p.1.1), v.2, v.3, v.4),
-        (p.0.1, c.before.before.before.before.before.before.before.before.before.before.before.read-columns.ensures, omega (arith, all-sets c.before.before.before.before.before.before.before.before.before), v.5 all, λ one. held.all _ (shorter-less all one low)),
+        (p.0.1, c.before.before.before.before.before.before.before.before.before.before.before.read-columns.ensures, omega (arith, all-sets c.before.before.before.before.before.before.before.before.before), v.5 all, λ one. held.all _ (shorter_less all one low)),
       ),
     )
 
 returns : tie.Need-returns invariant-loop decreases-loop
 returns c =
     let a = c.before.before.before.before.before.before.before.before.before.before.before.before.before.before.before.before.before.before.before.before.before.before.before.before.args in
-    subst (AllHold 1 a.dims a.n a.rows.now _ _) (all-sets c.before.before.before.before.before.before.before.before.before.before.before.before.before.before.before.before.before) (all_more (filling-done (omega (arith, few c.before.before.before.before.before.before.before.before.before.before.before.before.before.before.before.before.before)) c.before.before.before.before.before.before.before.before.before.before.before.before.before.before.before.before.loop.invariant.6.filling c.before.before.before.before.before.before.before.before.before.before.before.before.before.before.before.loop-test.false) c.before.before.before.before.before.before.before.fill-set2.ensures.0)
+    subst (AllHold 1 a.dims a.n a.rows.now _ _) (all-sets c.before.before.before.before.before.before.before.before.before.before.before.before.before.before.before.before.before) (all_more (filling_done (omega (arith, few c.before.before.before.before.before.before.before.before.before.before.before.before.before.before.before.before.before)) c.before.before.before.before.before.before.before.before.before.before.before.before.before.before.before.before.loop.invariant.6.filling c.before.before.before.before.before.before.before.before.before.before.before.before.before.before.before.loop-test.false) c.before.before.before.before.before.before.before.fill-set2.ensures.0)
 
 pub complete-slots-spec : {M : Type 1} → statement M
 complete-slots-spec =

@@ -12,8 +12,8 @@ use Rattle.rows.specs.Rows.{cut}
 use Rattle.rows.proofs.Rows.{cut-length}
 use Rattle.rows_ready.specs.Blank.{blanks}
 use Rattle.rows_ready.proofs.Blank.{normals-count}
-use Rattle.rows_crowds.proofs.Turns.{Filling, filling-start, filling_skip, filling-shorter, filling-more, filling-done}
-use Rattle.rows_condense.proofs.Listing.{Listing, Given, listing_start, listing-skip, listing-lower, listing-fit, listing-more, listing-few, listing-done}
+use Rattle.rows_crowds.proofs.Turns.{Filling, filling_start, filling_skip, filling_shorter, filling_more, filling_done}
+use Rattle.rows_condense.proofs.Listing.{Listing, Given, listing_start, listing_skip, listing_lower, listing_fit, listing-more, listing-few, listing-done}
 use borrow.Author.Rules.{rules}
 use Rattle.rows_condense.proofs.condense_rows.Statement.{statement}
 use Rattle.rows_condense.proofs.condense_rows.Tie as tie
@@ -49,7 +49,7 @@ few c = omega (arith, full-lt c.before.before.before.before.before.before.before
 loop-holds : tie.Need-loop-init invariant-loop decreases-loop
 loop-holds c =
     let a = c.before.before.before.before.before.before.before.before.before.before.before.before.args in
-    (refl, refl, search rules, search rules, search rules, search rules, search rules, search rules, filling-start (few c) a.store.now a.sizes.now, listing_start (base c) _ _ c.before.before.before.before.before.before.clear-lists.ensures)
+    (refl, refl, search rules, search rules, search rules, search rules, search rules, search rules, filling_start (few c) a.store.now a.sizes.now, listing_start (base c) _ _ c.before.before.before.before.before.before.clear-lists.ensures)
 
 loop-again : tie.Need-loop-preserved invariant-loop decreases-loop
 loop-again c =
@@ -57,7 +57,7 @@ loop-again c =
     let h = c.before.before.loop-test.true in
     let e = c.before.set_at.ensures in
     let f : full c.before.before.before.before.before.before.before.before.before.before.before.before.before.before.before.before.args.dims ≤ c.before.set_at.result = omega (arith, c.if1.true, c.before.before.before.before.sets_of.ensures) in
-    (v.0, v.1, v.2, v.3, v.4, v.5, v.6, v.7, filling_skip (few c.before.before.before.before) v.8 h e f, listing-skip (base c.before.before.before.before) v.9 h e f)
+    (v.0, v.1, v.2, v.3, v.4, v.5, v.6, v.7, filling_skip (few c.before.before.before.before) v.8 h e f, listing_skip (base c.before.before.before.before) v.9 h e f)
 
 -- the set has its turn
 below : (c : tie.Else1 invariant-loop decreases-loop) → c.before.set_at.result < full c.before.before.before.before.before.before.before.before.before.before.before.before.before.before.before.before.args.dims
@@ -71,10 +71,10 @@ list-set-requires c κs =
     let e = c.before.before.before.before.before.before.before.before.before.before.set_at.ensures in
     let f = below c.before.before.before.before.before.before.before.before.before in
     let g = base c.before.before.before.before.before.before.before.before.before.before.before.before.before in (
-      (p.0.0, p.0.3.valid, p.0.1, c.before.before.before.before.before.before.before.before.before.before.before.before.before.before.before.read-columns.ensures, omega (arith, f, full-lt c.before.before.before.before.before.before.before.before.before.before.before.before.before.before.before.before.before.before.before.before.before.before.before.before.before.args.dims), filling-shorter (few c.before.before.before.before.before.before.before.before.before.before.before.before.before) v.8 h e f),
+      (p.0.0, p.0.3.valid, p.0.1, c.before.before.before.before.before.before.before.before.before.before.before.before.before.before.before.read-columns.ensures, omega (arith, f, full-lt c.before.before.before.before.before.before.before.before.before.before.before.before.before.before.before.before.before.before.before.before.before.before.before.before.before.args.dims), filling_shorter (few c.before.before.before.before.before.before.before.before.before.before.before.before.before) v.8 h e f),
       (
         (omega (arith, v.0, p.1.0), omega (arith, v.1, p.1.1), v.5, v.6, v.7),
-        ((omega (arith, v.3), v.4, listing-lower g v.9 h e f), (omega (arith, v.2, p.1.2), v.9.short, listing-fit g v.9 h e f)),
+        ((omega (arith, v.3), v.4, listing_lower g v.9 h e f), (omega (arith, v.2, p.1.2), v.9.short, listing_fit g v.9 h e f)),
       ),
     )
 
@@ -93,7 +93,7 @@ add-cells c = omega (arith, listing-few (base c.before.before.before.before.befo
 loop-again-2 : tie.Need-loop-preserved-2 invariant-loop decreases-loop
 loop-again-2 c =
     let v = c.before.before.before.before.before.before.before.before.before.before.before.before.before.before.before.before.before.before.before.before.before.before.before.before.loop.invariant in
-    (search rules, search rules, search rules, search rules, search rules, search rules, search rules, search rules, filling-more (few c.before.before.before.before.before.before.before.before.before.before.before.before.before.before.before.before.before.before.before.before.before.before.before.before.before) v.8 c.before.before.before.before.before.before.before.before.before.before.before.before.before.before.before.before.before.before.before.before.before.before.before.loop-test.true c.before.before.before.before.before.before.before.before.before.before.before.before.before.before.before.before.before.before.before.before.before.before.set_at.ensures (below c.before.before.before.before.before.before.before.before.before.before.before.before.before.before.before.before.before.before.before.before.before) c.before.before.before.before.before.before.before.before.before.before.before.List-set_of_Decides.ensures.0, next c)
+    (search rules, search rules, search rules, search rules, search rules, search rules, search rules, search rules, filling_more (few c.before.before.before.before.before.before.before.before.before.before.before.before.before.before.before.before.before.before.before.before.before.before.before.before.before) v.8 c.before.before.before.before.before.before.before.before.before.before.before.before.before.before.before.before.before.before.before.before.before.before.before.loop-test.true c.before.before.before.before.before.before.before.before.before.before.before.before.before.before.before.before.before.before.before.before.before.before.set_at.ensures (below c.before.before.before.before.before.before.before.before.before.before.before.before.before.before.before.before.before.before.before.before.before) c.before.before.before.before.before.before.before.before.before.before.before.List-set_of_Decides.ensures.0, next c)
 
 -- the lists and the common cells when all sets had their turn, and how many cells there are then
 one : (n : ℕ) → blanks n ≤ 1
@@ -111,7 +111,7 @@ returns c =
     let a = c.before.before.before.before.before.before.before.before.before.before.before.before.before.before.before.args in
     let v = c.before.before.loop.invariant in
     let r = listing-done (base c.before.before.before) v.9 c.before.loop-test.false in (
-      filling-done (few c.before.before.before) v.8 c.before.loop-test.false,
+      filling_done (few c.before.before.before) v.8 c.before.loop-test.false,
       ((r.0, v.9.short), ap₂ ◌+◌ (c.blanks.ensures ∙ ap blanks (sym (cut-length a.dims a.n a.rows.now))) r.1 ∙ sym (normals-count (plain a.dims) (cut a.dims a.n a.rows.now))),
     )
 

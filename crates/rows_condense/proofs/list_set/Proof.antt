@@ -9,19 +9,19 @@ use lib.Dec.{eqb}
 use lib.ListN.{length, get_or, take}
 use lib.Seq.{length-take-le}
 use Rattle.lists.specs.Lists.{some, keep}
-use Rattle.lists.proofs.Members.{at_in, keep-in}
+use Rattle.lists.proofs.Members.{at_in, keep_in}
 use Rattle.rows.specs.Rows.{cut}
 use Rattle.rows_bits.specs.Rowsets.{has}
 use Rattle.rows_deals.specs.Deals.{Names}
 use Rattle.rows_order.specs.Index.{key}
 use Rattle.rows_slots.specs.Slots.{crowds, packed}
 use Rattle.rows_slots.proofs.Entries.{flat-few, slot-length}
-use Rattle.rows_crowds.specs.Crowds.{leftOut, ends}
+use Rattle.rows_crowds.specs.Crowds.{left_out, ends}
 use Rattle.rows_crowds.proofs.Filling.{below_all}
 use Rattle.rows_crowds.proofs.Left.{left_in}
 use Rattle.rows_lists.specs.Lists.{lists_of, Fit, noted}
-use Rattle.rows_alone.specs.Alone.{isNew}
-use Rattle.rows_condense.proofs.Alone.{lower-passing, lower-new, lower-told}
+use Rattle.rows_alone.specs.Alone.{is_new}
+use Rattle.rows_condense.proofs.Alone.{lower_passing, lower_new, lower_told}
 use borrow.Author.Rules.{rules}
 use Rattle.rows_condense.proofs.list_set.Statement.{statement}
 use Rattle.rows_condense.proofs.list_set.Tie as tie
@@ -36,20 +36,20 @@ fill-set-requires : tie.Need-fill-set-requires
 fill-set-requires c κs =
     let p = c.before.before.before.before.before.before.before.before.before.before.before.before.before.before.before.before.before.before.before.before.before.requires in
     let r = c.before.before.before.before.before.before.before.before.pass-rows in
-    ((p.0.0, omega arith, omega arith, p.0.1), (p.1.0, (p.0.2, p.0.3, p.0.4, lower-passing p.1.1.0.2 r.new.1.1.0 r.ensures.1 r.ensures.0, p.0.5)))
+    ((p.0.0, omega arith, omega arith, p.0.1), (p.1.0, (p.0.2, p.0.3, p.0.4, lower_passing p.1.1.0.2 r.new.1.1.0 r.ensures.1 r.ensures.0, p.0.5)))
 
 -- the rows that come out alone
 abbrev new : (c : tie.After-fill-set) → List ℕ
-new c = let a = c.before.before.before.before.before.before.before.before.before.before.before.before.before.before.before.before.before.before.before.before.before.before.args in keep (isNew a.alone.now a.set) (leftOut 2 (cut a.dims a.n a.rows.now) a.n a.set)
+new c = let a = c.before.before.before.before.before.before.before.before.before.before.before.before.before.before.before.before.before.before.before.before.before.before.args in keep (is_new a.alone.now a.set) (left_out 2 (cut a.dims a.n a.rows.now) a.n a.set)
 
 new-there : (c : tie.After-fill-set) → take c.fill-set.result c.fill-set.new.1.1.1.1.1.1.1.1.1.1.1.0 ≡ new c
-new-there c = let r = c.before.before.before.before.before.before.before.before.before.pass-rows in c.fill-set.ensures.1.0 ∙ lower-new c.before.before.before.before.before.before.before.before.before.before.before.before.before.before.before.before.before.before.before.before.before.before.requires.1.1.0.2 r.new.1.1.0 r.ensures.1
+new-there c = let r = c.before.before.before.before.before.before.before.before.before.pass-rows in c.fill-set.ensures.1.0 ∙ lower_new c.before.before.before.before.before.before.before.before.before.before.before.before.before.before.before.before.before.before.before.before.before.before.requires.1.1.0.2 r.new.1.1.0 r.ensures.1
 
 new-named : (c : tie.After-fill-set) → Names (new c) c.before.before.before.before.before.before.before.before.before.before.before.before.before.before.before.before.before.before.before.before.before.before.args.n
 new-named c i h =
     let a = c.before.before.before.before.before.before.before.before.before.before.before.before.before.before.before.before.before.before.before.before.before.before.args in
     let xs = cut a.dims a.n a.rows.now in
-    (left_in 2 xs a.n a.set (get_or (new c) i 0) (keep-in (isNew a.alone.now a.set) (leftOut 2 xs a.n a.set) (at_in 0 (new c) i h)).0).0
+    (left_in 2 xs a.n a.set (get_or (new c) i 0) (keep_in (is_new a.alone.now a.set) (left_out 2 xs a.n a.set) (at_in 0 (new c) i h)).0).0
 
 slice-reshare-prefix-new : tie.Need-slice-reshare-prefix-new
 slice-reshare-prefix-new c =
@@ -115,7 +115,7 @@ returns c =
     let n : (x : ℕ) → has w.new.1.0 x ≡ some (eqb x) (new f) || has passed x = λ x. w.ensures.1 x ∙ ap (λ (l : List ℕ). some (eqb x) l || has passed x) (new-there f) in (
       f.fill-set.ensures.0,
       (
-        lower-told c.before.before.before.before.before.before.before.before.before.before.before.before.before.before.before.before.before.before.before.before.before.before.before.before.before.before.before.before.before.before.before.before.before.before.before.before.before.before.before.before.before.before.before.before.before.before.before.before.before.before.requires.1.1.0.2 passed r.ensures.1 w.new.1.0 c.before.before.before.before.before.before.put-words.new.1.1.0 n c.before.before.before.before.before.before.put-words.ensures,
+        lower_told c.before.before.before.before.before.before.before.before.before.before.before.before.before.before.before.before.before.before.before.before.before.before.before.before.before.before.before.before.before.before.before.before.before.before.before.before.before.before.before.before.before.before.before.before.before.before.before.before.before.before.requires.1.1.0.2 passed r.ensures.1 w.new.1.0 c.before.before.before.before.before.before.put-words.new.1.1.0 n c.before.before.before.before.before.before.put-words.ensures,
         ((m.0 ∙ ap (λ (l : List ℕ). noted a.set l (lists_of a.n a.lists.now)) (new-there f), m.1), c.count-groups.ensures ∙ ap ends (filled c.before)),
       ),
     )

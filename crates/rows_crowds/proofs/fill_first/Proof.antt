@@ -3,7 +3,7 @@ use mathlib.Core.Path.{◌≡◌, refl, sym, ◌∙◌}
 use native.Mathlib.Omega.{arith}
 use lib.ListN.{length}
 use lib.Seq.{length-take-le}
-use Rattle.rows_crowds.specs.Crowds.{leftOut}
+use Rattle.rows_crowds.specs.Crowds.{left_out}
 use Rattle.rows_crowds.proofs.Filling.{filled}
 use borrow.Author.Rules.{rules}
 use Rattle.rows_crowds.proofs.fill_first.Statement.{statement}
@@ -22,7 +22,7 @@ first-slot-requires c κs =
     (p.0, (sym (slice-aggregate-first-slot c.before.before.before), sym (slice-aggregate-first-slot-2 c.before.before), omega (arith, p.0.0, length-take-le 1024 a.store.now (omega (arith, p.1.0))), omega (arith, p.0.0, p.1.4)))
 
 returns : tie.Need-returns
-unfolding leftOut
+unfolding left_out
 returns c =
     let a = c.before.before.before.before.before.before.before.before.before.before.before.before.before.before.before.before.before.before.before.args in
     let p = c.before.before.before.before.before.before.before.before.before.before.before.before.before.before.before.before.before.before.before.requires in

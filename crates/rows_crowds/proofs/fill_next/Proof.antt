@@ -9,12 +9,12 @@ use lib.ListN.{length, get_or, take, drop}
 use lib.Seq.{length-take-le, take-append-le, take_all}
 use Rattle.lists.specs.Lists.{◌∈◌}
 use Rattle.rows_bits.specs.Rowsets.{stays}
-use Rattle.rows_slots.specs.Slots.{rowIn, out, markIn}
+use Rattle.rows_slots.specs.Slots.{row_in, out, mark_in}
 use Rattle.rows_columns.specs.Columns.{part}
 use Rattle.rows_crowds.specs.Crowds.{place, shorter, Holds}
-use Rattle.rows_crowds.proofs.Shorter.{shorter-zeros, shorter-power, shorter-place}
+use Rattle.rows_crowds.proofs.Shorter.{shorter_zeros, shorter_power, shorter-place}
 use Rattle.rows_crowds.proofs.Column.{turn_small, turn-column}
-use Rattle.rows_crowds.proofs.Filling.{below_all, Next, next-few, next-slot, next-rising, next-names, next-kept, next-left, filled}
+use Rattle.rows_crowds.proofs.Filling.{below_all, Next, next-few, next-slot, next-rising, next-names, next_kept, next-left, filled}
 use borrow.Author.Rules.{rules}
 use Rattle.rows_crowds.proofs.fill_next.Statement.{statement}
 use Rattle.rows_crowds.proofs.fill_next.Tie as tie
@@ -28,13 +28,13 @@ last : (c : tie.After-slice-known5) → place c.before.before.before.before.befo
 last c = let p = c.before.before.before.before.before.before.before.before.requires.1.1 in shorter-place c.before.before.before.before.before.before.before.before.args.set p.2 (low c) c.before.before.before.before.before.before.before.before.args.dims p.3
 
 sub-d : tie.Need-overflow-sub-d
-sub-d c = shorter-zeros c.before.before.before.before.before.before.before.before.args.set c.before.before.before.before.before.before.before.before.requires.1.1.2 (low c)
+sub-d c = shorter_zeros c.before.before.before.before.before.before.before.before.args.set c.before.before.before.before.before.before.before.before.requires.1.1.2 (low c)
 
 sets-of-requires : tie.Need-sets-of-requires
 sets-of-requires c κs = omega (arith, last c, c.before.before.before.before.before.before.before.before.requires.1.1.0)
 
 sub-shorter : tie.Need-overflow-sub-shorter
-sub-shorter c = omega (arith, c.sets_of.ensures, shorter-power c.before.before.before.before.before.before.before.before.before.args.set c.before.before.before.before.before.before.before.before.before.requires.1.1.2 (low c.before))
+sub-shorter c = omega (arith, c.sets_of.ensures, shorter_power c.before.before.before.before.before.before.before.before.before.args.set c.before.before.before.before.before.before.before.before.before.requires.1.1.2 (low c.before))
 
 -- the set without it
 less : (c : tie.After-sets-of) → c.before.before.before.before.before.before.before.before.before.args.set - c.sets_of.result ≡ shorter c.before.before.before.before.before.before.before.before.before.args.set
@@ -68,8 +68,8 @@ next c =
         small = low c.before.before.before.before.before.before;
         within = p.1.1.3;
         told = p.1.1.1;
-        is-column = c.before.column-of.ensures;
-        is-rising = c.column-of2.ensures;
+        is_column = c.before.column-of.ensures;
+        is_rising = c.column-of2.ensures;
         passing = p.1.1.4;
       };
       held = p.1.1.5;
@@ -118,7 +118,7 @@ part-pack-groups-end c = omega (arith, low c.before.before.before.before.before.
 front : (l m : List ℕ) (k : ℕ) → length l ≡ k → take k (l ++ m) ≡ l
 front l m k e = take-append-le k l m (omega (arith, e)) ∙ take_all k l (omega (arith, e))
 
-marked : (p : ℕ → Bool) (column old l m : List ℕ) (k : ℕ) → length l ≡ k → ((y : ℕ) → y ∈ map rowIn old → get_or l y 0 ≡ markIn p column 0 0 old y out) → (y : ℕ) → y ∈ map rowIn old → get_or (take k (l ++ m)) y 0 ≡ markIn p column 0 0 old y out
+marked : (p : ℕ → Bool) (column old l m : List ℕ) (k : ℕ) → length l ≡ k → ((y : ℕ) → y ∈ map row_in old → get_or l y 0 ≡ mark_in p column 0 0 old y out) → (y : ℕ) → y ∈ map row_in old → get_or (take k (l ++ m)) y 0 ≡ mark_in p column 0 0 old y out
 marked p column old l m k e h y i = ap (λ (z : List ℕ). get_or z y 0) (front l m k e) ∙ h y i
 
 pack-groups-requires : tie.Need-pack-groups-requires
@@ -160,7 +160,7 @@ returns c =
     let w : a.set * 1024 + 1024 - a.set * 1024 ≡ 1024 = omega arith in
     let len : length r.new.1.1.1.0 ≡ a.set * 1024 + 1024 - a.set * 1024 = r.auto.1.1.1.0 ∙ mid_len (a.set * 1024) (a.set * 1024 + 1024) a.store.now (part-pack-groups-end c.before.before.before.before.before.before.before) in (
       filled a.least a.dims a.n a.rows.now a.store.now a.sizes.now r.new.1.1.1.0 a.set (a.set * 1024) (a.set * 1024 + 1024 - a.set * 1024) r.result.len p.0.0 (low c.before.before.before.before.before.before.before.before.before.before.before.before.before.before.before.before.before.before.before.before.before.before.before.before.before) p.1.0.0 p.1.0.1 refl len w
-          (omega (arith, r.ensures.1.1.0, n, s.ensures.0.1, few)) (r.ensures.0 ∙ next-kept x order marks s.ensures.0.0 h),
+          (omega (arith, r.ensures.1.1.0, n, s.ensures.0.1, few)) (r.ensures.0 ∙ next_kept x order marks s.ensures.0.0 h),
       (r.ensures.1.0 ∙ next-left x order marks s.ensures.0.0 h, omega (arith, r.ensures.1.1.1, n, s.ensures.0.1, few)),
     )
 

@@ -7,7 +7,7 @@ use lib.ListN.{length}
 use Rattle.rows_order.proofs.Arranged.{arranged-length}
 use Rattle.rows_slots.specs.Slots.{code_in}
 use Rattle.rows_crowds.specs.Crowds.{place}
-use Rattle.rows_crowds.proofs.Shorter.{shorter-zeros, shorter-place}
+use Rattle.rows_crowds.proofs.Shorter.{shorter_zeros, shorter-place}
 use Rattle.rows_crowds.proofs.Column.{Turn, turn-column, turn-rising, one-names, one_kept, one_left}
 use Rattle.rows_crowds.proofs.Filling.{below_all, filled}
 use borrow.Author.Rules.{rules}
@@ -23,7 +23,7 @@ last : (c : tie.After-slice-known3) → place c.before.before.before.before.befo
 last c = let p = c.before.before.before.before.before.before.requires.1.1 in shorter-place c.before.before.before.before.before.before.args.set p.2 (low c) c.before.before.before.before.before.before.args.dims p.3
 
 sub-d : tie.Need-overflow-sub-d
-sub-d c = shorter-zeros c.before.before.before.before.before.before.args.set c.before.before.before.before.before.before.requires.1.1.2 (low c)
+sub-d c = shorter_zeros c.before.before.before.before.before.before.args.set c.before.before.before.before.before.before.requires.1.1.2 (low c)
 
 column-of-requires : tie.Need-column-of-requires
 column-of-requires c κs = let p = c.before.before.before.before.before.before.requires in (p.1.1.1.room, omega (arith, last c, p.1.1.0), p.0.0)
@@ -44,8 +44,8 @@ turn c =
       small = low c.before.before;
       within = p.1.1.3;
       told = p.1.1.1;
-      is-column = c.before.column-of.ensures;
-      is-rising = c.column-of2.ensures;
+      is_column = c.before.column-of.ensures;
+      is_rising = c.column-of2.ensures;
       passing = p.1.1.4;
     }
 

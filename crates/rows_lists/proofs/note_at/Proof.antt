@@ -1,7 +1,7 @@
 -- `rows_lists::note_at` meets its contract: the set is written behind the row's list, and the other lists stand elsewhere.
 use native.Mathlib.Omega.{arith}
 use lib.ListN.{length-set}
-use Rattle.rows_lists.proofs.Lists.{lists-put, short-put}
+use Rattle.rows_lists.proofs.Lists.{lists_put, short_put}
 use borrow.Author.Rules.{rules}
 use Rattle.rows_lists.proofs.note_at.Statement.{statement}
 use Rattle.rows_lists.proofs.note_at.Tie as tie
@@ -13,7 +13,7 @@ returns : tie.Need-returns
 returns c =
     let a = c.before.args in
     let p = c.before.requires in
-    (lists-put a.n a.row a.set a.lists.now p.0 p.1 p.2 p.3, short-put a.n a.row a.set a.lists.now p.0 p.1 p.2 p.3)
+    (lists_put a.n a.row a.set a.lists.now p.0 p.1 p.2 p.3, short_put a.n a.row a.set a.lists.now p.0 p.1 p.2 p.3)
 
 pub note-at-spec : {M : Type 1} → statement M
 note-at-spec =

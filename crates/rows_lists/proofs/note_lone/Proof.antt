@@ -5,7 +5,7 @@ use native.Mathlib.Omega.{arith}
 use lib.ListN.{length, get_or, drop}
 use Rattle.rows_lists.specs.Lists.{lists_of, Short, noted}
 use Rattle.rows_lists.proofs.Lists.{lists_length, list_length}
-use Rattle.rows_lists.proofs.Noted.{noting-more, noting-room, noting-done}
+use Rattle.rows_lists.proofs.Noted.{noting_more, noting_room, noting_done}
 use borrow.Author.Rules.{rules}
 use Rattle.rows_lists.proofs.note_lone.Statement.{statement}
 use Rattle.rows_lists.proofs.note_lone.Tie as tie
@@ -37,7 +37,7 @@ note-at-requires c κs =
       room,
       h,
       v.2,
-      rw (← list_length a.n row l.lists h room v.2) (noting-room a.set a.lone.now (lists_of a.n l.lists) _ l.i t v.3 (rw lists_length h) p.1),
+      rw (← list_length a.n row l.lists h room v.2) (noting_room a.set a.lone.now (lists_of a.n l.lists) _ l.i t v.3 (rw lists_length h) p.1),
     )
 
 loop-again : tie.Need-loop-preserved invariant-loop decreases-loop
@@ -45,13 +45,13 @@ loop-again c =
     let a = c.before.before.before.before.before.before.before.before.before.args in
     let l = c.before.before.before.before.before.before.loop in
     let r = c.before.before.note-at.ensures in
-    (search rules, search rules, r.1, noting-more a.set a.lone.now (lists_of a.n l.lists) _ l.i c.before.before.before.before.before.loop-test.true l.invariant.3 r.0)
+    (search rules, search rules, r.1, noting_more a.set a.lone.now (lists_of a.n l.lists) _ l.i c.before.before.before.before.before.loop-test.true l.invariant.3 r.0)
 
 returns : tie.Need-returns invariant-loop decreases-loop
 returns c =
     let a = c.before.before.before.before.args in
     let l = c.before.loop in
-    (noting-done a.set a.lone.now (lists_of a.n l.lists) _ l.i c.loop-test.false l.invariant.3, l.invariant.2)
+    (noting_done a.set a.lone.now (lists_of a.n l.lists) _ l.i c.loop-test.false l.invariant.3, l.invariant.2)
 
 pub note-lone-spec : {M : Type 1} → statement M
 note-lone-spec =

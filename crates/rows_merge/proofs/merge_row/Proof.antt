@@ -7,7 +7,7 @@ use Rattle.cube.specs.Measure.{plus}
 use Rattle.rows.specs.Rows.{cut}
 use Rattle.rows_merge.specs.declared.Turn.TheVariants.{First, Second, Both}
 use Rattle.rows_merge.specs.Turns.{turn}
-use Rattle.rows_merge.proofs.Pass.{store-room, pair-adds, turn-first, turn-second, turn-both, passed_first, passed-second, passed-both}
+use Rattle.rows_merge.proofs.Pass.{store_room, pair_adds, turn-first, turn-second, turn-both, passed_first, passed_second, passed_both}
 use borrow.Author.Rules.{rules}
 use Rattle.rows_merge.proofs.merge_row.Statement.{statement}
 use Rattle.rows_merge.proofs.merge_row.Tie as tie
@@ -40,7 +40,7 @@ total-at-requires c κs = row-of-requires c.before κs
 put-row-requires : tie.Need-put-row-requires
 put-row-requires c κs =
     let s = c.before.before.before.before.before.before.before.before.before in
-    rw c.before.before.row_of.ensures.1 (omega (arith, store-room s.args.dims s.args.k s.requires.0.0.one.dims s.requires.1.0.1, s.requires.1.0.0))
+    rw c.before.before.row_of.ensures.1 (omega (arith, store_room s.args.dims s.args.k s.requires.0.0.one.dims s.requires.1.0.1, s.requires.1.0.0))
 
 add-t23 : tie.Need-overflow-add-t23
 add-t23 c = omega (arith, first-left c.before.before.before.before.before.before, c.before.before.before.before.before.before.before.before.before.before.before.before.requires.0.0.one.few)
@@ -54,7 +54,7 @@ total-at-requires-2 c κs = row-of-requires-2 c.before κs
 put-row-requires-2 : tie.Need-put-row-requires-2
 put-row-requires-2 c κs =
     let s = c.before.before.before.before.before.before.before.before.before in
-    rw c.before.before.row-of2.ensures.1 (omega (arith, store-room s.args.dims s.args.k s.requires.0.0.one.dims s.requires.1.0.1, s.requires.1.0.0))
+    rw c.before.before.row-of2.ensures.1 (omega (arith, store_room s.args.dims s.args.k s.requires.0.0.one.dims s.requires.1.0.1, s.requires.1.0.0))
 
 add-t27 : tie.Need-overflow-add-t27
 add-t27 c = omega (arith, second-left c.before.before.before.before.before.before, c.before.before.before.before.before.before.before.before.before.before.before.before.requires.0.0.other.few)
@@ -72,12 +72,12 @@ plus-requires : tie.Need-plus-requires
 plus-requires c κs =
     let s = c.before.before.before.before.before.before.before.before.before in
     let h = both_left c.before.before.before in
-    rw (c.total-at4.ensures, c.before.total-at3.ensures) (pair-adds s.requires.0.0 s.args.i s.args.j h.0 h.1)
+    rw (c.total-at4.ensures, c.before.total-at3.ensures) (pair_adds s.requires.0.0 s.args.i s.args.j h.0 h.1)
 
 put-row-requires-3 : tie.Need-put-row-requires-3
 put-row-requires-3 c κs =
     let s = c.before.before.before.before.before.before.before.before.before.before.before in
-    rw c.before.before.before.before.row-of3.ensures.1 (omega (arith, store-room s.args.dims s.args.k s.requires.0.0.one.dims s.requires.1.0.1, s.requires.1.0.0))
+    rw c.before.before.before.before.row-of3.ensures.1 (omega (arith, store_room s.args.dims s.args.k s.requires.0.0.one.dims s.requires.1.0.1, s.requires.1.0.0))
 
 add-t31 : tie.Need-overflow-add-t31
 add-t31 c = omega (arith, (both_left c.before.before.before.before.before.before.before.before).0, c.before.before.before.before.before.before.before.before.before.before.before.before.before.before.requires.0.0.one.few)
@@ -95,14 +95,14 @@ returns-2 : tie.Need-returns-2
 returns-2 c =
     let s = c.before.before.before.before.before.before.before.before.before.before.before.before in
     let r = c.before.before.before.before.before.row-of2.ensures in
-    (passed-second s.requires.0.0 s.args.i s.args.j s.requires.1.1 (rw r.1 at c.before.before.put-row2.ensures) (second c.before.before.before.before.before.before) (second-left c.before.before.before.before.before.before) r.0 c.before.before.before.before.total-at2.ensures, omega arith)
+    (passed_second s.requires.0.0 s.args.i s.args.j s.requires.1.1 (rw r.1 at c.before.before.put-row2.ensures) (second c.before.before.before.before.before.before) (second-left c.before.before.before.before.before.before) r.0 c.before.before.before.before.total-at2.ensures, omega arith)
 
 returns-3 : tie.Need-returns-3
 returns-3 c =
     let s = c.before.before.before.before.before.before.before.before.before.before.before.before.before.before in
     let r = c.before.before.before.before.before.before.before.row-of3.ensures in
     let t = c.before.before.before.before.plus.ensures ∙ ap₂ plus c.before.before.before.before.before.before.total-at3.ensures c.before.before.before.before.before.total-at4.ensures in
-    (passed-both s.requires.0.0 s.args.i s.args.j s.requires.1.1 (rw r.1 at c.before.before.put-row3.ensures) (two c.before.before.before.before.before.before.before.before) r.0 t, omega arith)
+    (passed_both s.requires.0.0 s.args.i s.args.j s.requires.1.1 (rw r.1 at c.before.before.put-row3.ensures) (two c.before.before.before.before.before.before.before.before) r.0 t, omega arith)
 
 pub merge-row-spec : {M : Type 1} → statement M
 merge-row-spec =

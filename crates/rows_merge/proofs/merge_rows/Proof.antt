@@ -5,7 +5,7 @@ use native.Mathlib.Omega.{arith}
 use lib.ListN.{length}
 use Rattle.rows.specs.Rows.{rows_of}
 use Rattle.rows_merge.specs.Pass.{Passed}
-use Rattle.rows_merge.proofs.Pass.{passed_start, passed_over, passed-done}
+use Rattle.rows_merge.proofs.Pass.{passed_start, passed_over, passed_done}
 use borrow.Author.Rules.{rules}
 use Rattle.rows_merge.proofs.merge_rows.Statement.{statement}
 use Rattle.rows_merge.proofs.merge_rows.Tie as tie
@@ -56,7 +56,7 @@ same-length-2 : tie.Need-same-length-2 invariant-loop decreases-loop
 same-length-2 c = c.before.loop.invariant.0
 
 returns-2 : tie.Need-returns-2 invariant-loop decreases-loop
-returns-2 c = passed-done c.before.before.before.before.before.requires.0 c.before.loop.invariant.2 c.before.loop.invariant.1 c.loop-test.false
+returns-2 c = passed_done c.before.before.before.before.before.requires.0 c.before.loop.invariant.2 c.before.loop.invariant.1 c.loop-test.false
 
 pub merge-rows-spec : {M : Type 1} → statement M
 merge-rows-spec =

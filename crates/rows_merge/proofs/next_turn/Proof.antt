@@ -4,9 +4,9 @@ use Prim.Native.Nat.{◌<◌}
 use native.Mathlib.Omega.{arith}
 use lib.ListN.{length, drop}
 use Rattle.rows.specs.Rows.{cut}
-use Rattle.rows_compare.specs.Compare.{isBefore, isEqual}
+use Rattle.rows_compare.specs.Compare.{is_before, is_equal}
 use Rattle.rows.proofs.Rows.{cut-length}
-use Rattle.rows_merge.specs.Turns.{turnBy, turn}
+use Rattle.rows_merge.specs.Turns.{turn_by, turn}
 use Rattle.rows_merge.proofs.Turns.{turn-none, turn-only, turn-compared}
 use borrow.Author.Rules.{rules}
 use Rattle.rows_merge.proofs.next_turn.Statement.{statement}
@@ -29,7 +29,7 @@ returns-2 c =
 -- what the comparison told settles the turn
 told : (c : tie.After-compare)
     → (let a = c.before.before.before.before.before.before.before.args in
-    turn (drop a.i (cut a.dims a.n a.first.now)) (drop a.j (cut a.dims a.m a.second.now)) ≡ turnBy (isBefore c.compare.result) (isEqual c.compare.result))
+    turn (drop a.i (cut a.dims a.n a.first.now)) (drop a.j (cut a.dims a.m a.second.now)) ≡ turn_by (is_before c.compare.result) (is_equal c.compare.result))
 told c =
     let s = c.before.before.before.before.before.before.before in
     let a = s.args in
@@ -39,13 +39,13 @@ told c =
     (omega (arith, cut-length a.dims a.m a.second.now, c.before.before.before.if2.false, s.requires.4)) r.0 q.0 (omega (arith, r.1, s.requires.2)) (omega (arith, q.1, s.requires.2)) c.compare.ensures
 
 returns-3 : tie.Need-returns-3
-returns-3 c = sym (told c.before.before ∙ ap (λ o. turnBy (isBefore o) (isEqual o)) c.enum_told.given.1)
+returns-3 c = sym (told c.before.before ∙ ap (λ o. turn_by (is_before o) (is_equal o)) c.enum_told.given.1)
 
 returns-4 : tie.Need-returns-4
-returns-4 c = sym (told c.before.before ∙ ap (λ o. turnBy (isBefore o) (isEqual o)) c.enum-told2.given.1)
+returns-4 c = sym (told c.before.before ∙ ap (λ o. turn_by (is_before o) (is_equal o)) c.enum-told2.given.1)
 
 returns-5 : tie.Need-returns-5
-returns-5 c = sym (told c.before.before ∙ ap (λ o. turnBy (isBefore o) (isEqual o)) c.enum-told3.given.1)
+returns-5 c = sym (told c.before.before ∙ ap (λ o. turn_by (is_before o) (is_equal o)) c.enum-told3.given.1)
 
 pub next-turn-spec : {M : Type 1} → statement M
 next-turn-spec =

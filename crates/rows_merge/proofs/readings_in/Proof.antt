@@ -8,14 +8,14 @@ use lib.ListN.{drop, drop_of_length-le}
 use lib.Seq.{drop-cons}
 use borrow.Author.Rules.{rules}
 use Rattle.cube.specs.Bounds.{count_of}
-use Rattle.rows.specs.Rows.{rows_of, rowTotal}
+use Rattle.rows.specs.Rows.{rows_of, row_total}
 use Rattle.rows.proofs.Flat.{blank, rows-length}
 use Rattle.rows_merge.proofs.readings_in.Statement.{statement}
 use Rattle.rows_merge.proofs.readings_in.Tie as tie
 
 -- the readings of row i, and of the rows behind it
-count_next : (d n i : ℕ) (ws : List ℕ) → i < n → count_of (drop i (rows_of d n ws)) ≡ (rowTotal d n ws i).count + count_of (drop (i + 1) (rows_of d n ws))
-unfolding rowTotal
+count_next : (d n i : ℕ) (ws : List ℕ) → i < n → count_of (drop i (rows_of d n ws)) ≡ (row_total d n ws i).count + count_of (drop (i + 1) (rows_of d n ws))
+unfolding row_total
 count_next d n i ws h = rw (add-one, drop-cons (rows_of d n ws) i blank (rw (rows-length d n ws) h))
 
 count_none : (d n i : ℕ) (ws : List ℕ) → n ≤ i → count_of (drop i (rows_of d n ws)) ≡ 0

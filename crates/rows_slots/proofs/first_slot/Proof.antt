@@ -4,7 +4,7 @@ use mathlib.Core.Bool.{true}
 use native.Mathlib.Omega.{arith}
 use Rattle.rows_deals.specs.Deals.{Names}
 use Rattle.rows_order.proofs.Numbers.{numbered}
-use Rattle.rows_slots.specs.Slots.{code_in, slotFrom, loneFrom}
+use Rattle.rows_slots.specs.Slots.{code_in, slot_from, lone_from}
 use Rattle.rows_slots.proofs.Whole.{slot-none, lone-none}
 use borrow.Author.Rules.{rules}
 use Rattle.rows_slots.proofs.first_slot.Statement.{statement}
@@ -33,9 +33,9 @@ returns c =
     let zeros = c.before.before.before.before.before.before.before.before.before.before.before.clear.ensures.1 in
     let all = numbered c.before.before.before.before.before.before.before.before.before.before.before.before.before.before.before.number-rows.new.0 a.n (o.0 ∙ p.1.0) o.1 in
     let r = c.before.before.before.before.pack-groups.ensures in (
-      r.0 ∙ ap (slotFrom (code_in column) a.least true) all ∙ slot-none a.dims a.n a.rows.now column p.0.3 a.least p.0.1 p.0.2 zeros,
+      r.0 ∙ ap (slot_from (code_in column) a.least true) all ∙ slot-none a.dims a.n a.rows.now column p.0.3 a.least p.0.1 p.0.2 zeros,
       (
-        r.1.0 ∙ ap (loneFrom (code_in column) a.least true) all ∙ lone-none a.dims a.n a.rows.now column p.0.3 a.least p.0.1 p.0.2 zeros,
+        r.1.0 ∙ ap (lone_from (code_in column) a.least true) all ∙ lone-none a.dims a.n a.rows.now column p.0.3 a.least p.0.1 p.0.2 zeros,
         (omega (arith, r.1.1.0, o.0, p.1.0), omega (arith, r.1.1.1, o.0, p.1.0)),
       ),
     )

@@ -4,7 +4,7 @@ use Prim.Native.Nat.{◌+◌, ◌-◌, ◌≤◌}
 use native.Mathlib.Omega.{arith}
 use lib.ListN.{length, length-set, drop_of_length-le}
 use Rattle.rows_slots.specs.Slots.{code_in}
-use Rattle.rows_slots.proofs.Steps.{Listing, closes-next, closes-end, listing-more, listing-done}
+use Rattle.rows_slots.proofs.Steps.{Listing, closes-next, closes_end, listing-more, listing-done}
 use borrow.Author.Rules.{rules}
 use Rattle.rows_slots.proofs.pack_all.Statement.{statement}
 use Rattle.rows_slots.proofs.pack_all.Tie as tie
@@ -53,7 +53,7 @@ returns-2 c =
     let all : l.i ≡ end = omega (arith, l.invariant.0, c.before.before.loop-test.false) in
     listing-done key order
     (subst (Listing key order _) some
-    (listing-more key order (subst (Listing key order l.slot) all l.invariant.2) (omega (arith, some)) (omega (arith, some, l.invariant.1, c.before.before.before.before.before.before.before.before.requires.2)) (closes-end key order _ (end + 1) (omega (arith, some))) c.entry_of.ensures))
+    (listing-more key order (subst (Listing key order l.slot) all l.invariant.2) (omega (arith, some)) (omega (arith, some, l.invariant.1, c.before.before.before.before.before.before.before.before.requires.2)) (closes_end key order _ (end + 1) (omega (arith, some))) c.entry_of.ensures))
 
 pub pack-all-spec : {M : Type 1} → statement M
 pack-all-spec =

@@ -5,7 +5,7 @@ use Prim.Native.Nat.{◌+◌, ◌-◌, ◌≤◌}
 use native.Mathlib.Omega.{arith}
 use lib.ListN.{length, get_or, set, length-set, drop_of_length-le}
 use Rattle.rows_slots.specs.Slots.{code_in, staying}
-use Rattle.rows_slots.proofs.Steps.{closes-next, closes-end, Packing, packing-none, packing-more, packing-slot, packing-left}
+use Rattle.rows_slots.proofs.Steps.{closes-next, closes_end, Packing, packing_none, packing_more, packing_slot, packing_left}
 use borrow.Author.Rules.{rules}
 use Rattle.rows_slots.proofs.pack_shared.Statement.{statement}
 use Rattle.rows_slots.proofs.pack_shared.Tie as tie
@@ -23,7 +23,7 @@ returns c = let none = drop_of_length-le c.before.before.before.before.before.ar
 loop-holds : tie.Need-loop-init invariant-loop decreases-loop
 loop-holds c =
     let a = c.before.before.before.before.before.args in
-    (search rules, refl, refl, packing-none (code_in a.column.now) a.order.now a.slot.now a.lone.now)
+    (search rules, refl, refl, packing_none (code_in a.column.now) a.order.now a.slot.now a.lone.now)
 
 ends-group-requires : tie.Need-ends-group-requires invariant-loop decreases-loop
 ends-group-requires c κs = let p = c.before.before.before.before.before.before.before.before.before.requires.0 in (p.0 c.before.before.before.loop.i (search rules), p.0 (c.before.before.before.loop.i + 1) (search rules))
@@ -45,7 +45,7 @@ loop-again c =
       search rules,
       length-set l.slot _ _ ∙ l.invariant.1,
       length-set l.lone _ _ ∙ l.invariant.2,
-      packing-more key order l.invariant.3 (omega (arith, h)) (omega (arith, h, l.invariant.1, p.1.0)) (omega (arith, h, l.invariant.2, p.1.1))
+      packing_more key order l.invariant.3 (omega (arith, h)) (omega (arith, h, l.invariant.1, p.1.0)) (omega (arith, h, l.invariant.2, p.1.1))
           (c.before.before.before.ends-group.ensures ∙ closes-next key order _ (l.i + 1) (omega (arith, h))) c.before.before.entry_of.ensures (c.count-in.ensures ∙ ap (λ (b : Bool). staying (not b) l.len) c.before.is-lone.ensures),
     )
 
@@ -68,14 +68,14 @@ done c =
     let some : end + 1 ≡ length order = search rules in
     let all : l.i ≡ end = omega (arith, l.invariant.0, c.before.before.before.before.loop-test.false) in
     subst (Packing key order _ _ c.count-in2.result true) some
-    (packing-more key order (subst (Packing key order l.slot l.lone l.len l.first) all l.invariant.3) (omega (arith, some)) (omega (arith, some, l.invariant.1, p.1.0)) (omega (arith, some, l.invariant.2, p.1.1))
-    (closes-end key order _ (end + 1) (omega (arith, some))) c.before.before.entry-of2.ensures (c.count-in2.ensures ∙ ap (λ (b : Bool). staying (not b) l.len) c.before.is-lone2.ensures))
+    (packing_more key order (subst (Packing key order l.slot l.lone l.len l.first) all l.invariant.3) (omega (arith, some)) (omega (arith, some, l.invariant.1, p.1.0)) (omega (arith, some, l.invariant.2, p.1.1))
+    (closes_end key order _ (end + 1) (omega (arith, some))) c.before.before.entry-of2.ensures (c.count-in2.ensures ∙ ap (λ (b : Bool). staying (not b) l.len) c.before.is-lone2.ensures))
 
 returns-2 : tie.Need-returns-2 invariant-loop decreases-loop
 returns-2 c =
     let a = c.before.before.before.before.before.before.before.before.before.before.before.args in
     let key = code_in a.column.now in
-    (packing-slot key a.order.now (done c), (packing-left key a.order.now (done c), ((done c).few, search rules)))
+    (packing_slot key a.order.now (done c), (packing_left key a.order.now (done c), ((done c).few, search rules)))
 
 pub pack-shared-spec : {M : Type 1} → statement M
 pack-shared-spec =

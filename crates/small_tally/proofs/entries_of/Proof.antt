@@ -2,7 +2,7 @@
 use mathlib.Core.Path.{sym}
 use native.Mathlib.Omega.{arith}
 use lib.Seq.{length-take-le}
-use Rattle.fields.specs.WrittenLaws.{wrote-within}
+use Rattle.fields.specs.WrittenLaws.{wrote_within}
 use Rattle.small_tally.proofs.Entries.{rows-room, made-rows, made-entries}
 use borrow.Author.Rules.{rules}
 use Rattle.small_tally.proofs.entries_of.Statement.{statement}
@@ -12,10 +12,10 @@ put-table-requires : tie.Need-put-table-requires
 put-table-requires c κs = (omega (arith, c.before.requires), rows-room c.before.args.dims c.before.args.t c.before.requires)
 
 array-share-prefix-rows : tie.Need-array-share-prefix-rows
-array-share-prefix-rows c = wrote-within c.before.put-table.ensures
+array-share-prefix-rows c = wrote_within c.before.put-table.ensures
 
 slice-aggregate-rows-entries : tie.Need-slice-aggregate-rows-entries
-slice-aggregate-rows-entries c = sym (length-take-le _ _ (wrote-within c.before.before.put-table.ensures))
+slice-aggregate-rows-entries c = sym (length-take-le _ _ (wrote_within c.before.before.put-table.ensures))
 
 rows-entries-requires : tie.Need-rows-entries-requires
 rows-entries-requires c κs =

@@ -3,14 +3,14 @@ use mathlib.Core.Path.{◌≡◌, sym, ◌∙◌}
 use Prim.Native.Nat.{suc, ◌+◌, ◌*◌, ◌≤◌}
 use native.Mathlib.Omega.{arith}
 use lib.Seq.{length-take-le}
-use Rattle.small_model.specs.Tally.{mostEntries}
-use Rattle.small_tally.proofs.Tallies.{most-fits, zeros-front}
+use Rattle.small_model.specs.Tally.{most_entries}
+use Rattle.small_tally.proofs.Tallies.{most-fits, zeros_front}
 use borrow.Author.Rules.{rules}
 use Rattle.small_tally.proofs.put_line.Statement.{statement}
 use Rattle.small_tally.proofs.put_line.Tie as tie
 
 -- how many rows a table can have, and how many tallies there are
-sized : (c : tie.After-sets-of) → let m = c.sets_of.result in (m ≤ 8) × (m * m ≤ 64) × (m + m * m + 1 ≡ suc (mostEntries c.before.before.args.dims))
+sized : (c : tie.After-sets-of) → let m = c.sets_of.result in (m ≤ 8) × (m * m ≤ 64) × (m + m * m + 1 ≡ suc (most_entries c.before.before.args.dims))
 sized c = most-fits c.before.before.requires.0 c.sets_of.ensures
 
 mul-size : tie.Need-overflow-mul-size
@@ -32,7 +32,7 @@ put-tallied-requires : tie.Need-put-tallied-requires
 put-tallied-requires c κs =
     let p = c.before.before.before.before.requires in
     let m = c.before.before.sets_of.result in
-    ((p.0, sym (slice-aggregate-put-tallied c) ∙ (sized c.before.before).2, zeros-front (m + m * m + 1) 73), p.1)
+    ((p.0, sym (slice-aggregate-put-tallied c) ∙ (sized c.before.before).2, zeros_front (m + m * m + 1) 73), p.1)
 
 pub put-line-spec : {M : Type 1} → statement M
 put-line-spec =

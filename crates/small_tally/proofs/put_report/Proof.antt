@@ -1,6 +1,6 @@
 -- `small_tally::put_report` meets its contract: one line after the other.
 use Rattle.fields.specs.WrittenLaws.{wrote_then}
-use Rattle.small_lines.proofs.Texts.{report-is, report-length}
+use Rattle.small_lines.proofs.Texts.{report_is, report-length}
 use borrow.Author.Rules.{rules}
 use Rattle.small_tally.proofs.put_report.Statement.{statement}
 use Rattle.small_tally.proofs.put_report.Tie as tie
@@ -33,7 +33,7 @@ add-result : tie.Need-overflow-add-result
 add-result c = search (rules, report-length)
 
 returns : tie.Need-returns
-returns c = rw report-is (wrote_then (wrote_then c.before.before.before.before.before.before.before.before.before.before.put-line.ensures c.before.before.before.before.before.before.put-line2.ensures) c.before.before.put-line3.ensures)
+returns c = rw report_is (wrote_then (wrote_then c.before.before.before.before.before.before.before.before.before.before.put-line.ensures c.before.before.before.before.before.before.put-line2.ensures) c.before.before.put-line3.ensures)
 
 pub put-report-spec : {M : Type 1} → statement M
 put-report-spec =

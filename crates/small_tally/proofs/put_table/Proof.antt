@@ -3,14 +3,14 @@ use Prim.Native.Nat.{◌+◌, ◌-◌, ◌≤◌}
 use lib.ListN.{length}
 use Rattle.archive_cells.specs.Writing.{Writing}
 use Rattle.rows.specs.Rows.{width}
-use Rattle.small_tally.specs.Flat.{flatRows}
-use Rattle.small_tally.proofs.Flat.{row-length, rows_from, rows_none, rows-skip, rows-room, rows_more, rows-done}
+use Rattle.small_tally.specs.Flat.{flat_rows}
+use Rattle.small_tally.proofs.Flat.{row-length, rows_from, rows_none, rows_skip, rows-room, rows_more, rows-done}
 use borrow.Author.Rules.{rules}
 use Rattle.small_tally.proofs.put_table.Statement.{statement}
 use Rattle.small_tally.proofs.put_table.Tie as tie
 
 abbrev invariant-loop : tie.invariant-loop
-invariant-loop out₀ dims t at₀ rest₀ j₀ j-end out at rest j = (j ≤ j-end) × Writing (flatRows dims t) (rows_from dims t j-end rest j) out₀ out at
+invariant-loop out₀ dims t at₀ rest₀ j₀ j-end out at rest j = (j ≤ j-end) × Writing (flat_rows dims t) (rows_from dims t j-end rest j) out₀ out at
 
 abbrev decreases-loop : tie.decreases-loop
 decreases-loop out₀ dims t at₀ rest₀ j₀ j-end out at rest j = j-end - j
@@ -22,7 +22,7 @@ loop-again : tie.Need-loop-preserved invariant-loop decreases-loop
 loop-again c =
     let a = c.before.before.before.before.before.args in
     let l = c.before.before.loop in
-    (search rules, rows-skip a.dims a.t _ l.rest l.j l.invariant.1 c.before.loop-test.true c.if1.true)
+    (search rules, rows_skip a.dims a.t _ l.rest l.j l.invariant.1 c.before.loop-test.true c.if1.true)
 
 room : (c : tie.Else1 invariant-loop decreases-loop) → c.before.before.loop.at + width c.before.before.before.before.before.args.dims ≤ length c.before.before.loop.out
 room c =

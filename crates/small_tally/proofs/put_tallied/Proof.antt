@@ -4,14 +4,14 @@ use Prim.Native.Nat.{◌+◌}
 use lib.ListN.{length}
 use Rattle.fields.specs.WrittenLaws.{wrote_then}
 use Rattle.text_decimals.specs.Decimals.{decimal}
-use Rattle.small_lines.specs.Lines.{line, textFrom}
+use Rattle.small_lines.specs.Lines.{line, text_from}
 use Rattle.small_lines.proofs.Texts.{line-is, line-length}
 use borrow.Author.Rules.{rules}
 use Rattle.small_tally.proofs.put_tallied.Statement.{statement}
 use Rattle.small_tally.proofs.put_tallied.Tie as tie
 
 -- how long the line is, by the tallies
-size : (c : tie.After-tally-tables) → length (line c.before.before.before.before.args.dims) ≡ length (decimal c.before.before.before.before.args.dims) + length (textFrom 0 c.tally-tables.new.1.0) + 1
+size : (c : tie.After-tally-tables) → length (line c.before.before.before.before.args.dims) ≡ length (decimal c.before.before.before.before.args.dims) + length (text_from 0 c.tally-tables.new.1.0) + 1
 size c = line-length c.before.before.before.before.args.dims c.tally-tables.new.1.0 c.tally-tables.ensures
 
 put-decimal-requires : tie.Need-put-decimal-requires

@@ -2,7 +2,7 @@
 use mathlib.Core.Path.{ap}
 use Prim.Native.Nat.{ℕ, ◌+◌}
 use native.Mathlib.Omega.{arith}
-use Rattle.small_tally.proofs.Entries.{normals-fit}
+use Rattle.small_tally.proofs.Entries.{normals_fit}
 use borrow.Author.Rules.{rules}
 use Rattle.small_tally.proofs.rows_entries.Statement.{statement}
 use Rattle.small_tally.proofs.rows_entries.Tie as tie
@@ -16,7 +16,7 @@ add-result : tie.Need-overflow-add-result
 add-result c =
     let a = c.before.before.before.before.before.before.before.before.args in
     let p = c.before.before.before.before.before.before.before.before.requires in
-    omega (arith, c.before.before.before.condense-rows.ensures.1.1, normals-fit a.dims a.n a.rows.now p.0 p.1, p.1)
+    omega (arith, c.before.before.before.condense-rows.ensures.1.1, normals_fit a.dims a.n a.rows.now p.0 p.1, p.1)
 
 returns : tie.Need-returns
 returns c = ap (λ (n : ℕ). c.before.before.before.before.before.before.before.before.args.n + n) c.before.before.before.condense-rows.ensures.1.1

@@ -3,7 +3,7 @@ use mathlib.Core.Path.{◌≡◌, sym, ap, ◌∙◌}
 use Prim.Native.Nat.{ℕ}
 use borrow.Author.Rules.{rules}
 use lib.ListN.{drop}
-use Rattle.fields_walk.proofs.Steps.{seen, walked_as, walked-map, then-on, then-off}
+use Rattle.fields_walk.proofs.Steps.{seen, walked_as, walked-map, then_on, then_off}
 use Rattle.fields_walk.proofs.Fields.{field_at}
 use Rattle.table.specs.Reading.{body}
 use Rattle.table.proofs.Accepted.{rowed, counted}
@@ -24,7 +24,7 @@ check-close-requires c κs = (seen c.before.end.given.1 c.before.before.before.c
 
 returns : tie.Need-returns
 unfolding body
-returns c = let a = c.before.before.before.before.before.before.args in record { says = then-off (counted a.s.now a.sizes.now) (seen c.before.n.given.1 c.before.before.before.check-field.ensures) }
+returns c = let a = c.before.before.before.before.before.before.args in record { says = then_off (counted a.s.now a.sizes.now) (seen c.before.n.given.1 c.before.before.before.check-field.ensures) }
 
 -- as many rows are read as the field says
 many-rows : (c : tie.After-check-rows)
@@ -38,16 +38,16 @@ many-rows c =
     let s = a.s.now in
     let g = seen c.before.before.before.next.given.1 c.before.before.before.before.before.check-field.ensures in
     let f = field_at s 0 1025 5 a.at (search rules) g.1 g.2 in
-    then-on (counted s a.sizes.now) g.1 ∙ ap (λ (n : ℕ). counted s a.sizes.now n (drop c.before.before.before.next.given.0.0 s)) (f.value ∙ sym c.before.word-at.ensures)
+    then_on (counted s a.sizes.now) g.1 ∙ ap (λ (n : ℕ). counted s a.sizes.now n (drop c.before.before.before.next.given.0.0 s)) (f.value ∙ sym c.before.word-at.ensures)
 
 returns-2 : tie.Need-returns-2
-returns-2 c = let a = c.before.before.before.before.before.before.before.before.before.before.before.args in record { says = many-rows c.before.before.before ∙ then-off (rowed a.s.now a.sizes.now) (seen c.before.n2.given.1 c.before.before.before.check-rows.ensures) }
+returns-2 c = let a = c.before.before.before.before.before.before.before.before.before.before.before.args in record { says = many-rows c.before.before.before ∙ then_off (rowed a.s.now a.sizes.now) (seen c.before.n2.given.1 c.before.before.before.check-rows.ensures) }
 
 returns-3 : tie.Need-returns-3
 returns-3 c =
     let a = c.before.before.before.before.before.before.before.before.before.before.before.before.args in
     let g = seen c.before.before.end.given.1 c.before.before.before.before.check-rows.ensures in
-    walked_as (many-rows c.before.before.before.before ∙ then-on (rowed a.s.now a.sizes.now) g.1) (walked-map (λ u. record { sizes = a.sizes.now; rows = g.0 }) c.check-close.ensures)
+    walked_as (many-rows c.before.before.before.before ∙ then_on (rowed a.s.now a.sizes.now) g.1) (walked-map (λ u. record { sizes = a.sizes.now; rows = g.0 }) c.check-close.ensures)
 
 pub check-body-spec : {M : Type 1} → statement M
 check-body-spec = tie.close (tie.spec (λ c κs. search rules) (λ c. search rules) (λ c. search rules) word-at-requires check-rows-requires (λ c. search rules) (λ c. search rules) check-close-requires returns returns-2 returns-3)

@@ -6,7 +6,7 @@ use borrow.Author.Rules.{rules}
 use lib.ListN.{length, drop}
 use Rattle.fields_walk.specs.Parsed.{many}
 use Rattle.fields_walk.proofs.Steps.{seen}
-use Rattle.fields_walk.proofs.Loops.{Follows, follows-self, many-on, many-off, many-done}
+use Rattle.fields_walk.proofs.Loops.{Follows, follows_self, many_on, many-off, many-done}
 use Rattle.table.specs.Reading.{row}
 use Rattle.table.proofs.check_rows.Statement.{statement}
 use Rattle.table.proofs.check_rows.Tie as tie
@@ -18,7 +18,7 @@ abbrev decreases-loop : tie.decreases-loop
 decreases-loop s sizes count start at₀ i₀ at i = count - i
 
 loop-holds : tie.Need-loop-init invariant-loop decreases-loop
-loop-holds c = (omega arith, omega arith, simp sub-zero (follows-self _ _))
+loop-holds c = (omega arith, omega arith, simp sub-zero (follows_self _ _))
 
 returns : tie.Need-returns invariant-loop decreases-loop
 returns c =
@@ -31,7 +31,7 @@ loop-again c =
     let l = c.before.before.before.before.before.loop in
     let a = c.before.before.before.before.before.before.before.before.args in
     let g = seen c.before.next.given.1 c.before.before.before.check-row.ensures in
-    (omega arith, g.2, many-on (row a.sizes.now) l.at l.i a.count l.invariant.2 (omega arith) g.1)
+    (omega arith, g.2, many_on (row a.sizes.now) l.at l.i a.count l.invariant.2 (omega arith) g.1)
 
 returns-2 : tie.Need-returns-2 invariant-loop decreases-loop
 returns-2 c =

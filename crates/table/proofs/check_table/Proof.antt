@@ -5,11 +5,11 @@ use Prim.Native.Nat.{ℕ}
 use native.Mathlib.Omega.{arith}
 use borrow.Author.Rules.{rules}
 use lib.ListN.{drop, length-take}
-use Rattle.fields.specs.Words.{wordsAt}
-use Rattle.fields_walk.proofs.Steps.{seen, walked_as, then-on, then-off}
+use Rattle.fields.specs.Words.{words_at}
+use Rattle.fields_walk.proofs.Steps.{seen, walked_as, then_on, then_off}
 use Rattle.fields_walk.proofs.Places.{Header, header_read}
 use Rattle.table.specs.Layout.{FACT}
-use Rattle.table.specs.Reading.{body, readTable}
+use Rattle.table.specs.Reading.{body, read_table}
 use Rattle.table.proofs.check_table.Statement.{statement}
 use Rattle.table.proofs.check_table.Tie as tie
 
@@ -32,17 +32,17 @@ check-sized-requires c κs =
     (omega (arith, slice-aggregate-check-sized c, c.before.word-at.ensures, (headed c.before.before).whole), (seen c.before.before.before.at.given.1 c.before.before.before.before.before.check-header.ensures).2)
 
 returns : tie.Need-returns
-unfolding readTable
-returns c = record { says = then-off (body c.before.before.before.before.before.before.args.s.now) (seen c.before.n.given.1 c.before.before.before.check-header.ensures) }
+unfolding read_table
+returns c = record { says = then_off (body c.before.before.before.before.before.before.args.s.now) (seen c.before.n.given.1 c.before.before.before.check-header.ensures) }
 
 returns-2 : tie.Need-returns-2
-unfolding readTable
+unfolding read_table
 returns-2 c =
     let s = c.before.before.before.before.before.before.before.before.before.before.args.s.now in
     let g = seen c.before.before.before.before.before.at.given.1 c.before.before.before.before.before.before.before.check-header.ensures in
     let h = headed c.before.before.before.before in
     let n = sym (slice-aggregate-check-sized c.before.before) ∙ c.before.before.before.word-at.ensures in
-    walked_as (then-on (body s) g.1 ∙ ap (λ (zs : List ℕ). body s zs (drop c.before.before.before.before.before.at.given.0.0 s)) (h.are ∙ ap (λ (m : ℕ). wordsAt s m 8) (sym n))) c.before.check-sized.ensures
+    walked_as (then_on (body s) g.1 ∙ ap (λ (zs : List ℕ). body s zs (drop c.before.before.before.before.before.at.given.0.0 s)) (h.are ∙ ap (λ (m : ℕ). words_at s m 8) (sym n))) c.before.check-sized.ensures
 
 pub check-table-spec : {M : Type 1} → statement M
 check-table-spec = tie.close (tie.spec (λ c κs. search rules) (λ c. search rules) (λ c. search rules) word-at-requires (λ c. search rules) array-borrow-prefix-sizes slice-aggregate-check-sized check-sized-requires returns returns-2)

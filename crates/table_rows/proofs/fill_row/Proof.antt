@@ -7,8 +7,8 @@ use lib.Seq.{length-take-le, take_at}
 use mir.Syntax.{w64}
 use mir.Facts.{to_z-of_z}
 use borrow.Author.Rules.{rules, sfits_of}
-use Rattle.fields.specs.Words.{wordsAt}
-use Rattle.fields.specs.WordsLaws.{length-wordsAt}
+use Rattle.fields.specs.Words.{words_at}
+use Rattle.fields.specs.WordsLaws.{length_words_at}
 use Rattle.table.proofs.Accepted.{read}
 use Rattle.table_rows.proofs.fill_row.Statement.{statement}
 use Rattle.table_rows.proofs.fill_row.Tie as tie
@@ -27,10 +27,10 @@ returns c =
     let b = c.before.before.before.before in
     let w = b.before.before.before in
     let a = w.before.before.before.before.args in
-    let codes = w.read-words.ensures ∙ ap (λ (n : ℕ). wordsAt a.s.now n a.at) (front w.before.before.before.before) in
+    let codes = w.read-words.ensures ∙ ap (λ (n : ℕ). words_at a.s.now n a.at) (front w.before.before.before.before) in
     let sum = to_z-of_z {w = w64} (sfits_of b.reading-at.type-inv) ∙ b.reading-at.ensures in
     c.before.before.put-total.ensures
-    ∙ ap₂ read (take_at w.read-words.new.1.1.0 _ a.dims (ap length codes ∙ length-wordsAt a.s.now a.dims a.at) ∙ codes) sum
+    ∙ ap₂ read (take_at w.read-words.new.1.1.0 _ a.dims (ap length codes ∙ length_words_at a.s.now a.dims a.at) ∙ codes) sum
 
 pub fill-row-spec : {M : Type 1} → statement M
 fill-row-spec =

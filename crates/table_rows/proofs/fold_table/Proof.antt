@@ -3,14 +3,14 @@ use mathlib.Core.Path.{sym}
 use Prim.Native.Nat.{◌*◌, ◌≤◌}
 use lib.Seq.{length-take-le}
 use borrow.Author.Rules.{rules}
-use Rattle.rows.proofs.Rows.{rows-small}
+use Rattle.rows.proofs.Rows.{rows_small}
 use Rattle.rows.specs.Rows.{width}
 use Rattle.table_rows.proofs.fold_table.Statement.{statement}
 use Rattle.table_rows.proofs.fold_table.Tie as tie
 
 -- the words of all rows
 words-few : (c : tie.Start) → c.args.n * width c.args.d ≤ 11264
-words-few c = rows-small c.args.d c.args.n c.requires.0.dims c.requires.0.few
+words-few c = rows_small c.args.d c.args.n c.requires.0.dims c.requires.0.few
 
 array-borrow-prefix-own : tie.Need-array-borrow-prefix-own
 array-borrow-prefix-own c = words-few c.before.before

@@ -4,12 +4,12 @@ use Prim.Native.Nat.{ℕ, ◌+◌, ◌*◌, ◌<◌}
 use native.Mathlib.Omega.{arith}
 use borrow.Author.Rules.{rules}
 use lib.ListN.{length}
-use Rattle.lists.proofs.Members.{in-at}
+use Rattle.lists.proofs.Members.{in_at}
 use Rattle.fields.specs.Words.{word_at}
 use Rattle.fields_walk.specs.Limits.{Bytes}
 use Rattle.fields_walk.proofs.Steps.{seen}
 use Rattle.table.specs.Reading.{Rowed}
-use Rattle.table_rows.proofs.Rows.{Placed, placed, rowed-table, read_answer, stop-answer}
+use Rattle.table_rows.proofs.Rows.{Placed, placed, rowed_table, read_answer, stop-answer}
 use Rattle.table_rows.proofs.read_table.Statement.{statement}
 use Rattle.table_rows.proofs.read_table.Tie as tie
 
@@ -18,7 +18,7 @@ there : (c : tie.After-known-told2) → Placed c.before.before.before.before.bef
 there c = let g = seen c.before.place.given.1 c.before.before.before.check-table.ensures in placed c.before.before.before.before.before.args.s.now g.0 g.1
 
 bytes : (c : tie.After-shared-slice-known) → Bytes c.before.args.s.now
-bytes c b m = let k = in-at 0 m in subst (λ (x : ℕ). x < 256) k.2 (c.shared-slice-known.given k.0).fits
+bytes c b m = let k = in_at 0 m in subst (λ (x : ℕ). x < 256) k.2 (c.shared-slice-known.given k.0).fits
 
 word-at-requires : tie.Need-word-at-requires
 word-at-requires c κs = omega (arith, (there c).whole)
@@ -37,7 +37,7 @@ fold-table-requires : tie.Need-fold-table-requires
 fold-table-requires c κs =
     let s = c.before.before.before.before.before.before.before.before.args.s.now in
     let g = seen c.before.before.before.before.place.given.1 c.before.before.before.before.before.before.check-table.ensures in
-    let r = rowed-table s g.0 (bytes c.before.before.before.before.before.before.before) g.1 in
+    let r = rowed_table s g.0 (bytes c.before.before.before.before.before.before.before) g.1 in
     (subst (λ (d : ℕ). Rowed s d c.before.word-at2.result) (sym (dims c.before.before)) (subst (Rowed s (length g.0.sizes)) (sym (count c.before)) r), search rules)
 
 returns : tie.Need-returns

@@ -10,7 +10,7 @@ use mir.Syntax.{w64}
 use mir.Val.{to_z, of_z}
 use mir.Facts.{to_z-of_z, Fits-of_z}
 use borrow.Author.Tests.{ltb-true}
-use Rattle.fields_sums.proofs.Machine.{less-fits, lower, same, bits-ofZ}
+use Rattle.fields_sums.proofs.Machine.{less_fits, lower, same, bits_of_z}
 use Rattle.text_decimals.proofs.magnitude.Statement.{statement}
 use Rattle.text_decimals.proofs.magnitude.Tie as tie
 
@@ -22,7 +22,7 @@ low : (c : tie.Then1) → to_z w64 (of_z w64 (negsuc 0 -ℤ to_z w64 (of_z w64 c
 low c = lower c.before.args.z c.before.ranges.z c.if1.true
 
 sub-result : tie.Need-overflow-sub-result
-sub-result c = less-fits c.before.args.z c.before.ranges.z c.if1.true
+sub-result c = less_fits c.before.args.z c.before.ranges.z c.if1.true
 
 cast-result : tie.Need-overflow-cast-result
 cast-result c = rw (low c) (tt, record { fits = omega arith })
@@ -33,7 +33,7 @@ add-result c = rw (low c) (record { fits = omega arith })
 cast-result-2 : tie.Need-overflow-cast-result-2
 cast-result-2 c =
     rw (same c.before.args.z c.before.ranges.z c.if1.false)
-    (tt, rw (bits-ofZ c.before.args.z) at (Fits-of_z c.before.ranges.z))
+    (tt, rw (bits_of_z c.before.args.z) at (Fits-of_z c.before.ranges.z))
 
 returns : tie.Need-returns
 returns c = rw (low c) (abs-below c.before.args.z (rw (to_z-of_z c.before.ranges.z) at c.if1.true))

@@ -2,41 +2,41 @@
 use mathlib.Core.List.{flat_map}
 use Prim.Native.Nat.{◌+◌, ◌*◌, ◌-◌, ◌≤◌}
 use lib.ListN.{length}
-use Rattle.fields.specs.Words.{wordsAt}
+use Rattle.fields.specs.Words.{words_at}
 use Rattle.archive_cells.specs.Writing.{Writing}
-use Rattle.text_lines.specs.Lines.{codeText}
-use Rattle.text_lines.proofs.Words.{texts-none, texts-room, texts-more, texts-done}
+use Rattle.text_lines.specs.Lines.{code_text}
+use Rattle.text_lines.proofs.Words.{texts_none, texts_room, texts_more, texts_done}
 use borrow.Author.Rules.{rules}
 use Rattle.text_lines.proofs.put_codes.Statement.{statement}
 use Rattle.text_lines.proofs.put_codes.Tie as tie
 
 abbrev invariant-loop : tie.invariant-loop
 invariant-loop out₀ s at n done₀ i₀ out done i =
-    (i ≤ n) × Writing (flat_map codeText (wordsAt s n at)) (flat_map codeText (wordsAt s (n - i) (at + 4 * i))) out₀ out done
+    (i ≤ n) × Writing (flat_map code_text (words_at s n at)) (flat_map code_text (words_at s (n - i) (at + 4 * i))) out₀ out done
 
 abbrev decreases-loop : tie.decreases-loop
 decreases-loop out₀ s at n done₀ i₀ out done i = n - i
 
 -- there is room for the code that was read
-room : (c : tie.After-word-at invariant-loop decreases-loop) → c.before.before.loop.done + length (codeText c.word-at.result) ≤ length c.before.before.loop.out
+room : (c : tie.After-word-at invariant-loop decreases-loop) → c.before.before.loop.done + length (code_text c.word-at.result) ≤ length c.before.before.loop.out
 room c =
     let a = c.before.before.before.before.before.args in
-    texts-room codeText a.s.now a.n a.at c.before.before.loop.invariant.1 c.before.loop-test.true c.word-at.ensures c.before.before.before.before.before.requires.1
+    texts_room code_text a.s.now a.n a.at c.before.before.loop.invariant.1 c.before.loop-test.true c.word-at.ensures c.before.before.before.before.before.requires.1
 
 loop-holds : tie.Need-loop-init invariant-loop decreases-loop
-loop-holds c = let a = c.before.before.args in (search rules, texts-none codeText a.s.now a.n a.at _)
+loop-holds c = let a = c.before.before.args in (search rules, texts_none code_text a.s.now a.n a.at _)
 
 loop-again : tie.Need-loop-preserved invariant-loop decreases-loop
 loop-again c =
     let a = c.before.before.before.before.before.before.before.before.before.args in
     let word = c.before.before.before.before.word-at.ensures in
-    (search rules, texts-more codeText a.s.now a.n a.at c.before.before.before.before.before.before.loop.invariant.1 c.before.before.before.before.before.loop-test.true word c.before.before.put-code.ensures)
+    (search rules, texts_more code_text a.s.now a.n a.at c.before.before.before.before.before.before.loop.invariant.1 c.before.before.before.before.before.loop-test.true word c.before.before.put-code.ensures)
 
 same_length : tie.Need-same-length invariant-loop decreases-loop
 same_length c = c.before.loop.invariant.1.wrote.same
 
 returns : tie.Need-returns invariant-loop decreases-loop
-returns c = let a = c.before.before.before.before.args in texts-done codeText a.s.now a.n a.at c.before.loop.invariant.1 c.loop-test.false
+returns c = let a = c.before.before.before.before.args in texts_done code_text a.s.now a.n a.at c.before.loop.invariant.1 c.loop-test.false
 
 pub put-codes-spec : {M : Type 1} → statement M
 put-codes-spec =

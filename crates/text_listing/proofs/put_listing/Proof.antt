@@ -9,10 +9,10 @@ use Rattle.fields_walk.specs.Limits.{Bytes}
 use Rattle.fields_walk.proofs.Limits.{bytes_of}
 use Rattle.fields.specs.WrittenLaws.{wrote_then}
 use Rattle.archive_cells.specs.WritingLaws.{wrote_as}
-use Rattle.archive_entries.specs.Reading.{readArchive}
-use Rattle.text_lines.specs.Lines.{headText, baseText, cellText}
-use Rattle.text_listing.specs.Listing.{heldBy, Accepted}
-use Rattle.text_listing.proofs.Places.{dims-there, whole, listing-parts, listing-length}
+use Rattle.archive_entries.specs.Reading.{read_archive}
+use Rattle.text_lines.specs.Lines.{head_text, base_text, cell_text}
+use Rattle.text_listing.specs.Listing.{held_by, Accepted}
+use Rattle.text_listing.proofs.Places.{dims_there, whole, listing-parts, listing-length}
 use Rattle.text_listing.proofs.put_listing.Statement.{statement}
 use Rattle.text_listing.proofs.put_listing.Tie as tie
 
@@ -25,10 +25,10 @@ module _ (c : tie.After-word-at) where
   known =
       let a = c.before.before.before.args in
       let x = c.before.before.before.requires.0.1 in
-      subst (λ (d : ℕ). Accepted a.s.now d a.bases a.cells) (dims-there (are-bytes c.before) x ∙ sym c.word-at.ensures) x
+      subst (λ (d : ℕ). Accepted a.s.now d a.bases a.cells) (dims_there (are-bytes c.before) x ∙ sym c.word-at.ensures) x
 
   -- there is room for the three parts
-  room : (let a = c.before.before.before.args in let h = heldBy (readArchive a.s.now) in length (headText c.word-at.result a.bases a.cells) + length (flat_map baseText h.bases) + length (flat_map cellText h.cells) ≤ length a.out.now)
+  room : (let a = c.before.before.before.args in let h = held_by (read_archive a.s.now) in length (head_text c.word-at.result a.bases a.cells) + length (flat_map base_text h.bases) + length (flat_map cell_text h.cells) ≤ length a.out.now)
   room = omega (arith, listing-length (are-bytes c.before) known, c.before.before.before.requires.1)
 
 put-bases-requires : tie.Need-put-bases-requires
