@@ -1,4 +1,6 @@
 // The base entries of an archive: how many sets they list, written over the front of lent bytes, and compared with given ones.
+#![tactic(auto)]
+
 ghost use Rattle.std.specs.Prelude.{◌≡◌, ◌≤◌, ◌<◌, length};
 ghost use mathlib.Core.List.{flat_map};
 ghost use Rattle.fields.specs.Written.{Wrote};

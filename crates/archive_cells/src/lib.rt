@@ -1,4 +1,6 @@
 // Cells and base entries as bytes, written over the front of lent bytes.
+#![tactic(auto)]
+
 ghost use Rattle.std.specs.Prelude.{◌++◌, ◌+◌, ◌*◌, ◌^◌, ◌≤◌, ◌<◌, length, replicate};
 ghost use Rattle.fields.specs.Words.{words_bytes};
 ghost use Rattle.fields.specs.Written.{Wrote};

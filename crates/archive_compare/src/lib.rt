@@ -1,4 +1,6 @@
 // Cells and base entries compared with bytes.
+#![tactic(auto)]
+
 ghost use Rattle.std.specs.Prelude.{◌++◌, ◌≤◌, length, replicate};
 ghost use Rattle.fields.specs.Words.{word_bytes, words_bytes};
 ghost use Rattle.cube.specs.Measure.{nothing};

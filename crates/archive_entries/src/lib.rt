@@ -1,4 +1,6 @@
 // An archive's sections read from their bytes: the fields from the left, and at each its stops in document 01's order (1 to 11), then the base rows.
+#![tactic(auto)]
+
 ghost use Rattle.std.specs.Prelude.{◌⊎◌, ◌≡◌, [], ◌∷◌, ◌++◌, ℕ, ◌+◌, ◌*◌, ◌≤◌, ◌<◌, length, drop};
 ghost use Rattle.lists.specs.Order.{earlier};
 ghost use Rattle.fields.specs.Words.{words_at};
@@ -15,7 +17,7 @@ use rows_compare::Order;
 pub const CUBE: [u8; 4] = *b"CUBE";
 
 // What the walk over an archive answers: a stop's number, or D, the base count and the normal count.
-#[derive(Drop)]
+#[derive(Clone, Copy)]
 pub enum ArchiveRead {
     Stop(u32),
     Entries { dims: u32, bases: u32, cells: u32 },

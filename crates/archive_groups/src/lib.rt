@@ -1,4 +1,6 @@
 // The groups of a slot as cells with their totals: written over the front of lent bytes, and compared with given ones.
+#![tactic(auto)]
+
 ghost use Rattle.std.specs.Prelude.{◌≡◌, ◌+◌, ◌*◌, ◌≤◌, length, drop};
 ghost use Rattle.fields.specs.Words.{words_bytes};
 ghost use Rattle.fields.specs.Opening.{starts_with};

@@ -1,4 +1,6 @@
 // An archive judged by its base rows: whether its lists, its normal count and its normal entries are what they require (stop 12).
+#![tactic(auto)]
+
 ghost use Rattle.std.specs.Prelude.{◌≡◌, ◌*◌, ◌≤◌, length};
 ghost use Rattle.lists.specs.Order.{same};
 ghost use Rattle.fields.specs.Words.{words_at};

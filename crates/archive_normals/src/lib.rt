@@ -1,4 +1,6 @@
 // The normal entries of an archive: written over the front of lent bytes, and compared with given ones, set by set in lattice order.
+#![tactic(auto)]
+
 ghost use Rattle.std.specs.Prelude.{◌≤◌, ◌<◌, length};
 ghost use Rattle.lattice.specs.Sets.{full};
 ghost use Rattle.fields.specs.Written.{Wrote};

@@ -1,4 +1,6 @@
 // An archive read with all its stops, 1 to 12: its fields checked, its base rows stored, and judged by them.
+#![tactic(auto)]
+
 ghost use Rattle.std.specs.Prelude.{◌≡◌, ◌*◌, ◌≤◌, length, take};
 ghost use Rattle.rows.specs.Rows.{width};
 ghost use Rattle.archive_entries.specs.Reading.{walk_archive, read_archive, archive_answer, Stored};

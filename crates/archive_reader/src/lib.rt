@@ -1,5 +1,7 @@
 // An archive read from its bytes by a reader, which steps along the archive's fields and remembers only its place.
 // The functions on a slice and a place (crate `archive_sections`) do the work. Those over `Reader` take it apart and call them.
+#![tactic(auto)]
+
 ghost use Rattle.std.specs.Prelude.{◌≡◌, drop};
 ghost use Rattle.fields_walk.specs.Fields.{header, close};
 ghost use Rattle.fields_walk.specs.Walked.{Walked};
@@ -11,7 +13,7 @@ ghost use Rattle.archive_reader.specs.Place.{reader_at};
 use archive_entries::ArchiveRead;
 use fields_walk::Walk;
 
-#[derive(Drop)]
+#[derive(Clone, Copy)]
 pub struct Reader<'a> {
     src: &'a [u8],
     at: usize,

@@ -1,4 +1,6 @@
 // The sections of an archive, each from a place on: a stop, or the place behind it.
+#![tactic(auto)]
+
 ghost use Rattle.std.specs.Prelude.{◌≡◌, drop};
 ghost use Rattle.fields_walk.specs.Fields.{header, close};
 ghost use Rattle.fields_walk.specs.Walked.{Walked};

@@ -1,4 +1,6 @@
 // The builder: a table to its archive.
+#![tactic(auto)]
+
 fn main() {
     program_pipes::run_builder();
 }

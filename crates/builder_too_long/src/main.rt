@@ -1,4 +1,6 @@
 // The builder on an input that it finds too long.
+#![tactic(auto)]
+
 fn main() {
     program_pipes::run_builder();
 }

@@ -1,5 +1,7 @@
 // One late reading: an archive with one record added.
 // The call answers for whatever bytes, codes and reading it is lent, looks at the output last, and leaves every byte of it alone when it stops.
+#![tactic(auto)]
+
 ghost use Rattle.std.specs.Prelude.{◌≡◌, ◌+◌, ◌*◌, ◌≤◌, length};
 ghost use Rattle.fields.specs.Words.{words_at};
 ghost use Rattle.rows.specs.Rows.{rows_of};

@@ -1,5 +1,7 @@
 // An archive checked, listed by cuboid, expanded.
 // Every call answers for whatever bytes it is lent, looks at the output last, and leaves every byte of it alone when it stops.
+#![tactic(auto)]
+
 ghost use Rattle.std.specs.Prelude.{◌≡◌, ◌*◌, take};
 ghost use Rattle.rows.specs.Rows.{width, rows_of};
 ghost use Rattle.archive_entries.specs.Reading.{walk_archive, archive_answer};

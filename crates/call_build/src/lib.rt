@@ -1,4 +1,6 @@
 // The archive built from a table.
+#![tactic(auto)]
+
 ghost use Rattle.std.specs.Prelude.{◌≡◌, ◌+◌, ◌*◌, ◌≤◌, length};
 ghost use Rattle.rows.specs.Rows.{rows_of};
 ghost use Rattle.fields.specs.Words.{words_at};

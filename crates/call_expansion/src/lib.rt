@@ -1,4 +1,6 @@
 // The expansion as bytes: how long it is, and written over the front of lent bytes.
+#![tactic(auto)]
+
 ghost use Rattle.std.specs.Prelude.{◌≡◌, ◌+◌, ◌*◌, ◌^◌, ◌≤◌, ◌<◌, length};
 ghost use mathlib.Core.List.{flat_map};
 ghost use Rattle.fields.specs.Written.{Wrote};

@@ -1,5 +1,7 @@
 // A fee shared over the cells of a set of an archive.
 // The call answers for whatever bytes it is lent, looks at the output last, and leaves every byte of it alone when it stops.
+#![tactic(auto)]
+
 ghost use Rattle.std.specs.Prelude.{◌≡◌, map, ◌*◌, ◌^◌, ◌≤◌, ◌<◌, length, take};
 ghost use Rattle.lists.specs.Lists.{sum};
 ghost use Rattle.cube.specs.Bounds.{count_of};

@@ -1,5 +1,7 @@
 // Whether a set fixes a dimension in an archive.
 // The call answers for whatever bytes it is lent, and writes nothing.
+#![tactic(auto)]
+
 ghost use Rattle.std.specs.Prelude.{◌≡◌, ◌*◌, ◌≤◌, ◌<◌, length};
 ghost use Rattle.cube.specs.Codes.{agree, plain};
 ghost use Rattle.cube.specs.Keys.{fixes as fixing};

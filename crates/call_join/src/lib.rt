@@ -1,5 +1,7 @@
 // Two archives into one.
 // The call answers for whatever bytes it is lent, looks at the output last, and leaves every byte of it alone when it stops.
+#![tactic(auto)]
+
 ghost use Rattle.std.specs.Prelude.{◌≡◌, ◌+◌, ◌*◌, ◌≤◌, length};
 ghost use Rattle.lists.specs.Order.{same};
 ghost use Rattle.fields.specs.Words.{words_at};

@@ -1,5 +1,7 @@
 // The smallest keys of an archive.
 // The call answers for whatever bytes it is lent, looks at the output last, and leaves every byte of it alone when it stops.
+#![tactic(auto)]
+
 ghost use Rattle.std.specs.Prelude.{◌≡◌, ◌^◌, ◌≤◌, ◌<◌, length, take};
 ghost use Rattle.lists.specs.Lists.{some};
 ghost use Rattle.lattice.specs.Sets.{holds};

@@ -1,5 +1,7 @@
 // An archive asked for a cell.
 // The call answers for whatever bytes and question it is lent, and writes nothing.
+#![tactic(auto)]
+
 ghost use Rattle.std.specs.Prelude.{◌≡◌};
 ghost use Rattle.call_answers.specs.Calls.{looks_up};
 ghost use Rattle.call_ask.specs.Accepts.{Accepts};

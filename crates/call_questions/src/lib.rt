@@ -1,4 +1,6 @@
 // Questions to an archive: whether one fits, and the entry that stands for its cell.
+#![tactic(auto)]
+
 ghost use Rattle.std.specs.Prelude.{◌≡◌, ◌+◌, ◌*◌, ◌≤◌, length};
 ghost use Rattle.fields.specs.Words.{words_at};
 ghost use Rattle.cube.specs.Measure.{sums as measure};
@@ -9,7 +11,7 @@ ghost use Rattle.rows_ready.specs.Ready.{Ready};
 ghost use Rattle.call_questions.specs.Questions.{asks, looked, rowless, First, NormalsAt};
 
 // What a question is answered by: no entry, or the sum and the count that an entry carries, and its number.
-#[derive(Drop)]
+#[derive(Clone, Copy)]
 pub enum Look {
     NoRecord,
     Cell { sum: i64, count: u32, entry: u32 },

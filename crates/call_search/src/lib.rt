@@ -1,4 +1,6 @@
 // A cell searched among the normal entries.
+#![tactic(auto)]
+
 ghost use Rattle.std.specs.Prelude.{◌≡◌, ◌+◌, ◌*◌, ◌≤◌, length};
 ghost use Rattle.lists.specs.Order.{earlier};
 ghost use Rattle.lists.specs.Search.{Between};

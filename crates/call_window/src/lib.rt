@@ -1,5 +1,7 @@
 // An archive asked through a window: a dimension and a code, which every question must carry there.
 // The call answers for whatever bytes, window and question it is lent, and writes nothing. Of an accepted archive the answer tells of the rows in the window alone.
+#![tactic(auto)]
+
 ghost use Rattle.std.specs.Prelude.{◌≡◌};
 ghost use Rattle.call_ask.specs.Accepts.{Accepts};
 ghost use Rattle.call_window.specs.Windows.{asks_window};
@@ -8,7 +10,7 @@ use archive_entries::ArchiveRead;
 use call_answers::Found;
 
 // What a question through a window answers: the cell's sum and count, 'no record', or a stop's number. It has no entry's number: that would tell of rows outside.
-#[derive(Drop)]
+#[derive(Clone, Copy)]
 pub enum Seen {
     Cell { sum: i64, count: u32 },
     NoRecord,

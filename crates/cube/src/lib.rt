@@ -1,18 +1,20 @@
 // What rows carry and cells total: the running sum and count of readings, and beside them the least and the greatest.
+#![tactic(auto)]
+
 ghost use Rattle.std.specs.Prelude.{◌≡◌, ◌+◌, ◌≤◌};
 ghost use Rattle.cube.specs.Measure.{plus};
 ghost use Rattle.cube.specs.Extremes.{Readings, figures};
 ghost use Rattle.cube.specs.Bounds.{Bounded, most};
 
 // The sum and the count of readings.
-#[derive(Drop)]
+#[derive(Clone, Copy)]
 pub struct Total {
     pub sum: i64,
     pub count: u32,
 }
 
 // The least and the greatest of readings: of none, of some that are not known, or both.
-#[derive(Drop)]
+#[derive(Clone, Copy)]
 pub enum Extremes {
     Any,
     Unknown,
@@ -20,7 +22,7 @@ pub enum Extremes {
 }
 
 // What a row carries: sum, count and extremes.
-#[derive(Drop)]
+#[derive(Clone, Copy)]
 pub struct Figures {
     pub sums: Total,
     pub extremes: Extremes,

@@ -1,4 +1,6 @@
 // The calls for other languages: each answers one number, 2^63 plus a stop's number where it stops.
+#![tactic(auto)]
+
 ghost use Rattle.std.specs.Prelude.{◌≡◌, length};
 ghost use Rattle.call_answers.specs.Answers.{within, answer_of, left_of};
 ghost use Rattle.call_answers.specs.Calls.{builds, checks, lists_cuboid, expands, looks_up};

@@ -1,4 +1,6 @@
 // A fee's shares as fields, written over the front of lent bytes.
+#![tactic(auto)]
+
 ghost use Rattle.std.specs.Prelude.{◌≡◌, ◌≤◌, ◌<◌, length};
 ghost use Rattle.lists.specs.Lists.{sum};
 ghost use Rattle.fields.specs.Written.{Wrote};

@@ -1,4 +1,6 @@
 // A fee shared by weights: each cell's rounded-down proportion, and the cents left one each to the largest remainders.
+#![tactic(auto)]
+
 ghost use Rattle.std.specs.Prelude.{◌≡◌, map, ◌-◌, ◌≤◌, ◌<◌, eqb, leb, length};
 ghost use Rattle.lists.specs.Lists.{sum};
 ghost use Rattle.fee_shares.specs.Shares.{count as count_of, quota as quotaOf, rest as rest_of, cent, added, shares as shares_of};

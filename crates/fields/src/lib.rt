@@ -1,5 +1,7 @@
 // The fields of the two files: words and the opening bytes, read from and written to lent bytes.
 // A writer writes over the front of what it is lent and returns how much it wrote.
+#![tactic(auto)]
+
 ghost use Rattle.std.specs.Prelude.{◌≡◌, ◌+◌, ◌*◌, ◌≤◌, ◌<◌, length, drop};
 ghost use Rattle.fields.specs.Words.{word_at, words_at, word_bytes, words_bytes};
 ghost use Rattle.fields.specs.Opening.{starts_with};

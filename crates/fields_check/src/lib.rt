@@ -1,4 +1,6 @@
 // The check word of the two files: the sum of all words before it, found and written.
+#![tactic(auto)]
+
 ghost use Rattle.std.specs.Prelude.{◌≡◌, ◌+◌, ◌*◌, ◌<◌, ◌≤◌, length, take};
 ghost use Rattle.fields.specs.Words.{word_bytes};
 ghost use Rattle.fields_check.specs.Check.{check_of};

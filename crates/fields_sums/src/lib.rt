@@ -1,4 +1,6 @@
 // Sums and readings: two words, and one, in two's complement, read from and written to lent bytes.
+#![tactic(auto)]
+
 ghost use Rattle.std.specs.Prelude.{◌≡◌, ◌+◌, ◌≤◌, length, drop};
 ghost use Rattle.fields_sums.specs.Twos.{signed_of, bits_of, sum_of, low_of, high_of, sum_at, sum_bytes, reading_at};
 ghost use Rattle.fields.specs.Opening.{starts_with};

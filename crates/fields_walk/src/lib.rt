@@ -1,10 +1,12 @@
 // The walk over the fields that tables and archives share: from the left, and at each field its stops in document 01's order.
+#![tactic(auto)]
+
 ghost use Rattle.std.specs.Prelude.{◌≤◌, length, drop};
 ghost use Rattle.fields_walk.specs.Fields.{room, field, sizes, codes, header, close};
 ghost use Rattle.fields_walk.specs.Walked.{Walked};
 
 // How far the fields are right: a stop's number, or the place behind the last field looked at.
-#[derive(Drop)]
+#[derive(Clone, Copy)]
 pub enum Walk {
     Stop(u32),
     At(usize),

@@ -1,4 +1,6 @@
 // The lattice of sets of dimensions. A set is its number: dimension i, counted from 1, adds 2 to the power i - 1.
+#![tactic(auto)]
+
 ghost use Rattle.std.specs.Prelude.{◌≡◌, ◌^◌, ◌<◌, ◌≤◌, get_or};
 ghost use Rattle.lattice.specs.Sets.{size, sets, holds};
 

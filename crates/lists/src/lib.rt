@@ -1,1 +1,2 @@
 // Definitions and laws of lists and of their orders; there is no code here.
+#![tactic(auto)]

@@ -1,4 +1,5 @@
 // The two programs: from standard input to standard output.
+#![tactic(auto)]
 
 // Reads at most 65,537 bytes, and writes what the builder prints for them.
 pub fn run_builder() {

@@ -1,4 +1,6 @@
 // What the two programs print for their input, written over the front of the bytes that are lent.
+#![tactic(auto)]
+
 ghost use Rattle.std.specs.Prelude.{◌≡◌, ◌≤◌, length};
 ghost use Rattle.text_decimals.specs.Decimals.{ascii};
 ghost use Rattle.fields.specs.Written.{Wrote};

@@ -1,1 +1,2 @@
 // The user's demands on the calls; there is no code here.
+#![tactic(auto)]

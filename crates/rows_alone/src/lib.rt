@@ -1,4 +1,6 @@
 // The rows that are single on each set, as bits: 32 words a set.
+#![tactic(auto)]
+
 ghost use Rattle.std.specs.Prelude.{◌≡◌, ◌||◌, ℕ, ◌≤◌, ◌<◌, eqb, length};
 ghost use Rattle.lists.specs.Lists.{some};
 ghost use Rattle.rows_bits.specs.Rowsets.{has as has_row};

@@ -1,4 +1,6 @@
 // Sets of rows, as bits: 32 words of 32 rows.
+#![tactic(auto)]
+
 ghost use Rattle.std.specs.Prelude.{◌≡◌, ◌||◌, ℕ, ◌<◌, eqb, length};
 ghost use Rattle.rows_bits.specs.Rowsets.{has as has_row, empty};
 

@@ -1,4 +1,6 @@
 // Two rows compared under a set, and whether a row is single.
+#![tactic(auto)]
+
 ghost use Rattle.std.specs.Prelude.{◌≡◌, ◌*◌, ◌<◌, length};
 ghost use Rattle.lists.specs.Lists.{Distinct};
 ghost use Rattle.cube.specs.Codes.{plain};
@@ -32,7 +34,7 @@ pub fn is_single(rows: &[u32], n: usize, dims: usize, row: usize, set: u32) -> b
 }
 
 // How two rows are ordered under a set: before or after at a dimension, counted from 1, or equal.
-#[derive(Drop)]
+#[derive(Clone, Copy)]
 pub enum Order {
     Before(usize),
     Equal,

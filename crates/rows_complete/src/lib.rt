@@ -1,4 +1,6 @@
 // The slots of all sets completed: those that have the groups of two rows or more have every group afterwards.
+#![tactic(auto)]
+
 ghost use Rattle.std.specs.Prelude.{◌≡◌, ◌*◌, ◌^◌, ◌≤◌, length};
 ghost use Rattle.lattice.specs.Sets.{full};
 ghost use Rattle.rows.specs.Rows.{width, cut};

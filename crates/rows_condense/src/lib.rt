@@ -1,4 +1,6 @@
 // Base rows condensed: the groups that they form under each set, and our list of each row.
+#![tactic(auto)]
+
 ghost use Rattle.std.specs.Prelude.{◌≡◌, ◌*◌, ◌^◌, ◌≤◌, ◌<◌, length};
 ghost use Rattle.lists.specs.Lists.{keep};
 ghost use Rattle.lattice.specs.Sets.{full};

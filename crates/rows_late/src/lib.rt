@@ -1,1 +1,2 @@
 // One base row more: its definition and its theorems; there is no code here.
+#![tactic(auto)]

@@ -1,4 +1,6 @@
 // The lists of sets of rows in one flat slice: that of row i starts at 71 * i with how many sets it has, then its sets.
+#![tactic(auto)]
+
 ghost use Rattle.std.specs.Prelude.{◌≡◌, [], ◌∷◌, ◌++◌, ◌*◌, ◌≤◌, ◌<◌, length, get_or, set as put};
 ghost use Rattle.rows_deals.specs.Deals.{Names};
 ghost use Rattle.rows_lists.specs.Lists.{lists_of, Short, Empty, Fit, noted};

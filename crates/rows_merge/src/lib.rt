@@ -1,4 +1,6 @@
 // Base rows of two archives as one list: one pass over both lists, which rise strictly by codes.
+#![tactic(auto)]
+
 ghost use Rattle.std.specs.Prelude.{◌≡◌, ◌+◌, ◌*◌, ◌≤◌, ◌<◌, length, drop};
 ghost use Rattle.cube.specs.Measure.{sums as totals};
 ghost use Rattle.cube.specs.Bounds.{most, count_of};
@@ -10,7 +12,7 @@ ghost use Rattle.rows_merge.specs.Pass.{Pair, Passed, Collected};
 use rows_compare::Order;
 
 // Whose row comes next: the first list's, the second's, or one of each with equal codes.
-#[derive(Drop)]
+#[derive(Clone, Copy)]
 enum Turn {
     First,
     Second,
@@ -18,7 +20,7 @@ enum Turn {
 }
 
 // How many rows of each list are done.
-#[derive(Drop)]
+#[derive(Clone, Copy)]
 struct Places {
     first: usize,
     second: usize,

@@ -1,4 +1,6 @@
 // Base rows as the functions over them take them, and the cell of an empty table.
+#![tactic(auto)]
+
 ghost use Rattle.std.specs.Prelude.{◌≡◌};
 ghost use Rattle.rows_ready.specs.Blank.{blanks};
 

@@ -1,4 +1,6 @@
 // Tallies as text: those that occur, each behind its number of entries.
+#![tactic(auto)]
+
 ghost use Rattle.std.specs.Prelude.{◌≤◌, length};
 ghost use Rattle.fields.specs.Written.{Wrote};
 ghost use Rattle.small_model.specs.Tally.{tally};

@@ -1,4 +1,6 @@
 // The small tables generated, their entries tallied, and the report.
+#![tactic(auto)]
+
 ghost use Rattle.std.specs.Prelude.{◌≡◌, map, suc, ◌+◌, ◌*◌, ◌≤◌, length};
 ghost use Rattle.lists.specs.Lists.{Distinct};
 ghost use Rattle.fields.specs.Written.{Wrote};

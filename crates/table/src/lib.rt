@@ -1,4 +1,6 @@
 // A table read from its bytes: its stops.
+#![tactic(auto)]
+
 ghost use Rattle.std.specs.Prelude.{◌+◌, ◌*◌, ◌≤◌, length, drop};
 ghost use Rattle.fields.specs.Words.{words_at};
 ghost use Rattle.fields_walk.specs.Parsed.{many};
@@ -8,7 +10,7 @@ ghost use Rattle.table.specs.Reading.{row, body, read_table};
 use fields_walk::Walk;
 
 // What reading a table answers: a stop's number, or D and the number of base rows.
-#[derive(Drop)]
+#[derive(Clone, Copy)]
 pub enum TableRead {
     Stop(u32),
     Rows { dims: u32, rows: u32 },

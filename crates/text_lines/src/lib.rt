@@ -1,4 +1,6 @@
 // The lister's lines, written over the front of lent bytes.
+#![tactic(auto)]
+
 ghost use mathlib.Core.List.{[], ◌∷◌, ◌++◌, flat_map};
 ghost use Rattle.std.specs.Prelude.{◌+◌, ◌*◌, ◌≤◌, length};
 ghost use Rattle.fields.specs.Written.{Wrote};

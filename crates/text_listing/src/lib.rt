@@ -1,4 +1,6 @@
 // An archive as text: the first line, a line for each base entry, a line for each normal entry.
+#![tactic(auto)]
+
 ghost use mathlib.Core.List.{flat_map};
 ghost use Rattle.std.specs.Prelude.{ℕ, ◌≤◌, length};
 ghost use Rattle.fields.specs.Written.{Wrote};
