@@ -1,0 +1,14 @@
+use mathlib.Core.Path.{◌≡◌, refl, ◌∙◌}
+use Prim.Native.Nat.{ℕ, ◌-◌, ◌≤◌, ◌<◌}
+use native.Mathlib.Omega.{arith}
+use lib.ListN.{length, get_or, length-set}
+use Rattle.rows_deals.proofs.Sums.{fill_more}
+use Rattle.archive_groups.specs.Masks.{missing_of}
+use borrow.Author.Rules.{rules}
+use Rattle.archive_groups.proofs.mask_of.Given as goal
+
+abbrev pub invariant-loop-d : goal.invariant-loop-d
+invariant-loop-d l = (l.d ≤ 8) × (length l.missing ≡ 8) × ((k : ℕ) → k < l.d → get_or l.missing k 0 ≡ missing_of l.set k)
+
+abbrev pub decreases-loop-d : goal.decreases-loop-d
+decreases-loop-d l = 8 - l.d

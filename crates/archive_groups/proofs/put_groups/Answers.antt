@@ -1,0 +1,146 @@
+-- `archive_groups::put_groups` meets its contract. The invariant: the groups from place i on are left to write, and their rows can be added.
+use mathlib.Core.Path.{◌≡◌, sym, ap, ap₂, ◌∙◌}
+use mathlib.Core.List.{List, ◌++◌}
+use Prim.Native.Nat.{ℕ, ◌+◌, ◌-◌, ◌*◌, ◌≤◌, ◌<◌}
+use native.Mathlib.Omega.{arith}
+use lib.ListN.{length, get_or, length-take, length-drop}
+use Rattle.cube.specs.declared.Total.{Total}
+use Rattle.cube.specs.Measure.{Row, nothing}
+use Rattle.fields.specs.Written.{Wrote}
+use borrow.Rule.Slice.PartMut.{mid_of}
+use Rattle.cube.proofs.Codes.{length-cell}
+use Rattle.rows.specs.Rows.{cut, row_at, row_total}
+use Rattle.rows.proofs.Rows.{row-length}
+use Rattle.rows_order.specs.Index.{key}
+use Rattle.rows_runs.proofs.Totals.{Room}
+use Rattle.archive_entries.specs.Layout.{cell_bytes}
+use Rattle.archive_entries.proofs.Lengths.{cell-length}
+use Rattle.rows_slots.specs.Slots.{row_in}
+use Rattle.rows_slots.specs.Summed.{plus_row}
+use Rattle.rows_slots.proofs.Summing.{rows_from, adding_none, adding_bounds, adding_on, adding_end, entry_named}
+use Rattle.archive_cells.specs.Writing.{Writing}
+use Rattle.archive_cells.specs.WritingLaws.{writing_none, writing_more, writing_room, writing_done, wrote_as}
+use Rattle.archive_groups.specs.Masks.{masked}
+use Rattle.archive_groups.specs.Groups.{group_bytes}
+use Rattle.archive_groups.proofs.Masks.{masked-key}
+use Rattle.archive_groups.proofs.Left.{left, left_on, left_end, left-none}
+use borrow.Author.Rules.{rules}
+use Rattle.archive_groups.proofs.put_groups.Goals as goal
+use Rattle.archive_groups.proofs.put_groups.Goals.{After-row_in-row, After-row_of-mine}
+
+-- the row in hand
+named : (c : goal.After-row_in-row) → c.row_in-row.result < c.args.n
+named c = rw c.row_in-row.ensures.0 (entry_named c.args.slot.now c.args.n c.loop-i.i c.requires.groupable.names c.loop-i-test.true)
+
+-- the group that ends here, and its bytes
+abbrev ended : (c : goal.After-row_of-mine) → Row Total
+ended c =
+    let a = c.args in
+    let l = c.loop-i in
+    let row = row_in (get_or a.slot.now l.i 0) in
+    record { codes = key a.set (cut a.dims a.n a.rows.now) row; total = plus_row (row_total a.dims a.n a.rows.now) l.total row }
+
+writing : (c : goal.After-row_of-mine) → let a = c.args in
+    let l = c.loop-i in
+    let keys = key a.set (cut a.dims a.n a.rows.now) in
+    Writing (group_bytes (row_total a.dims a.n a.rows.now) keys a.slot.now) (cell_bytes (ended c) ++ left (row_total a.dims a.n a.rows.now) keys a.slot.now nothing (l.i + 1)) a.out.now l.out l.at
+writing c =
+    let a = c.args in
+    let l = c.loop-i in
+    let keys = key a.set (cut a.dims a.n a.rows.now) in
+    rw (left_end (row_total a.dims a.n a.rows.now) keys a.slot.now l.total l.i c.loop-i-test.true (λ z. c.if-end_in-eq0.false (c.end_in.ensures.0 ∙ z))) at l.invariant.2
+
+-- the cell has a code for each dimension
+long : (c : goal.After-row_of-mine) → length (cell_bytes (ended c)) ≡ 4 * c.args.dims + 12
+unfolding key
+long c =
+    let a = c.args in
+    let l = c.loop-i in
+    let row = row_in (get_or a.slot.now l.i 0) in
+    let n = entry_named a.slot.now a.n l.i c.requires.groupable.names c.loop-i-test.true in
+    cell-length a.dims (ended c) (length-cell a.set (row_at (cut a.dims a.n a.rows.now) row) ∙ row-length a.dims a.n row a.rows.now n c.requires.groupable.size)
+
+-- there is room for it
+room : (c : goal.After-row_of-mine) → c.loop-i.at + (4 * c.args.dims + 12) ≤ length c.loop-i.out
+room c = omega (arith, long c, writing_room (cell_bytes (ended c)) _ (writing c) c.requires.slot_in_bounds)
+
+-- what was written is that group
+wrote : (c : goal.After-slice_known-in-loop-i-1) → let l = c.loop-i in Wrote (cell_bytes (ended (PLACE c After-row_of-mine))) (mid_of l.at (length l.out - l.at) l.out) c.put_group-at.new.out c.put_group-at.result
+wrote c =
+    let a = c.args in
+    let l = c.loop-i in
+    let e = c.row_in-row.ensures.0 in
+    let r = row_in (get_or a.slot.now l.i 0) in
+    let m = c.mask_of-missing.result in
+    let p = c.requires.groupable in
+    let n = entry_named a.slot.now a.n l.i p.names c.loop-i-test.true in
+    let codes =
+    ap (masked m) c.row_of-mine.ensures.0
+    ∙ ap (λ (z : ℕ). masked m (row_at (cut a.dims a.n a.rows.now) z)) e
+    ∙ masked-key a.dims a.n a.set r a.rows.now m p.dims p.valid c.mask_of-missing.ensures n in
+    let total = c.add_row-total.ensures ∙ ap (plus_row (row_total a.dims a.n a.rows.now) l.total) e in
+    wrote_as (ap₂ (λ (x : List ℕ) (t : Total). cell_bytes (record { codes = x; total = t })) codes total) c.put_group-at.ensures
+
+pub loop-i-init : goal.loop-i-init
+unfolding left group_bytes
+loop-i-init c =
+    let a = c.args in
+    (search rules, adding_none (row_total a.dims a.n a.rows.now) (key a.set (cut a.dims a.n a.rows.now)) a.slot.now c.requires.groupable.summable, writing_none _ _)
+
+pub add_row-total-requires : goal.add_row-total-requires
+add_row-total-requires c =
+    let a = c.args in
+    let p = c.requires.groupable in
+    let l = c.loop-i in
+    let h : l.i < length a.slot.now = c.loop-i-test.true in
+    let n = entry_named a.slot.now a.n l.i p.names h in
+    let b = adding_bounds (row_total a.dims a.n a.rows.now) (key a.set (cut a.dims a.n a.rows.now)) a.slot.now l.total l.i h l.invariant.1 in
+    rw c.row_in-row.ensures.0 (p.size, n, b.0, b.1, b.2)
+
+pub loop-i-preserved-then-end_in-eq0 : goal.loop-i-preserved-then-end_in-eq0
+loop-i-preserved-then-end_in-eq0 c =
+    let a = c.args in
+    let l = c.loop-i in
+    let keys = key a.set (cut a.dims a.n a.rows.now) in
+    let h : l.i < length a.slot.now = c.loop-i-test.true in
+    rw (c.add_row-total.ensures, c.row_in-row.ensures.0) (
+      search rules,
+      adding_on (row_total a.dims a.n a.rows.now) keys a.slot.now l.total l.i h l.invariant.1,
+      rw (left_on (row_total a.dims a.n a.rows.now) keys a.slot.now l.total l.i h (sym c.end_in.ensures.0 ∙ c.if-end_in-eq0.true)) at l.invariant.2,
+    )
+
+pub row_of-mine-requires : goal.row_of-mine-requires
+row_of-mine-requires c = (c.requires.groupable.size, named (goal.at.row_of-mine-requires c).After-row_in-row)
+
+pub slice_bounds-put_group-count : goal.slice_bounds-put_group-count
+slice_bounds-put_group-count c = omega (arith, room c)
+
+pub slice_bounds-put_group-start : goal.slice_bounds-put_group-start
+slice_bounds-put_group-start c = omega (arith, room c)
+
+pub put_group-at-requires : goal.put_group-at-requires
+put_group-at-requires c = (omega (arith, c.row_of-mine.ensures.1, c.requires.groupable.dims), simp (length-take, length-drop) (omega (arith, c.row_of-mine.ensures.1, room (goal.at.put_group-at-requires c).After-row_of-mine)))
+
+pub overflow_add-at : goal.overflow_add-at
+overflow_add-at c = omega (arith, room (goal.at.overflow_add-at c).After-row_of-mine, long (goal.at.overflow_add-at c).After-row_of-mine, (wrote c).count)
+
+pub overflow_step-i-in-loop-i : goal.overflow_step-i-in-loop-i
+overflow_step-i-in-loop-i c = omega (arith, c.loop-i-test.true, c.requires.groupable.few)
+
+pub loop-i-preserved : goal.loop-i-preserved
+loop-i-preserved c =
+    let a = c.args in
+    let l = c.loop-i in (
+      search rules,
+      adding_end (row_total a.dims a.n a.rows.now) (key a.set (cut a.dims a.n a.rows.now)) a.slot.now l.total l.i c.loop-i-test.true l.invariant.1,
+      writing_more (cell_bytes (ended (goal.at.loop-i-preserved c).After-row_of-mine)) _ (writing (goal.at.loop-i-preserved c).After-row_of-mine) (wrote c),
+    )
+
+pub shape_of-out : goal.shape_of-out
+shape_of-out c = c.loop-i.invariant.2.wrote.same
+
+pub returns : goal.returns
+returns c =
+    let a = c.args in
+    let l = c.loop-i in
+    writing_done (rw (left-none (row_total a.dims a.n a.rows.now) (key a.set (cut a.dims a.n a.rows.now)) a.slot.now l.total l.i c.loop-i-test.false) at l.invariant.2)

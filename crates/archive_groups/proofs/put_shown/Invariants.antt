@@ -1,0 +1,17 @@
+use mathlib.Core.List.{◌++◌}
+use Prim.Native.Nat.{◌+◌, ◌-◌, ◌≤◌}
+use native.Mathlib.Omega.{arith}
+use lib.ListN.{length, length-take, length-drop}
+use Rattle.fields.specs.Words.{words_bytes}
+use Rattle.archive_cells.specs.Writing.{Writing}
+use Rattle.archive_cells.specs.WritingLaws.{writing_none, writing_more, writing_room, writing_done}
+use Rattle.archive_groups.specs.Masks.{masked}
+use Rattle.archive_groups.proofs.Shown.{shown_from, word_of, shown-length, shown-all, shown_on, shown-none}
+use borrow.Author.Rules.{rules}
+use Rattle.archive_groups.proofs.put_shown.Given as goal
+
+abbrev pub invariant-loop-d : goal.invariant-loop-d
+invariant-loop-d l = (l.d ≤ length l.mine) × Writing (words_bytes (masked l.missing l.mine)) (shown_from l.missing l.mine l.d) l.initial.out l.out l.at
+
+abbrev pub decreases-loop-d : goal.decreases-loop-d
+decreases-loop-d l = length l.mine - l.d

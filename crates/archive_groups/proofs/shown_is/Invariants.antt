@@ -1,0 +1,18 @@
+use mathlib.Core.Path.{◌≡◌, sym, ap, ◌∙◌}
+use mathlib.Core.Bool.{Bool, ◌&&◌, and_assoc, and-true}
+use Prim.Native.Nat.{◌+◌, ◌*◌, ◌-◌, ◌≤◌}
+use native.Mathlib.Omega.{arith}
+use lib.ListN.{length, drop}
+use Rattle.fields.specs.Words.{words_bytes}
+use Rattle.fields.specs.Opening.{starts_with}
+use Rattle.archive_groups.specs.Masks.{masked}
+use Rattle.archive_groups.proofs.Shown.{shown_from, shown-all, shown-compared, shown-none}
+use borrow.Author.Rules.{rules}
+use Rattle.archive_groups.proofs.shown_is.Given as goal
+
+abbrev pub invariant-loop-d : goal.invariant-loop-d
+invariant-loop-d l =
+    (l.d ≤ length l.mine) × (l.at ≡ l.start + 4 * l.d) × (starts_with (drop l.start l.s) (words_bytes (masked l.missing l.mine)) ≡ l.same && starts_with (drop l.at l.s) (shown_from l.missing l.mine l.d))
+
+abbrev pub decreases-loop-d : goal.decreases-loop-d
+decreases-loop-d l = length l.mine - l.d

@@ -1,0 +1,32 @@
+-- `call_cuboids::blank_cells` meets its contract: an empty table has one cell, that of the empty set, in which any codes are all ALL.
+use mathlib.Core.Path.{refl, sym}
+use mathlib.Core.List.{List, [], ◌∷◌}
+use Prim.Native.Nat.{ℕ}
+use native.Mathlib.Omega.{arith}
+use lib.ListN.{take}
+use lib.Seq.{length-take-le}
+use Rattle.rows.specs.Rows.{rows_of}
+use Rattle.call_cuboids.proofs.Lengths.{blank_elsewhere, blank_put}
+use borrow.Author.Rules.{rules}
+use Rattle.call_cuboids.proofs.blank_cells.Goals as goal
+use Rattle.call_cuboids.proofs.blank_cells.Goals.{After-codes-1}
+
+abbrev zeros : List ℕ
+zeros = 0 ∷ 0 ∷ 0 ∷ 0 ∷ 0 ∷ 0 ∷ 0 ∷ 0 ∷ []
+
+pub returns-then-set-ne0 : goal.returns-then-set-ne0
+unfolding rows_of
+returns-then-set-ne0 c = (omega arith, blank_elsewhere c.args.dims c.args.set c.if-set-ne0.true)
+
+pub slice_bounds-put_row-end : goal.slice_bounds-put_row-end
+slice_bounds-put_row-end c = sym (length-take-le c.args.dims _ c.requires.0)
+
+pub put_row-requires : goal.put_row-requires
+put_row-requires c =
+    let p = c.requires in
+    omega (arith, slice-aggregate-put-row c, p.1)
+
+pub returns : goal.returns
+returns c =
+    let a = c.args in
+    (omega arith, blank_put a.dims a.set (take a.dims zeros) _ a.cells.now _ (slice-aggregate-put-row (goal.at.returns c).After-codes-1) (omega (arith, c.if-set-ne0.false)) refl c.put_row.ensures)

@@ -1,0 +1,80 @@
+-- `call_fixes::fixes_read` meets its contract: the set's number is tested, then the dimension's; a key fixes each, and otherwise the rows tell.
+use mathlib.Core.Path.{◌≡◌, refl, sym, ap, ◌∙◌}
+use mathlib.Core.Bool.{true, false}
+use Prim.Native.Nat.{ℕ, ◌*◌, ◌^◌, ◌<◌}
+use native.Mathlib.Omega.{arith}
+use lib.ListN.{take}
+use Rattle.fields_walk.proofs.Limits.{bytes_of}
+use Rattle.lattice.proofs.Sets.{sets_of}
+use Rattle.cube.specs.Codes.{plain}
+use Rattle.cube.specs.Keys.{fixes, dimension}
+use Rattle.cube.proofs.Keys.{key-fixes}
+use Rattle.rows.specs.Rows.{width, cut}
+use Rattle.archive_read.specs.Sharing.{Sharing}
+use Rattle.call_answers.proofs.Outcomes.{fixes_no_set, fixes_zero, fixes-high, fixes-told}
+use Rattle.call_ask.proofs.Opened.{OpenedIn, opened, opened_small}
+use Rattle.call_keys.proofs.Bare.{bare-key}
+use Rattle.call_keys.proofs.Outcomes.{laid, shared_in}
+use borrow.Author.Rules.{rules}
+use Rattle.call_fixes.proofs.fixes_read.Goals as goal
+use Rattle.call_fixes.proofs.fixes_read.Goals.{After-rows_fix, After-sets_of, After-shared_slice_known-1, Else-sets_of-set, Start, ready, sets}
+
+rows_in_lem : (c : goal.After-shared_slice_known-1) → (let a = c.args in OpenedIn a.s.now a.dims a.bases a.cells a.rows.now)
+rows_in_lem c = opened (bytes_of c.args.s.now (λ i. omega (arith, c.type_inv.s i))) c.requires.0
+
+sharing : (c : goal.After-shared_slice_known-1) → (let a = c.args in Sharing a.dims a.bases (take (a.bases * width a.dims) a.rows.now) a.used.now)
+sharing c = let a = c.args in shared_in (rows_in_lem c) a.rows.now a.used.now refl c.requires.1
+
+-- the set is one of the archive's
+known : (c : goal.Else-sets_of-set) → c.args.set < 2 ^ c.args.dims
+known c = omega (arith, c.if-sets_of-set.false, c.sets_of.ensures)
+
+-- what the rows tell, of the dimension
+told : (c : goal.After-rows_fix) → (let a = c.args in
+    c.rows_fix.result ≡ fixes (plain a.dims) (cut a.dims a.bases (take (a.bases * width a.dims) a.rows.now)) a.set (dimension a.dimension))
+told c =
+    let a = c.args in
+    c.rows_fix.ensures ∙ ap (λ (t : ℕ). fixes (plain a.dims) (cut a.dims a.bases (take (a.bases * width a.dims) a.rows.now)) a.set t) c.sets_of-fixed.ensures
+
+pub sets_of-requires : goal.sets_of-requires
+sets_of-requires c = (rows_in_lem (goal.at.sets_of-requires c).After-shared_slice_known-1).ready.dims
+
+pub returns-then-sets_of-set : goal.returns-then-sets_of-set
+returns-then-sets_of-set c = fixes_no_set (rows_in_lem (goal.at.returns-then-sets_of-set c).After-shared_slice_known-1) c.args.dimension (omega (arith, c.if-sets_of-set.true, c.sets_of.ensures))
+
+pub returns-then-dimension-eq0 : goal.returns-then-dimension-eq0
+returns-then-dimension-eq0 c = fixes_zero (rows_in_lem (goal.at.returns-then-dimension-eq0 c).After-shared_slice_known-1) (known (goal.at.returns-then-dimension-eq0 c).Else-sets_of-set) c.if-dimension-eq0.true
+
+pub returns-then-dims-dimension : goal.returns-then-dims-dimension
+returns-then-dims-dimension c = fixes-high (rows_in_lem (goal.at.returns-then-dims-dimension c).After-shared_slice_known-1) (known (goal.at.returns-then-dims-dimension c).Else-sets_of-set) c.if-dims-dimension.true
+
+pub is_bare-requires : goal.is_bare-requires
+is_bare-requires c = ((rows_in_lem (goal.at.is_bare-requires c).After-shared_slice_known-1).ready.dims, (sharing (goal.at.is_bare-requires c).After-shared_slice_known-1).sets, known (goal.at.is_bare-requires c).Else-sets_of-set)
+
+-- a key
+pub returns-then-is_bare : goal.returns-then-is_bare
+returns-then-is_bare c =
+    let a = c.args in
+    let o = rows_in_lem (goal.at.returns-then-is_bare c).After-shared_slice_known-1 in
+    let l = laid o in
+    let key = sym (bare-key l (sharing (goal.at.returns-then-is_bare c).After-shared_slice_known-1) (sets_of a.dims (known (goal.at.returns-then-is_bare c).Else-sets_of-set))) ∙ sym c.is_bare.ensures ∙ c.if-is_bare.true in
+    fixes-told o (known (goal.at.returns-then-is_bare c).Else-sets_of-set) c.if-dimension-eq0.false c.if-dims-dimension.false {b = true}
+    (sym ((key-fixes a.dims (cut a.dims a.bases (take (a.bases * width a.dims) a.rows.now)) l.base.valid a.set).0 key a.dimension (omega (arith, c.if-dimension-eq0.false)) c.if-dims-dimension.false))
+
+pub overflow_mul-size : goal.overflow_mul-size
+overflow_mul-size c = omega (arith, opened_small (rows_in_lem (goal.at.overflow_mul-size c).After-shared_slice_known-1))
+
+pub sets_of-fixed-requires : goal.sets_of-fixed-requires
+sets_of-fixed-requires c = omega (arith, c.if-dims-dimension.false, (rows_in_lem (goal.at.sets_of-fixed-requires c).After-shared_slice_known-1).ready.dims)
+
+pub slice_bounds-rows_fix-end : goal.slice_bounds-rows_fix-end
+slice_bounds-rows_fix-end c = (rows_in_lem (goal.at.slice_bounds-rows_fix-end c).Start).ready.size
+
+pub rows_fix-requires : goal.rows_fix-requires
+rows_fix-requires c = laid (rows_in_lem (goal.at.rows_fix-requires c).Start)
+
+pub returns-then-rows_fix : goal.returns-then-rows_fix
+returns-then-rows_fix c = fixes-told (rows_in_lem (goal.at.returns-then-rows_fix c).Start) (known (goal.at.returns-then-rows_fix c).After-sets_of) c.if-dimension-eq0.false c.if-dims-dimension.false {b = true} (sym c.if-rows_fix.true ∙ told (goal.at.returns-then-rows_fix c).After-rows_fix)
+
+pub returns-else-rows_fix : goal.returns-else-rows_fix
+returns-else-rows_fix c = fixes-told (rows_in_lem (goal.at.returns-else-rows_fix c).Start) (known (goal.at.returns-else-rows_fix c).After-sets_of) c.if-dimension-eq0.false c.if-dims-dimension.false {b = false} (sym c.if-rows_fix.false ∙ told (goal.at.returns-else-rows_fix c).After-rows_fix)

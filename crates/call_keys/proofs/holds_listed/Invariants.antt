@@ -1,0 +1,15 @@
+use mathlib.Core.Path.{◌≡◌, sym, ◌∙◌}
+use mathlib.Core.Bool.{true, false}
+use Prim.Native.Nat.{◌-◌, ◌≤◌}
+use borrow.Author.Rules.{rules}
+use lib.ListN.{length, get_or, drop}
+use Rattle.lists.specs.Lists.{some}
+use Rattle.lattice.specs.Sets.{holds}
+use Rattle.rows_lists.proofs.Lists.{some_next, some-done}
+use Rattle.call_keys.proofs.holds_listed.Given as goal
+
+abbrev pub invariant-loop-i : goal.invariant-loop-i
+invariant-loop-i l = (l.i ≤ length l.list) × (some (holds 32 l.set) (drop l.i l.list) ≡ some (holds 32 l.set) l.list)
+
+abbrev pub decreases-loop-i : goal.decreases-loop-i
+decreases-loop-i l = length l.list - l.i

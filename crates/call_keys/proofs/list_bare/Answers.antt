@@ -1,0 +1,77 @@
+-- `call_keys::list_bare` meets its contract: before the set at place k the smallest sets so far of which no cell is shared stand in front of the list.
+use mathlib.Core.Path.{◌≡◌, refl, sym, ◌∙◌}
+use Prim.Native.Nat.{◌-◌, ◌^◌, ◌<◌}
+use native.Mathlib.Omega.{arith}
+use borrow.Author.Rules.{rules}
+use borrow.Author.Tests.{not-true, not-false}
+use lib.ListN.{length, length-set}
+use lib.Seq.{length-take-le}
+use Rattle.call_keys.proofs.Listing.{Listing, listing_start, listing-few, listing-done, listing-off, listing-held, listing_no, listing-room, listing-more}
+use Rattle.call_keys.proofs.list_bare.Goals as goal
+use Rattle.call_keys.proofs.list_bare.Goals.{After-set_at-set}
+
+-- the set is one of the archive's
+below : (c : goal.Else-all-set) → c.set_at-set.result < 2 ^ c.args.dims
+below c = omega (arith, c.if-all-set.false, c.sets_of-all.ensures)
+
+-- there is room for one more
+room : (c : goal.Else-not-is_bare) → c.loop-k.n < 70
+room c =
+    let s = c.before.before.before.before.before.before.before.before.before.before.before.before in
+    let l = c.loop-k in
+    listing-room s.args.dims s.args.used.now s.requires.0 s.requires.2 l.invariant.1 c.loop-k-test.true c.set_at-set.ensures (below (PLACE c After-set_at-set)) (sym c.holds_listed.ensures ∙ c.if-holds_listed.false) (sym c.is_bare.ensures ∙ not-false _ c.if-not-is_bare.false)
+
+pub overflow_cast-dims : goal.overflow_cast-dims
+overflow_cast-dims c = omega (arith, c.requires.0)
+
+pub sets_of-all-requires : goal.sets_of-all-requires
+sets_of-all-requires c = c.requires.0
+
+pub loop-k-init : goal.loop-k-init
+loop-k-init c = (refl, listing_start c.args.dims c.args.used.now c.requires.0 c.requires.2 c.args.list.now)
+
+pub loop-k-preserved-then-all-set : goal.loop-k-preserved-then-all-set
+loop-k-preserved-then-all-set c =
+    let l = c.loop-k in
+    (l.invariant.0, listing-off c.args.dims c.args.used.now c.requires.0 c.requires.2 l.invariant.1 c.loop-k-test.true c.set_at-set.ensures (omega (arith, c.if-all-set.true, c.sets_of-all.ensures)))
+
+pub slice_bounds-holds_listed-end : goal.slice_bounds-holds_listed-end
+slice_bounds-holds_listed-end c = c.loop-k.invariant.1.front
+
+pub slice_bounds-holds_listed-end-in-loop-k : goal.slice_bounds-holds_listed-end-in-loop-k
+slice_bounds-holds_listed-end-in-loop-k c = sym (length-take-le _ _ c.loop-k.invariant.1.front)
+
+pub loop-k-preserved-then-holds_listed : goal.loop-k-preserved-then-holds_listed
+loop-k-preserved-then-holds_listed c =
+    let s = c.before.before.before.before.before.before.before.before.before.before in
+    let l = c.loop-k in
+    (l.invariant.0, listing-held s.args.dims s.args.used.now s.requires.0 s.requires.2 l.invariant.1 c.loop-k-test.true c.set_at-set.ensures (below (goal.at.loop-k-preserved-then-holds_listed c).After-set_at-set) (sym c.holds_listed.ensures ∙ c.if-holds_listed.true))
+
+pub is_bare-requires : goal.is_bare-requires
+is_bare-requires c = let p = c.requires in (p.0, p.1, below (goal.at.is_bare-requires c).After-set_at-set)
+
+pub loop-k-preserved-then-not-is_bare : goal.loop-k-preserved-then-not-is_bare
+loop-k-preserved-then-not-is_bare c =
+    let s = c.before.before.before.before.before.before.before.before.before.before.before.before in
+    let l = c.loop-k in
+    (l.invariant.0, listing_no s.args.dims s.args.used.now s.requires.0 s.requires.2 l.invariant.1 c.loop-k-test.true c.set_at-set.ensures (below (goal.at.loop-k-preserved-then-not-is_bare c).After-set_at-set) (sym c.is_bare.ensures ∙ not-true _ c.if-not-is_bare.true))
+
+pub bounds-list-n : goal.bounds-list-n
+bounds-list-n c = omega (arith, room c, c.loop-k.invariant.0, c.requires.3)
+
+pub overflow_add-n : goal.overflow_add-n
+overflow_add-n c = omega (arith, room c)
+
+pub loop-k-preserved : goal.loop-k-preserved
+loop-k-preserved c =
+    let s = c.before.before.before.before.before.before.before.before.before.before.before.before in
+    let l = c.loop-k in
+    let z = length-set l.list l.n c.set_at-set.result in (
+      z ∙ l.invariant.0,
+      listing-more s.args.dims s.args.used.now s.requires.0 s.requires.2 l.invariant.1 c.loop-k-test.true c.set_at-set.ensures (below (goal.at.loop-k-preserved c).After-set_at-set) (sym c.holds_listed.ensures ∙ c.if-holds_listed.false) (sym c.is_bare.ensures ∙ not-false _ c.if-not-is_bare.false) (omega (arith, room c, l.invariant.0, s.requires.3)) z,
+    )
+
+pub returns : goal.returns
+returns c =
+    let m = c.loop-k.invariant.1 in
+    (listing-done c.args.dims c.args.used.now c.requires.0 c.requires.2 m c.loop-k-test.false, listing-few c.args.dims c.args.used.now c.requires.0 c.requires.2 m)

@@ -1,0 +1,33 @@
+-- `call_questions::falls_in` meets its contract: what is left of the row falls in what is left of the cell just where the row falls in the cell.
+use mathlib.Core.Path.{◌≡◌, sym, ◌∙◌}
+use Prim.Native.Nat.{◌≤◌, ◌-◌}
+use borrow.Author.Rules.{rules}
+use borrow.Author.Tests.{not-true, not-false}
+use lib.ListN.{length, get_or, drop}
+use Rattle.lists.proofs.Tests.{cases}
+use Rattle.cube.specs.Codes.{falls}
+use Rattle.call_questions.proofs.Pairs.{pairs_done, pairs_skip, pairs_stop, falls_pairs, meets-all, meets-code, meets_not}
+use Rattle.call_questions.proofs.falls_in.Goals as goal
+
+pub returns-then-code-mine : goal.returns-then-code-mine
+returns-then-code-mine c =
+    let a = c.args in
+    sym (sym c.loop-d.invariant.1
+    ∙ pairs_stop falls_pairs a.cell.now a.mine.now c.loop-d.d (search rules) (search rules)
+    (meets_not _ _ c.if-code-ne65535.true (not-true _ c.if-code-mine.true)))
+
+pub loop-d-preserved : goal.loop-d-preserved
+loop-d-preserved c =
+    let cell = c.args.cell.now in
+    let mine = c.args.mine.now in
+    let d = c.loop-d.d in (
+      search rules,
+      pairs_skip falls_pairs cell mine d (search rules) (search rules)
+          (cases c.else-code-ne65535.branch (λ w. meets-code (get_or cell d 0) (get_or mine d 0) (not-false _ w.2.left)) (λ w. meets-all _ _ w.left))
+          ∙ c.loop-d.invariant.1,
+    )
+
+pub returns : goal.returns
+returns c =
+    let a = c.args in
+    sym (sym c.loop-d.invariant.1 ∙ pairs_done falls_pairs a.cell.now a.mine.now c.loop-d.d (search rules) (search rules))

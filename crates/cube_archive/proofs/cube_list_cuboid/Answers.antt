@@ -1,0 +1,8 @@
+-- `cube_archive::cube_list_cuboid` meets its contract: the call's answer as a number, and its output.
+use mathlib.Core.Path.{ap, ◌∙◌}
+use Rattle.call_answers.specs.Numbers.{written_number}
+use borrow.Author.Rules.{rules}
+use Rattle.cube_archive.proofs.cube_list_cuboid.Goals as goal
+
+pub returns : goal.returns
+returns c = record { value = c.number.ensures ∙ ap written_number c.list_cuboid.ensures.answer; out_after = c.list_cuboid.ensures.output }

@@ -1,0 +1,11 @@
+-- `fee_list::put_fee` meets its contract: the shares go over the front of an array.
+use mathlib.Core.Path.{sym}
+use lib.Seq.{length-take-le}
+use borrow.Author.Rules.{rules}
+use Rattle.fee_list.proofs.put_fee.Goals as goal
+
+pub slice_bounds-put_shares-end : goal.slice_bounds-put_shares-end
+slice_bounds-put_shares-end c = sym (length-take-le _ _ c.requires.fee_bound.1)
+
+pub put_shares-requires : goal.put_shares-requires
+put_shares-requires c = record { fee_bound = c.requires.fee_bound; shares_len = (sym (slice-aggregate-put-shares c), c.requires.counts_in_bounds) }

@@ -1,0 +1,17 @@
+use mathlib.Core.Path.{◌≡◌, refl, ◌∙◌}
+use mathlib.Core.List.{map}
+use Prim.Native.Nat.{◌-◌, ◌≤◌, ◌<◌}
+use native.Mathlib.Omega.{arith}
+use lib.ListN.{length, take, length-set}
+use Rattle.fee_shares.specs.Shares.{quota, rest}
+use Rattle.fee_shares.proofs.Walking.{weight_low, quotas-low, map_more, map-done}
+use borrow.Author.Rules.{rules}
+use Rattle.fee_shares.proofs.divide.Given as goal
+
+abbrev pub invariant-loop-i : goal.invariant-loop-i
+invariant-loop-i l =
+    (l.i ≤ length l.counts) × (length l.shares ≡ length l.counts) × (length l.rests ≡ length l.counts)
+    × (take l.i l.shares ≡ map (quota l.total l.fee) (take l.i l.counts)) × (take l.i l.rests ≡ map (rest l.total l.fee) (take l.i l.counts))
+
+abbrev pub decreases-loop-i : goal.decreases-loop-i
+decreases-loop-i l = length l.counts - l.i

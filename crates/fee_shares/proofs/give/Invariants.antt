@@ -1,0 +1,18 @@
+use mathlib.Core.Path.{◌≡◌, refl, sym, ◌∙◌, ap}
+use mathlib.Core.List.{◌++◌}
+use Prim.Native.Nat.{◌+◌, ◌-◌, ◌≤◌, ◌<◌}
+use native.Mathlib.Omega.{arith}
+use lib.ListN.{length, get_or, take, drop, length-set}
+use Rattle.fee_shares.specs.Shares.{added}
+use Rattle.fee_shares.specs.Given.{gets, given}
+use Rattle.fee_shares.proofs.Walking.{give-next, give-same, give-done, give-low, cent-low}
+use borrow.Author.Rules.{rules}
+use Rattle.fee_shares.proofs.give.Given as goal
+
+abbrev pub invariant-loop-i : goal.invariant-loop-i
+invariant-loop-i l =
+    (l.i ≤ length l.rests) × (length l.shares ≡ length l.rests) × (drop l.i l.shares ≡ drop l.i l.initial.shares)
+    × (take l.i l.shares ++ added (drop l.i l.shares) (given l.v l.left (drop l.i l.rests)) ≡ added l.initial.shares (given l.v l.k l.rests))
+
+abbrev pub decreases-loop-i : goal.decreases-loop-i
+decreases-loop-i l = length l.rests - l.i

@@ -1,0 +1,10 @@
+use Rattle.std.proofs.Common.{◌≡◌, ◌+◌, ◌-◌, length, drop, ap, ◌∙◌, arith, length-drop, take_all, rules}
+use Rattle.fields_check.specs.Check.{check_of}
+use Rattle.fields_check.proofs.Summed.{Blocks, blocks_none, blocks_on, blocks_all}
+use Rattle.fields_check.proofs.sum_blocks.Given as goal
+
+abbrev pub invariant-loop-at : goal.invariant-loop-at
+invariant-loop-at l = Blocks l.s l.sum l.at
+
+abbrev pub decreases-loop-at : goal.decreases-loop-at
+decreases-loop-at l = length l.s - l.at

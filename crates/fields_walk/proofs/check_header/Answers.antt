@@ -1,0 +1,49 @@
+-- `fields_walk::check_header` meets its contract: the opening, then D and the sizes.
+use mathlib.Core.Path.{◌≡◌, sym, ap, ◌∙◌}
+use mathlib.Core.Bool.{true}
+use mathlib.Core.List.{List}
+use Prim.Native.Nat.{ℕ, ◌≤◌}
+use native.Mathlib.Omega.{arith}
+use borrow.Author.Rules.{rules}
+use borrow.Author.Tests.{not-true, not-false}
+use lib.ListN.{length, drop, length-append}
+use Rattle.fields.specs.Opening.{starts_with}
+use Rattle.fields.specs.OpeningLaws.{starts_is}
+use Rattle.fields_walk.specs.Fields.{sizes}
+use Rattle.fields_walk.proofs.Steps.{seen, walked_as, then_on, then_off}
+use Rattle.fields_walk.proofs.Fields.{field_at, header-off, header_on}
+use Rattle.fields_walk.proofs.check_header.Goals as goal
+use Rattle.fields_walk.proofs.check_header.Goals.{Else-not-opening_is}
+
+-- what begins with four bytes has them
+long : (s o : List ℕ) → starts_with s o ≡ true → length o ≡ 4 → 4 ≤ length s
+long s o e h = omega (arith, ap length (starts_is s o e), length-append o (drop (length o) s))
+
+opens : (c : goal.Else-not-opening_is) → starts_with c.args.s.now c.args.opening.now ≡ true
+opens c = sym c.opening_is.ensures.value ∙ not-false _ c.if-not-opening_is.false
+
+inside : (c : goal.Else-not-opening_is) → 4 ≤ length c.args.s.now
+inside c = long c.args.s.now c.args.opening.now (opens c) c.opening_is.ensures.opening_len
+
+pub returns-then-not-opening_is : goal.returns-then-not-opening_is
+returns-then-not-opening_is c = record { says = header-off _ _ (sym c.opening_is.ensures.value ∙ not-true _ c.if-not-opening_is.true) }
+
+pub check_field-requires : goal.check_field-requires
+check_field-requires c = inside c
+
+pub word_at-requires : goal.word_at-requires
+word_at-requires c =
+    let g = seen c.in-At.is c.check_field.ensures in
+    (field_at c.args.s.now 1 9 3 4 (inside (goal.at.word_at-requires c).Else-not-opening_is) g.1 g.2).whole
+
+pub check_sizes-requires : goal.check_sizes-requires
+check_sizes-requires c = (seen c.in-At.is c.check_field.ensures).2
+
+pub returns-in-Stop : goal.returns-in-Stop
+returns-in-Stop c = record { says = header_on _ _ (opens (goal.at.returns-in-Stop c).Else-not-opening_is) ∙ then_off sizes (seen c.in-Stop.is c.check_field.ensures) }
+
+pub returns-in-At : goal.returns-in-At
+returns-in-At c =
+    let g = seen c.in-At.is c.check_field.ensures in
+    let f = field_at c.args.s.now 1 9 3 4 (inside (goal.at.returns-in-At c).Else-not-opening_is) g.1 g.2 in
+    walked_as (header_on _ _ (opens (goal.at.returns-in-At c).Else-not-opening_is) ∙ then_on sizes g.1 ∙ ap (λ (n : ℕ). sizes n (drop c.in-At.next c.args.s.now)) (f.value ∙ sym c.word_at.ensures)) c.check_sizes.ensures

@@ -1,0 +1,89 @@
+-- `rows_compare::is_single` meets its contract. The row loop: no row so far agrees, and the row is single among the rows from i on just where it is among all.
+-- The dimension loop: what is left of two rows agrees on the rest of the set just where they agree on the set; `continue 'rows` steps i, so i is among its variables.
+use mathlib.Core.Path.{◌≡◌, refl, sym, ap, ◌∙◌}
+use mathlib.Core.Logic.{◌≢◌}
+use mathlib.Core.Bool.{true}
+use mathlib.Core.List.{[]}
+use Prim.Native.Nat.{◌≤◌, ◌<◌, ◌-◌}
+use borrow.Author.Rules.{rules}
+use borrow.Author.Tests.{not-true, not-false}
+use lib.ListN.{length, drop}
+use Rattle.lists.proofs.Tests.{cases}
+use Rattle.cube.specs.Codes.{agree, plain}
+use Rattle.cube.specs.Condensed.{single}
+use Rattle.rows.specs.Rows.{cut, row_at}
+use Rattle.rows.proofs.Rows.{cut-length}
+use Rattle.rows_compare.proofs.Agree.{alike-out, agree_skip, agree-stop, agree-done}
+use Rattle.lists.proofs.Places.{distinct-at}
+use Rattle.rows_compare.proofs.Singles.{single-own, single_skip, single-stop, single-done}
+use Rattle.rows_compare.proofs.is_single.Goals as goal
+use Rattle.rows_compare.proofs.is_single.Goals.{After-row_of-other, In-rows}
+
+-- the place in hand is that of a row
+within : (c : goal.In-rows)
+    → (let a = c.args in
+    c.rows.i < length (cut a.dims a.n a.rows.now))
+within c = rw cut-length (search rules)
+
+-- the row in hand is another than `row`
+differs : (c : goal.After-row_of-other) → c.row_of-mine.result.now ≢ c.row_of-other.result.now
+differs c e =
+    let a = c.args in
+    let xs = cut a.dims a.n a.rows.now in
+    distinct-at [] xs c.rows.i a.row c.requires.2 (within (PLACE c In-rows)) (rw cut-length (search rules)) c.if-i-row.false
+    (sym c.row_of-other.ensures.0 ∙ sym e ∙ c.row_of-mine.ensures.0)
+
+pub rows-init : goal.rows-init
+rows-init c =
+    let a = c.args in
+    (refl, search rules, ap (single (plain a.dims) (cut a.dims a.n a.rows.now) a.set) c.row_of-mine.ensures.0)
+
+pub rows-preserved-then-i-row : goal.rows-preserved-then-i-row
+rows-preserved-then-i-row c =
+    let a = c.args in
+    let xs = cut a.dims a.n a.rows.now in
+    let l = c.rows in (
+      l.invariant.0,
+      search rules,
+      single-own (plain a.dims) a.set c.row_of-mine.result.now xs l.i (within (goal.at.rows-preserved-then-i-row c).In-rows)
+          (c.row_of-mine.ensures.0 ∙ ap (row_at xs) (sym c.if-i-row.true))
+          ∙ l.invariant.2,
+    )
+
+pub rows-preserved : goal.rows-preserved
+rows-preserved c =
+    let a = c.args in
+    let mine = c.row_of-mine.result.now in
+    let stop = agree-stop c.loop-d.rest mine c.row_of-other.result.now c.loop-d.d (search rules) (search rules)
+    (rw c.if-rest-eq1.true (not-true _ c.if-mine-d.true)) in (
+      c.rows.invariant.0,
+      search rules,
+      rw c.loop-d.invariant.0
+          (single_skip (plain a.dims) a.set mine (cut a.dims a.n a.rows.now) c.rows.i (within (goal.at.rows-preserved c).In-rows)
+          c.row_of-other.ensures.0 (sym c.loop-d.invariant.2 ∙ stop) ∙ c.rows.invariant.2),
+    )
+
+pub loop-d-preserved : goal.loop-d-preserved
+loop-d-preserved c =
+    let l = c.loop-d in (
+      search rules,
+      search rules,
+      agree_skip l.rest _ _ l.d (search rules) (search rules)
+          (cases c.else-rest-eq1.branch (λ w. rw w.0.taken (not-false _ w.3.left)) (λ w. alike-out _ _ _ w.left)) ∙ l.invariant.2,
+    )
+
+pub returns-after-rows : goal.returns-after-rows
+returns-after-rows c =
+    let a = c.args in
+    c.rows.invariant.0
+    ∙ sym (sym c.rows.invariant.2
+    ∙ single-done (plain a.dims) a.set c.row_of-mine.result.now (cut a.dims a.n a.rows.now) c.rows.i (rw cut-length (search rules)))
+
+pub returns-after-loop-d : goal.returns-after-loop-d
+returns-after-loop-d c =
+    let a = c.args in
+    let mine = c.row_of-mine.result.now in
+    let done = agree-done c.loop-d.rest mine c.row_of-other.result.now c.loop-d.d (search rules) (search rules) in
+    sym (sym c.rows.invariant.2
+    ∙ single-stop (plain a.dims) a.set mine (cut a.dims a.n a.rows.now) c.rows.i (within (goal.at.returns-after-loop-d c).In-rows)
+    c.row_of-other.ensures.0 (sym c.loop-d.invariant.2 ∙ done) (differs (goal.at.returns-after-loop-d c).After-row_of-other))

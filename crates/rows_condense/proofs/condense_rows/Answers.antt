@@ -1,0 +1,107 @@
+-- `rows_condense::condense_rows` meets its contract: before the set at place k the slots of the sets that had a turn are filled, the rows that are single on these are told, the
+-- lists are ours for these, and so many shared cells have been counted as these have.
+use mathlib.Core.Path.{◌≡◌, refl, sym, ap, ap₂, ◌∙◌}
+use Prim.Native.Nat.{ℕ, zero, suc, ◌+◌, ◌-◌, ◌≤◌, ◌<◌}
+use native.Mathlib.Omega.{arith}
+use lib.Pow.{pow_pos, pow_mono}
+use lib.ListN.{length}
+use Rattle.lattice.specs.Sets.{full}
+use Rattle.lattice.proofs.Sets.{full-lt}
+use Rattle.cube.specs.Codes.{plain}
+use Rattle.rows.specs.Rows.{cut}
+use Rattle.rows.proofs.Rows.{cut-length}
+use Rattle.rows_ready.specs.Blank.{blanks}
+use Rattle.rows_ready.proofs.Blank.{normals-count}
+use Rattle.rows_crowds.proofs.Turns.{Filling, filling_start, filling_skip, filling_shorter, filling_more, filling_done}
+use Rattle.rows_condense.proofs.Listing.{Listing, Given, listing_start, listing_skip, listing_lower, listing_fit, listing-more, listing-few, listing-done}
+use borrow.Author.Rules.{rules}
+use Rattle.rows_condense.proofs.condense_rows.Goals as goal
+use Rattle.rows_condense.proofs.condense_rows.Goals.{After-sets_of-all, Else-all-set}
+
+-- the base rows, and how many sets have a turn
+base : (c : goal.After-sets_of-all) → let a = c.args in Given a.dims a.n a.rows.now
+base c = let p = c.requires.n_bound in record { dims = p.1; few = p.0; size = p.2; base = p.3 }
+
+few : (c : goal.After-sets_of-all) → full c.args.dims ≤ 256
+few c = omega (arith, full-lt c.args.dims, pow_mono {i = c.args.dims} {j = 8} c.requires.n_bound.1)
+
+-- the set has its turn
+below : (c : goal.Else-all-set) → c.set_at-set.result < full c.args.dims
+below c = omega (arith, c.if-all-set.false, c.sets_of-all.ensures)
+
+-- one set more
+next : (c : goal.After-slice_known-in-loop-k-3-1) → let a = c.args in
+    let l = c.loop-k in
+    let r = c.List-set_of_Decides in
+    Listing a.dims a.n a.rows.now r.new.1.1.1.1.1.0 r.new.1.1.1.1.1.1.1.1.1.1.1.1.0 (l.cells + r.result) (l.k + 1)
+next c =
+    let r = c.List-set_of_Decides.ensures in
+    listing-more (base (PLACE c After-sets_of-all)) c.loop-k.invariant.9 c.loop-k-test.true c.set_at-set.ensures (below (PLACE c Else-all-set)) r.1.0 r.1.1.0 r.1.1.1
+
+-- the lists and the common cells when all sets had their turn, and how many cells there are then
+one : (n : ℕ) → blanks n ≤ 1
+one zero = omega arith
+one (suc n) = omega arith
+
+all_listed : (c : goal.After-blanks) → blanks c.args.n + c.loop-k.cells ≤ 262145
+all_listed c = omega (arith, one c.args.n, listing-few (base (PLACE c After-sets_of-all)) c.loop-k.invariant.9)
+
+pub read_columns-requires : goal.read_columns-requires
+read_columns-requires c = let p = c.requires in (p.n_bound.2, p.n_bound.0, p.n_bound.1, search rules, p.n_bound.3.valid)
+
+pub overflow_cast-dims : goal.overflow_cast-dims
+overflow_cast-dims c = omega (arith, c.requires.n_bound.1)
+
+pub sets_of-all-requires : goal.sets_of-all-requires
+sets_of-all-requires c = c.requires.n_bound.1
+
+pub overflow_sub-all : goal.overflow_sub-all
+overflow_sub-all c = omega (arith, c.sets_of-all.ensures, pow_pos c.args.dims)
+
+pub loop-k-init : goal.loop-k-init
+loop-k-init c =
+    let a = c.args in
+    (refl, refl, search rules, search rules, search rules, search rules, search rules, search rules, filling_start (few c) a.store.now a.sizes.now, listing_start (base c) _ _ c.clear_lists.ensures)
+
+pub loop-k-preserved-then-all-set : goal.loop-k-preserved-then-all-set
+loop-k-preserved-then-all-set c =
+    let v = c.loop-k.invariant in
+    let h = c.loop-k-test.true in
+    let e = c.set_at-set.ensures in
+    let f : full c.args.dims ≤ c.set_at-set.result = omega (arith, c.if-all-set.true, c.sets_of-all.ensures) in
+    (v.0, v.1, v.2, v.3, v.4, v.5, v.6, v.7, filling_skip (few (goal.at.loop-k-preserved-then-all-set c).After-sets_of-all) v.8 h e f, listing_skip (base (goal.at.loop-k-preserved-then-all-set c).After-sets_of-all) v.9 h e f)
+
+pub list_set-cells-requires : goal.list_set-cells-requires
+list_set-cells-requires c =
+    let p = c.requires in
+    let v = c.loop-k.invariant in
+    let h = c.loop-k-test.true in
+    let e = c.set_at-set.ensures in
+    let f = below (goal.at.list_set-cells-requires c).Else-all-set in
+    let g = base (goal.at.list_set-cells-requires c).After-sets_of-all in let the_answer = (
+      (p.n_bound.0, p.n_bound.3.valid, p.n_bound.1, c.read_columns.ensures, omega (arith, f, full-lt c.args.dims), filling_shorter (few (goal.at.list_set-cells-requires c).After-sets_of-all) v.8 h e f),
+      (
+        (omega (arith, v.0, p.in_bounds.0), omega (arith, v.1, p.in_bounds.1), v.5, v.6, v.7),
+        ((omega (arith, v.3), v.4, listing_lower g v.9 h e f), (omega (arith, v.2, p.in_bounds.2), v.9.short, listing_fit g v.9 h e f)),
+      ),
+    ) in record { n_bound = the_answer.0; in_bounds = the_answer.1.0; in_bounds_2 = the_answer.1.1.0; n_in_bounds = the_answer.1.1.1 }
+
+pub overflow_add-cells : goal.overflow_add-cells
+overflow_add-cells c = omega (arith, listing-few (base (goal.at.overflow_add-cells c).After-sets_of-all) (next c))
+
+pub loop-k-preserved : goal.loop-k-preserved
+loop-k-preserved c =
+    let v = c.loop-k.invariant in
+    (search rules, search rules, search rules, search rules, search rules, search rules, search rules, search rules, filling_more (few (goal.at.loop-k-preserved c).After-sets_of-all) v.8 c.loop-k-test.true c.set_at-set.ensures (below (goal.at.loop-k-preserved c).Else-all-set) c.List-set_of_Decides.ensures.0, next c)
+
+pub overflow_add-result : goal.overflow_add-result
+overflow_add-result c = omega (arith, all_listed c, c.blanks.ensures)
+
+pub returns : goal.returns
+returns c =
+    let a = c.args in
+    let v = c.loop-k.invariant in
+    let r = listing-done (base (goal.at.returns c).After-sets_of-all) v.9 c.loop-k-test.false in let the_answer = (
+      filling_done (few (goal.at.returns c).After-sets_of-all) v.8 c.loop-k-test.false,
+      ((r.0, v.9.short), ap₂ ◌+◌ (c.blanks.ensures ∙ ap blanks (sym (cut-length a.dims a.n a.rows.now))) r.1 ∙ sym (normals-count (plain a.dims) (cut a.dims a.n a.rows.now))),
+    ) in record { all_hold = the_answer.0; lists_after = the_answer.1.0; value = the_answer.1.1 }

@@ -1,0 +1,79 @@
+-- `rows_crowds::fill_one` meets its contract: the column alone tells the rows apart, and its order has them group after group.
+use mathlib.Core.Path.{◌≡◌, refl, ap, ◌∙◌}
+use Prim.Native.Nat.{◌+◌, ◌-◌, ◌*◌, ◌<◌}
+use native.Mathlib.Omega.{arith}
+use borrow.Rule.Slice.PartMut.{mid_len}
+use lib.ListN.{length}
+use Rattle.rows_order.proofs.Arranged.{arranged-length}
+use Rattle.rows_slots.specs.Slots.{code_in}
+use Rattle.rows_crowds.specs.Crowds.{place}
+use Rattle.rows_crowds.proofs.Shorter.{shorter_zeros, shorter-place}
+use Rattle.rows_crowds.proofs.Column.{Turn, turn-column, turn-rising, one-names, one_kept, one_left}
+use Rattle.rows_crowds.proofs.Filling.{below_all, filled}
+use borrow.Author.Rules.{rules}
+use Rattle.rows_crowds.proofs.fill_one.Goals as goal
+use Rattle.rows_crowds.proofs.fill_one.Goals.{After-column_of-order, After-slice_known-3-1}
+
+-- the set is one of 256
+low : (c : goal.After-slice_known-3-1) → c.args.set < 256
+low c = below_all c.args.dims c.requires.dims_bound.0 c.requires.dims_bound.3
+
+-- its dimension
+last : (c : goal.After-slice_known-3-1) → place c.args.set < c.args.dims
+last c = let p = c.requires.dims_bound in shorter-place c.args.set p.2 (low c) c.args.dims p.3
+
+-- its column, and the rows in order
+turn : (c : goal.After-column_of-order) → let a = c.args in Turn a.least a.dims a.n a.rows.now a.columns.now c.column_of-by.result.now c.column_of-order.result.now a.passed.now a.set
+turn c =
+    let p = c.requires in
+    record {
+      low = p.n_bound.1;
+      high = p.n_bound.2;
+      few = p.n_bound.0;
+      valid = p.n_bound.3;
+      one = p.dims_bound.2;
+      small = low (PLACE c After-slice_known-3-1);
+      within = p.dims_bound.3;
+      told = p.dims_bound.1;
+      is_column = c.column_of-by.ensures;
+      is_rising = c.column_of-order.ensures;
+      passing = p.dims_bound.4;
+    }
+
+-- all rows
+long : (c : goal.After-column_of-order) → length c.column_of-order.result.now ≡ c.args.n
+long c = let x = turn c in ap length (turn-rising x) ∙ arranged-length (code_in c.column_of-by.result.now) c.args.n
+
+pub overflow_sub-d : goal.overflow_sub-d
+overflow_sub-d c = shorter_zeros c.args.set c.requires.dims_bound.2 (low c)
+
+pub column_of-by-requires : goal.column_of-by-requires
+column_of-by-requires c = let p = c.requires in (p.dims_bound.1.room, omega (arith, last c, p.dims_bound.0), p.n_bound.0)
+
+pub column_of-order-requires : goal.column_of-order-requires
+column_of-order-requires c = let p = c.requires in (p.dims_bound.1.room, omega (arith, last (goal.at.column_of-order-requires c).After-slice_known-3-1, p.dims_bound.0), p.n_bound.0)
+
+pub slice_bounds-pack_groups-end : goal.slice_bounds-pack_groups-end
+slice_bounds-pack_groups-end c = omega (arith, low (goal.at.slice_bounds-pack_groups-end c).After-slice_known-3-1, c.requires.in_bounds.0)
+
+pub pack_groups-done-requires : goal.pack_groups-done-requires
+pack_groups-done-requires c =
+    let a = c.args in
+    let p = c.requires in
+    let x = turn (goal.at.pack_groups-done-requires c).After-column_of-order in
+    let n = long (goal.at.pack_groups-done-requires c).After-column_of-order in
+    let names = one-names x p.dims_bound.5 p.dims_bound.6 in record { names = (λ i l. omega (arith, names i l, turn-column x), λ i l. omega (arith, names i l, p.n_bound.0), omega (arith, n, p.n_bound.0)); order_in_bounds = (omega (arith, n, p.n_bound.0, mid_len (a.set * 1024) (a.set * 1024 + 1024) a.store.now (part-pack-groups-end (goal.at.pack_groups-done-requires c).After-column_of-order)), omega (arith, n, p.n_bound.0, p.in_bounds.2)) }
+
+pub bounds-sizes-set : goal.bounds-sizes-set
+bounds-sizes-set c = omega (arith, low (goal.at.bounds-sizes-set c).After-slice_known-3-1, c.requires.in_bounds.1)
+
+pub returns : goal.returns
+returns c =
+    let a = c.args in
+    let p = c.requires in
+    let r = c.pack_groups-done in
+    let x = turn (goal.at.returns c).After-column_of-order in
+    let n = long (goal.at.returns c).After-column_of-order in
+    let w : a.set * 1024 + 1024 - a.set * 1024 ≡ 1024 = omega arith in
+    let len : length r.new.1.1.1.0 ≡ a.set * 1024 + 1024 - a.set * 1024 = r.auto.1.1.1.0 ∙ mid_len (a.set * 1024) (a.set * 1024 + 1024) a.store.now (part-pack-groups-end (goal.at.returns c).After-column_of-order) in record { filled = filled a.least a.dims a.n a.rows.now a.store.now a.sizes.now r.new.1.1.1.0 a.set (a.set * 1024) (a.set * 1024 + 1024 - a.set * 1024) r.result.len p.n_bound.0 (low (goal.at.returns c).After-slice_known-3-1) p.in_bounds.0 p.in_bounds.1 refl len w
+          (omega (arith, r.ensures.1.1.0, n)) (r.ensures.0 ∙ one_kept x p.dims_bound.5 p.dims_bound.6); lone_after = (r.ensures.1.0 ∙ one_left x p.dims_bound.5 p.dims_bound.6, omega (arith, r.ensures.1.1.1, n)) }

@@ -1,0 +1,14 @@
+use mathlib.Core.Path.{◌≡◌, refl, ◌∙◌}
+use Prim.Native.Nat.{◌-◌, ◌≤◌}
+use native.Mathlib.Omega.{arith}
+use lib.ListN.{length, length-set}
+use Rattle.rows_lists.specs.Lists.{Empty}
+use Rattle.rows_lists.proofs.Lists.{empty-more}
+use borrow.Author.Rules.{rules}
+use Rattle.rows_lists.proofs.clear_lists.Given as goal
+
+abbrev pub invariant-loop-row : goal.invariant-loop-row
+invariant-loop-row l = (l.row ≤ l.n) × (length l.lists ≡ length l.initial.lists) × Empty l.row l.lists
+
+abbrev pub decreases-loop-row : goal.decreases-loop-row
+decreases-loop-row l = l.n - l.row

@@ -1,0 +1,16 @@
+use mathlib.Core.Path.{◌≡◌, refl}
+use Prim.Native.Nat.{◌+◌, ◌-◌, ◌≤◌}
+use native.Mathlib.Omega.{arith}
+use lib.ListN.{length}
+use Rattle.rows.specs.Rows.{rows_of}
+use Rattle.rows_merge.specs.Pass.{Passed}
+use Rattle.rows_merge.proofs.Pass.{passed_start, passed_over, passed_done}
+use borrow.Author.Rules.{rules}
+use Rattle.rows_merge.proofs.merge_rows.Given as goal
+
+abbrev pub invariant-loop-i : goal.invariant-loop-i
+invariant-loop-i l =
+    (length l.rows ≡ length l.initial.rows) × (l.k ≤ 1024) × Passed l.dims l.n l.rows1 l.m l.rows2 l.i l.j (rows_of l.dims l.k l.rows)
+
+abbrev pub decreases-loop-i : goal.decreases-loop-i
+decreases-loop-i l = l.n + l.m - (l.i + l.j)

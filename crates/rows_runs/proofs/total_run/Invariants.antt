@@ -1,0 +1,19 @@
+use mathlib.Core.Path.{◌≡◌}
+use mathlib.Core.List.{◌∷◌}
+use Prim.Native.Nat.{◌+◌, ◌-◌}
+use native.Mathlib.Omega.{arith}
+use borrow.Author.Rules.{rules}
+use lib.ListN.{get_or}
+use lib.Seq.{slice}
+use Rattle.rows.specs.Rows.{row_total}
+use Rattle.rows_runs.specs.Totals.{amount_at, amounts_at, run_total}
+use Rattle.rows_runs.proofs.Totals.{total_from, Room, room-nothing, room-one, room-plus, total-start, amounts_next, amounts_none}
+use Rattle.rows_runs.proofs.total_run.Given as goal
+
+abbrev pub invariant-loop-k : goal.invariant-loop-k
+invariant-loop-k l =
+    (total_from l.total (amounts_at (row_total l.dims l.n l.rows) (slice l.k l.end l.index)) ≡ run_total (row_total l.dims l.n l.rows) (slice l.from l.end l.index))
+    × Room l.total (amounts_at (row_total l.dims l.n l.rows) (slice l.k l.end l.index))
+
+abbrev pub decreases-loop-k : goal.decreases-loop-k
+decreases-loop-k l = l.end - l.k

@@ -1,0 +1,21 @@
+-- `rows_slots::pack_groups` meets its contract: where groups of one row are kept, all are.
+use mathlib.Core.Path.{sym, ◌∙◌}
+use mathlib.Core.Bool.{true}
+use borrow.Author.Tests.{ne_eqb}
+use Rattle.rows_slots.specs.Slots.{code_in}
+use Rattle.rows_slots.proofs.Steps.{slot-all, lone-all}
+use borrow.Author.Rules.{rules}
+use Rattle.rows_slots.proofs.pack_groups.Goals as goal
+
+pub returns-then-least-eq2 : goal.returns-then-least-eq2
+returns-then-least-eq2 c =
+    let r = c.pack_shared.ensures in
+let the_answer = (rw c.if-least-eq2.true r.slot_after, (rw c.if-least-eq2.true r.lone_after, r.len_in_bounds)) in record { slot_after = the_answer.0; lone_after = the_answer.1.0; len_in_bounds = the_answer.1.1 }
+
+pub returns : goal.returns
+returns c =
+    let a = c.args in
+    let order = a.order.now in
+    let key = code_in a.column.now in
+    let other = ne_eqb a.least 2 c.if-least-eq2.false in
+let the_answer = (c.pack_all.ensures ∙ sym (slot-all key a.least other true true order), (sym (lone-all key a.least other true order), (search rules, search rules))) in record { slot_after = the_answer.0; lone_after = the_answer.1.0; len_in_bounds = the_answer.1.1 }

@@ -1,0 +1,57 @@
+-- `small_tally::put_table` meets its contract. The invariant: the rows from bit j on are left to write.
+use Prim.Native.Nat.{◌+◌, ◌-◌, ◌≤◌}
+use lib.ListN.{length}
+use Rattle.archive_cells.specs.Writing.{Writing}
+use Rattle.rows.specs.Rows.{width}
+use Rattle.small_tally.specs.Flat.{flat_rows}
+use Rattle.small_tally.proofs.Flat.{row-length, rows_from, rows_none, rows_skip, rows-room, rows_more, rows-done}
+use borrow.Author.Rules.{rules}
+use Rattle.small_tally.proofs.put_table.Goals as goal
+use Rattle.small_tally.proofs.put_table.Goals.{Else-odd-ne1}
+
+room : (c : goal.Else-odd-ne1) → c.loop-j.at + width c.args.dims ≤ length c.loop-j.out
+room c =
+    let a = c.args in
+    let l = c.loop-j in
+    rows-room a.dims a.t _ l.rest l.j l.invariant.1 c.loop-j-test.true c.if-odd-ne1.false c.requires.1
+
+pub loop-j-init : goal.loop-j-init
+loop-j-init c = let a = c.args in (search rules, rows_none a.dims a.t _ a.out.now c.sets_of-j-end.ensures)
+
+pub loop-j-preserved-then-odd-ne1 : goal.loop-j-preserved-then-odd-ne1
+loop-j-preserved-then-odd-ne1 c =
+    let a = c.args in
+    let l = c.loop-j in
+    (search rules, rows_skip a.dims a.t _ l.rest l.j l.invariant.1 c.loop-j-test.true c.if-odd-ne1.true)
+
+pub offset_bounds-out-at : goal.offset_bounds-out-at
+offset_bounds-out-at c = search (rules, room c)
+
+pub slice_bounds-put_row-count : goal.slice_bounds-put_row-count
+slice_bounds-put_row-count c = search (rules, room c)
+
+pub slice_bounds-put_row-start : goal.slice_bounds-put_row-start
+slice_bounds-put_row-start c = search (rules, room c)
+
+pub put_row-at-requires : goal.put_row-at-requires
+put_row-at-requires c = search (rules, room (goal.at.put_row-at-requires c).Else-odd-ne1)
+
+pub overflow_add-at : goal.overflow_add-at
+overflow_add-at c =
+    let l = c.loop-j in
+    search (rules, room (goal.at.overflow_add-at c).Else-odd-ne1, row-length c.args.dims l.j)
+
+pub loop-j-preserved : goal.loop-j-preserved
+loop-j-preserved c =
+    let a = c.args in
+    let l = c.loop-j in
+    (search rules, rows_more a.dims a.t _ l.rest l.j l.invariant.1 c.loop-j-test.true c.if-odd-ne1.false c.put_row-at.ensures)
+
+pub shape_of-out : goal.shape_of-out
+shape_of-out c = c.loop-j.invariant.1.wrote.same
+
+pub returns : goal.returns
+returns c =
+    let a = c.args in
+    let l = c.loop-j in
+    rows-done a.dims a.t _ l.rest l.j l.invariant.1 c.loop-j-test.false

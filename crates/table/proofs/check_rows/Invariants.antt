@@ -1,0 +1,16 @@
+use Prim.Native.Nat.{◌-◌, ◌≤◌}
+use native.Mathlib.Omega.{arith}
+use native.Mathlib.Nat.{sub-zero}
+use borrow.Author.Rules.{rules}
+use lib.ListN.{length, drop}
+use Rattle.fields_walk.specs.Parsed.{many}
+use Rattle.fields_walk.proofs.Steps.{seen}
+use Rattle.fields_walk.proofs.Loops.{Follows, follows_self, many_on, many-off, many-done}
+use Rattle.table.specs.Reading.{row}
+use Rattle.table.proofs.check_rows.Given as goal
+
+abbrev pub invariant-loop-i : goal.invariant-loop-i
+invariant-loop-i l = (l.i ≤ l.count) × (l.at ≤ length l.s) × Follows l.s (many (l.count - l.i) (row l.sizes) (drop l.at l.s)) (many l.count (row l.sizes) (drop l.start l.s))
+
+abbrev pub decreases-loop-i : goal.decreases-loop-i
+decreases-loop-i l = l.count - l.i
