@@ -1,6 +1,8 @@
 // The builder: a table to its archive.
 #![tactic(auto)]
 
-fn main() {
-    program_pipes::run_builder();
+use std::io;
+
+fn main(rt: HostRuntime) -> io::Result<()> {
+    program_pipes::run_builder(&mut rt.stdin(), &mut io::writer(&rt))
 }

@@ -1,6 +1,8 @@
 // The builder on an input that it refuses.
 #![tactic(auto)]
 
-fn main() {
-    program_pipes::run_builder();
+use std::io;
+
+fn main(rt: HostRuntime) -> io::Result<()> {
+    program_pipes::run_builder(&mut rt.stdin(), &mut io::writer(&rt))
 }

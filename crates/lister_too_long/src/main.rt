@@ -1,6 +1,8 @@
 // The lister on an input that it finds too long.
 #![tactic(auto)]
 
-fn main() {
-    program_pipes::run_lister();
+use std::io;
+
+fn main(rt: HostRuntime) -> io::Result<()> {
+    program_pipes::run_lister(&mut rt.stdin(), &mut io::writer(&rt))
 }
