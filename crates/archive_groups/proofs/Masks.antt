@@ -35,6 +35,8 @@ missing_half s d = rw (shr-shr s 1 d)
 
 masked_is : (d s : ℕ) (m x : List ℕ) → Coded d x → ((k : ℕ) → k < d → get_or m k 0 ≡ missing_of s k) → masked m x ≡ cell s x
 masked_is zero s m [] v h = refl
+masked_is zero s m (a ∷ x) v h = elim v [ ]
+masked_is (suc d) s m [] v h = elim v [ ]
 masked_is (suc d) s m (a ∷ x) v h =
     ap₂ ◌∷◌ (ap (bit_or a) (h 0 (omega arith) ∙ missing_first s) ∙ or_shown (s % 2) a v.0)
     (masked_is d (s / 2) (drop 1 m) x v.1 (λ k l. get_or-drop 1 m k 0 ∙ h (1 + k) (omega (arith, l)) ∙ missing_half s k))

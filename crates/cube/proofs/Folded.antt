@@ -30,7 +30,7 @@ module _ {A : Type 0} (M : Measure A) (E : Adds M) (d : ℕ) (rows : List (Row A
       (λ p q i j e f g. by_codes.irrefl x (subst (λ (y : List ℕ). earlier x y ≡ true) (sym (same-eq x q.codes g)) (subst (λ (y : List ℕ). earlier y q.codes ≡ true) (sym (same-eq x p.codes f)) e)))
       (pairwise_of_map (λ u v. earlier u v ≡ true) (λ q. q.codes) rows o))
       m (same_refl x) in
-      sym (ap (total_of M) one ∙ E.None-more r.total)
+      sym (ap (total_of M) one ∙ E.none_more r.total)
 
   pub folded-same : folded M d rows ≡ rows
   folded-same =

@@ -19,13 +19,13 @@ fill f k = record { codes = k; total = f k }
 module _ {A : Type 0} (M : Measure A) (E : Adds M) where
   -- a running total that starts with a
   sum-from : (a : A) (l : List (Row A)) → foldl (λ t r. M.more t r.total) a l ≡ M.more a (total_of M l)
-  sum-from a [] = sym (E.more_comm a M.none ∙ E.None-more a)
+  sum-from a [] = sym (E.more_comm a M.none ∙ E.none_more a)
   sum-from a (r ∷ l) =
       sum-from (M.more a r.total) l ∙ E.more_assoc a r.total (total_of M l)
-      ∙ ap (M.more a) (sym (sum-from (M.more M.none r.total) l ∙ ap (λ (t : A). M.more t (total_of M l)) (E.None-more r.total)))
+      ∙ ap (M.more a) (sym (sum-from (M.more M.none r.total) l ∙ ap (λ (t : A). M.more t (total_of M l)) (E.none_more r.total)))
 
   pub sum-cons : (r : Row A) (l : List (Row A)) → total_of M (r ∷ l) ≡ M.more r.total (total_of M l)
-  sum-cons r l = sum-from (M.more M.none r.total) l ∙ ap (λ (t : A). M.more t (total_of M l)) (E.None-more r.total)
+  sum-cons r l = sum-from (M.more M.none r.total) l ∙ ap (λ (t : A). M.more t (total_of M l)) (E.none_more r.total)
 
   pub more_swap : (a b c : A) → M.more a (M.more b c) ≡ M.more b (M.more a c)
   more_swap a b c = sym (E.more_assoc a b c) ∙ ap (λ (t : A). M.more t c) (E.more_comm a b) ∙ E.more_assoc b a c
@@ -44,7 +44,7 @@ module _ {A : Type 0} (M : Measure A) (E : Adds M) where
   taking_more false a b t = refl
 
   taking_none : (p : Bool) → taking p M.none M.none ≡ M.none
-  taking_none true = E.None-more M.none
+  taking_none true = E.none_more M.none
   taking_none false = refl
 
   -- one row more, where it passes

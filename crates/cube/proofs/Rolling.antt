@@ -46,7 +46,7 @@ module _ (L : Lattice) (W : Laws L) {A : Type 0} (M : Measure A) (E : Adds M) wh
   same-falls {t} x y h k l = cases (truth (L.falls (L.cell t x) y))
       (λ e. let q : L.cell t x ≡ L.cell t y = falls_node L W l (W.node_cell t x k h) e in rw (q, same_refl (L.cell t y)) (sym e ∙ rw q))
       (λ e. rw e (refuted (λ f. let q = same-eq (L.cell t x) (L.cell t y) f in
-      false≢true (sym e ∙ ap (λ (c : List ℕ). L.falls c y) q ∙ W.falls_cell t y y l h ∙ W.Agree-refl t y))))
+      false≢true (sym e ∙ ap (λ (c : List ℕ). L.falls c y) q ∙ W.falls_cell t y y l h ∙ W.agree_refl t y))))
 
   module _ (rows : List (Row A)) (v : (x : List ℕ) → x ∈ codes_of rows → L.valid x) {t : ℕ} (h : t ∈ L.nodes) where
     -- the total of a cell is that of the rows moved to it
@@ -75,7 +75,7 @@ module _ (L : Lattice) (W : Laws L) {A : Type 0} (M : Measure A) (E : Adds M) wh
   cells_up_none : (p : List ℕ → Bool) (t : ℕ) (c : List ℕ) → total_of M (keep (λ r. p r.codes) (cells L M [] t)) ≡ total L M [] c
   unfolding cells total
   cells_up_none p t c = rw (existing-none L t) (cases (truth (eqb (L.node_of L.whole) t))
-      (λ e. rw e (cases (truth (p L.whole)) (λ f. rw f (E.None-more M.none)) (λ f. rw f)))
+      (λ e. rw e (cases (truth (p L.whole)) (λ f. rw f (E.none_more M.none)) (λ f. rw f)))
       (λ e. rw e))
 
   pub cells_up : (rows : List (Row A)) → ((x : List ℕ) → x ∈ codes_of rows → L.valid x) → {t : ℕ} → t ∈ L.nodes → (p : List ℕ → Bool) (c : List ℕ)

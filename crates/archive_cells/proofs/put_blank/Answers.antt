@@ -4,7 +4,6 @@ use lib.ListN.{length-take, length-drop}
 use Rattle.fields.specs.WordsLaws.{length_words_bytes}
 use Rattle.archive_cells.specs.WritingLaws.{wrote_as}
 use Rattle.archive_cells.proofs.Cells.{blank-words}
-use borrow.Author.Rules.{rules}
 use Rattle.archive_cells.proofs.put_blank.Goals as goal
 
 pub put_words-requires : goal.put_words-requires

@@ -7,7 +7,6 @@ use lib.ListN.{length, length-take, length-drop}
 use Rattle.fields.specs.WordsLaws.{length_words_bytes}
 use Rattle.fields.specs.WrittenLaws.{wrote_then}
 use Rattle.archive_cells.specs.ListBytes.{list_is}
-use borrow.Author.Rules.{rules}
 use Rattle.archive_cells.proofs.put_entry.Goals as goal
 use Rattle.archive_cells.proofs.put_entry.Goals.{After-put_words-at}
 

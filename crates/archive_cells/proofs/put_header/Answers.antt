@@ -2,7 +2,6 @@
 use native.Mathlib.Omega.{arith}
 use Rattle.fields.specs.WrittenLaws.{wrote_then}
 use Rattle.archive_cells.specs.ListBytes.{list_is, list_length}
-use borrow.Author.Rules.{rules}
 use Rattle.archive_cells.proofs.put_header.Goals as goal
 
 pub overflow_add-result : goal.overflow_add-result

@@ -4,7 +4,6 @@ use lib.ListN.{length-take, length-drop}
 use Rattle.fields.specs.WordsLaws.{length_words_bytes}
 use Rattle.fields.specs.WrittenLaws.{wrote_then}
 use Rattle.archive_cells.specs.ListBytes.{list_is}
-use borrow.Author.Rules.{rules}
 use Rattle.archive_cells.proofs.put_list.Goals as goal
 
 pub put_words-requires : goal.put_words-requires

@@ -1,9 +1,7 @@
 -- `archive_cells::put_sets` meets its contract. The invariant: the sets from place i on are left to write.
-use Prim.Native.Nat.{◌+◌, ◌-◌, ◌≤◌}
+use Prim.Native.Nat.{◌+◌, ◌≤◌}
 use native.Mathlib.Omega.{arith}
-use lib.ListN.{length, drop, length-take, length-drop}
-use Rattle.fields.specs.Words.{words_bytes}
-use Rattle.archive_cells.specs.Writing.{Writing}
+use lib.ListN.{length, length-take, length-drop}
 use Rattle.archive_cells.specs.WritingLaws.{writing_none}
 use Rattle.archive_cells.proofs.Words.{words-room, words_more, words_done}
 use borrow.Author.Rules.{rules}

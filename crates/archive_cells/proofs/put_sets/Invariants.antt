@@ -1,11 +1,7 @@
-use Prim.Native.Nat.{◌+◌, ◌-◌, ◌≤◌}
-use native.Mathlib.Omega.{arith}
-use lib.ListN.{length, drop, length-take, length-drop}
+use Prim.Native.Nat.{◌-◌, ◌≤◌}
+use lib.ListN.{length, drop}
 use Rattle.fields.specs.Words.{words_bytes}
 use Rattle.archive_cells.specs.Writing.{Writing}
-use Rattle.archive_cells.specs.WritingLaws.{writing_none}
-use Rattle.archive_cells.proofs.Words.{words-room, words_more, words_done}
-use borrow.Author.Rules.{rules}
 use Rattle.archive_cells.proofs.put_sets.Given as goal
 
 abbrev pub invariant-loop-i : goal.invariant-loop-i

@@ -1,7 +1,6 @@
 -- `archive_compare::match_blank` meets its contract: the end of the blank words is the cell.
 use Rattle.archive_compare.specs.MatchedLaws.{matched_as}
 use Rattle.archive_cells.proofs.Cells.{blank-words}
-use borrow.Author.Rules.{rules}
 use Rattle.archive_compare.proofs.match_blank.Goals as goal
 
 pub returns : goal.returns

@@ -4,7 +4,6 @@ use Rattle.fields.specs.Words.{words_bytes}
 use Rattle.fields_walk.specs.declared.Walk.TheVariants.{Stop}
 use Rattle.archive_cells.specs.ListBytes.{list_is}
 use Rattle.archive_compare.specs.MatchedLaws.{matched_as, matched_told, matched_stop, matched_then}
-use borrow.Author.Rules.{rules}
 use Rattle.archive_compare.proofs.match_entry.Goals as goal
 
 pub returns-in-Stop : goal.returns-in-Stop

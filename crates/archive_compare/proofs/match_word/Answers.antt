@@ -2,7 +2,6 @@
 use mathlib.Core.Path.{sym, ◌∙◌}
 use native.Mathlib.Omega.{arith}
 use Rattle.archive_compare.specs.MatchedLaws.{matched_on, matched_none, matched_short}
-use borrow.Author.Rules.{rules}
 use Rattle.archive_compare.proofs.match_word.Goals as goal
 
 pub returns-then-s-at-lt4 : goal.returns-then-s-at-lt4

@@ -1,8 +1,4 @@
 -- `archive_compare::match_words` meets its contract. The invariant: the words from place i on are left to compare.
-use Prim.Native.Nat.{◌-◌, ◌≤◌}
-use lib.ListN.{length, drop}
-use Rattle.fields.specs.Words.{words_bytes}
-use Rattle.archive_compare.specs.Matched.{Matching}
 use Rattle.archive_compare.specs.MatchedLaws.{matching_none, matched_told}
 use Rattle.archive_compare.proofs.Words.{words_met, words-off, words_end}
 use borrow.Author.Rules.{rules}

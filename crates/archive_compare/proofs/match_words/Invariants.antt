@@ -2,9 +2,6 @@ use Prim.Native.Nat.{◌-◌, ◌≤◌}
 use lib.ListN.{length, drop}
 use Rattle.fields.specs.Words.{words_bytes}
 use Rattle.archive_compare.specs.Matched.{Matching}
-use Rattle.archive_compare.specs.MatchedLaws.{matching_none, matched_told}
-use Rattle.archive_compare.proofs.Words.{words_met, words-off, words_end}
-use borrow.Author.Rules.{rules}
 use Rattle.archive_compare.proofs.match_words.Given as goal
 
 abbrev pub invariant-loop-i : goal.invariant-loop-i

@@ -1,7 +1,6 @@
 -- `archive_entries::can_make` meets its contract: the bounds fit 64 bits, and the code compares with them.
 use mathlib.Core.Path.{◌≡◌}
 use native.Mathlib.Omega.{arith}
-use borrow.Author.Rules.{rules}
 use lib.IntN.{pos, negsuc, ◌*ℤ◌}
 use mir.Syntax.{w64}
 use mir.Val.{SFits, to_z}

@@ -1,9 +1,9 @@
 -- `archive_entries::check_entries` meets its contract: what is read from the present place on, behind the codes of the entry before and with the total so far,
 -- ends as what is read from the start.
-use mathlib.Core.Path.{◌≡◌, refl}
-use mathlib.Core.Logic.{◌⊎◌, inl, inr}
-use mathlib.Core.List.{List, []}
-use Prim.Native.Nat.{ℕ, ◌+◌, ◌-◌, ◌*◌, ◌≤◌}
+use mathlib.Core.Path.{refl}
+use mathlib.Core.Logic.{inl, inr}
+use mathlib.Core.List.{List}
+use Prim.Native.Nat.{ℕ}
 use native.Mathlib.Omega.{arith}
 use native.Mathlib.Nat.{sub-zero}
 use borrow.Author.Rules.{rules}
@@ -12,13 +12,12 @@ use Rattle.fields.specs.Words.{words_at}
 use Rattle.fields_walk.specs.declared.Walk.TheVariants.{At}
 use Rattle.fields_walk.specs.Walked.{Says}
 use Rattle.fields_walk.proofs.Steps.{seen}
-use Rattle.fields_walk.proofs.Loops.{Follows, follows_self}
-use Rattle.cube.specs.Bounds.{most}
-use Rattle.archive_entries.specs.Reading.{entry, entries}
+use Rattle.fields_walk.proofs.Loops.{follows_self}
+use Rattle.archive_entries.specs.Reading.{entry}
 use Rattle.archive_entries.proofs.Entry.{Entry, entry_read}
 use Rattle.archive_entries.proofs.Entries.{entries_on, entries-off, entries-done}
 use Rattle.archive_entries.proofs.check_entries.Goals as goal
-use Rattle.archive_entries.proofs.check_entries.Goals.{1, 2, In-At, few, whole}
+use Rattle.archive_entries.proofs.check_entries.Goals.{In-At}
 
 -- the entry that was passed is there, and its count is within the bound
 module _ (c : goal.In-At) where

@@ -1,20 +1,12 @@
-use mathlib.Core.Path.{◌≡◌, refl}
-use mathlib.Core.Logic.{◌⊎◌, inl, inr}
-use mathlib.Core.List.{List, []}
-use Prim.Native.Nat.{ℕ, ◌+◌, ◌-◌, ◌*◌, ◌≤◌}
-use native.Mathlib.Omega.{arith}
-use native.Mathlib.Nat.{sub-zero}
-use borrow.Author.Rules.{rules}
+use mathlib.Core.Path.{◌≡◌}
+use mathlib.Core.Logic.{◌⊎◌}
+use mathlib.Core.List.{[]}
+use Prim.Native.Nat.{◌+◌, ◌-◌, ◌*◌, ◌≤◌}
 use lib.ListN.{length, drop}
 use Rattle.fields.specs.Words.{words_at}
-use Rattle.fields_walk.specs.declared.Walk.TheVariants.{At}
-use Rattle.fields_walk.specs.Walked.{Says}
-use Rattle.fields_walk.proofs.Steps.{seen}
-use Rattle.fields_walk.proofs.Loops.{Follows, follows_self}
+use Rattle.fields_walk.proofs.Loops.{Follows}
 use Rattle.cube.specs.Bounds.{most}
-use Rattle.archive_entries.specs.Reading.{entry, entries}
-use Rattle.archive_entries.proofs.Entry.{Entry, entry_read}
-use Rattle.archive_entries.proofs.Entries.{entries_on, entries-off, entries-done}
+use Rattle.archive_entries.specs.Reading.{entries}
 use Rattle.archive_entries.proofs.check_entries.Given as goal
 
 abbrev pub invariant-loop-i : goal.invariant-loop-i

@@ -4,7 +4,6 @@ use mathlib.Core.List.{List, [], ◌∷◌}
 use Prim.Native.Nat.{ℕ}
 use native.Mathlib.Omega.{arith}
 use lib.Seq.{length-take-le}
-use borrow.Author.Rules.{rules}
 use Rattle.lists.specs.Order.{earlier}
 use Rattle.fields.specs.Words.{words_at}
 use Rattle.rows_compare.specs.Compare.{is_before}

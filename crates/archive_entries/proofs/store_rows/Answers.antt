@@ -1,21 +1,13 @@
 -- `archive_entries::store_rows` meets its contract: the rows that are stored and those of the entries left are the archive's.
-use mathlib.Core.Path.{◌≡◌, refl, ◌∙◌}
-use Prim.Native.Nat.{◌+◌, ◌-◌, ◌≤◌}
+use mathlib.Core.Path.{refl, ◌∙◌}
+use Prim.Native.Nat.{◌≤◌}
 use native.Mathlib.Omega.{arith}
 use native.Mathlib.Nat.{mul-le-mul}
-use borrow.Author.Rules.{rules}
-use lib.ListN.{length}
 use Rattle.rows.specs.Rows.{width}
 use Rattle.rows.proofs.Rows.{row_within}
-use Rattle.archive_entries.specs.Places.{width_there}
 use Rattle.archive_entries.proofs.Fields.{accepted}
-use Rattle.archive_entries.proofs.Storing.{Turn, turn-start, turn-whole, turn_on, turn-done}
+use Rattle.archive_entries.proofs.Storing.{turn-start, turn-whole, turn_on, turn-done}
 use Rattle.archive_entries.proofs.store_rows.Goals as goal
-use Rattle.archive_entries.proofs.store_rows.Goals.{After-slice_known-in-loop-i-1}
-
--- the entry whose row was stored is there
-room : (c : goal.After-slice_known-in-loop-i-1) → (let l = c.loop-i in let a = c.args in l.at + width_there a.s.now a.dims l.at ≤ length a.s.now)
-room c = turn-whole _ _ _ _ c.loop-i.invariant.1 c.loop-i-test.true
 
 pub loop-i-init : goal.loop-i-init
 loop-i-init c = let a = c.args in (refl, turn-start _ _ _ _ (accepted a.s.now a.dims a.bases c.requires.by_index.1))
@@ -29,21 +21,21 @@ store_row-requires c =
     (omega (arith, turn-whole _ _ _ _ l.invariant.1 h), omega (arith, l.invariant.0, c.requires.in_bounds, all, row_within (width c.args.dims) c.args.bases l.i h))
 
 pub overflow_add-at-in-loop-i : goal.overflow_add-at-in-loop-i
-overflow_add-at-in-loop-i c = omega (arith, room c)
+overflow_add-at-in-loop-i c = omega (arith, turn-whole _ _ _ _ c.loop-i.invariant.1 c.loop-i-test.true)
 
 pub overflow_add-at-in-loop-i-2 : goal.overflow_add-at-in-loop-i-2
-overflow_add-at-in-loop-i-2 c = omega (arith, room c)
+overflow_add-at-in-loop-i-2 c = omega (arith, turn-whole _ _ _ _ c.loop-i.invariant.1 c.loop-i-test.true)
 
 pub word_at-list-requires : goal.word_at-list-requires
-word_at-list-requires c = omega (arith, room c)
+word_at-list-requires c = omega (arith, turn-whole _ _ _ _ c.loop-i.invariant.1 c.loop-i-test.true)
 
 pub overflow_add-at-in-loop-i-5 : goal.overflow_add-at-in-loop-i-5
-overflow_add-at-in-loop-i-5 c = omega (arith, room (goal.at.overflow_add-at-in-loop-i-5 c).After-slice_known-in-loop-i-1, c.word_at-list.ensures)
+overflow_add-at-in-loop-i-5 c = omega (arith, turn-whole _ _ _ _ c.loop-i.invariant.1 c.loop-i-test.true, c.word_at-list.ensures)
 
 pub loop-i-preserved : goal.loop-i-preserved
 loop-i-preserved c =
     let l = c.loop-i.invariant in (
-      c.store_row.auto.1.1.1.1.0 ∙ l.0,
+      c.store_row.auto.rows ∙ l.0,
       turn_on _ _ _ _ l.1 _ c.loop-i-test.true c.store_row.ensures (omega (arith, c.word_at-list.ensures)),
     )
 

@@ -1,12 +1,13 @@
 -- `archive_groups::match_group` meets its contract: there are fewer bytes than the cell has, or three parts are compared, each behind the one before.
+use mathlib.Core.Bool.{Bool, true}
+use mathlib.Core.List.{List}
 use mathlib.Core.Path.{◌≡◌, sym, ap, ◌∙◌}
-use Prim.Native.Nat.{ℕ, ◌+◌, ◌*◌}
+use Prim.Native.Nat.{ℕ, ◌+◌, ◌*◌, ◌≤◌}
 use native.Mathlib.Omega.{arith}
 use lib.IntN.{ℤ}
 use lib.ListN.{length, drop}
 use mir.Syntax.{w64}
-use mir.Facts.{to_z-of_z}
-use borrow.Author.Tests.{not-true, not-false}
+use Rattle.std.proofs.Common.{to_z-of_z, to_z, of_z, SFits}
 use Rattle.fields_walk.specs.declared.Walk.TheVariants.{Stop, At}
 use Rattle.fields.specs.Words.{words_bytes}
 use Rattle.fields_sums.specs.Twos.{sum_bytes}
@@ -20,27 +21,16 @@ use Rattle.archive_groups.proofs.Masks.{length-masked}
 use Rattle.archive_groups.proofs.Shown.{shown-length}
 use borrow.Author.Rules.{rules}
 use Rattle.archive_groups.proofs.match_group.Goals as goal
-use Rattle.archive_groups.proofs.match_group.Goals.{After-struct_told-1, After-sum_is, After-word_is, meets}
 
--- the codes stand there
-codes : (c : goal.After-struct_told-1) → let a = c.args in
-    Matched a.s.now a.start (words_bytes (masked a.missing.now a.mine.now)) (At (a.start + 4 * length a.mine.now))
-codes c =
-    let a = c.args in
-    let xs = words_bytes (masked a.missing.now a.mine.now) in
-    matched_told (ap (λ (n : ℕ). At (a.start + n)) (shown-length a.missing.now a.mine.now)) (matched_on {xs = xs} c.requires.1 (sym c.shown_is.ensures ∙ not-false _ c.if-not-shown_is.false))
+module _ (s : List ℕ) (start : ℕ) (missing mine : List ℕ) where
+  -- the codes stand there
+  codes : {b : Bool} → start ≤ length s → b ≡ starts_with (drop start s) (words_bytes (masked missing mine)) → b ≡ true → Matched s start (words_bytes (masked missing mine)) (At (start + 4 * length mine))
+  codes within is holds =
+      matched_told (ap (λ (n : ℕ). At (start + n)) (shown-length missing mine)) (matched_on {xs = words_bytes (masked missing mine)} within (sym is ∙ holds))
 
 -- what the test of the sum tells
-sum : (c : goal.After-sum_is) → let a = c.args in
-    c.sum_is.result ≡ starts_with (drop (a.start + 4 * length a.mine.now) a.s.now) (sum_bytes a.total.sum)
-sum c =
-    let a = c.args in
-    c.sum_is.ensures ∙ ap (λ (z : ℤ). starts_with (drop (a.start + 4 * length a.mine.now) a.s.now) (sum_bytes z)) (to_z-of_z {w = w64} {z = a.total.sum} (record { sfits = c.type_inv.total.0.1 }))
-
--- the sum stands behind them
-summed : (c : goal.After-word_is) → let a = c.args in
-    Matched a.s.now (a.start + 4 * length a.mine.now) (sum_bytes a.total.sum) (At (a.start + 4 * length a.mine.now + 8))
-summed c = matched_on (codes (PLACE c After-struct_told-1)).meets.2 (sym (sum (PLACE c After-sum_is)) ∙ not-false _ c.if-not-sum_is.false)
+sum_told : {b : Bool} {z : ℤ} (s : List ℕ) → SFits w64 z → b ≡ starts_with s (sum_bytes (to_z w64 (of_z w64 z))) → b ≡ starts_with s (sum_bytes z)
+sum_told {z = z} s fits is = is ∙ ap (λ (z : ℤ). starts_with s (sum_bytes z)) (to_z-of_z {w = w64} {z = z} fits)
 
 pub returns-then-s-start : goal.returns-then-s-start
 returns-then-s-start c =
@@ -51,22 +41,31 @@ pub returns-then-not-shown_is : goal.returns-then-not-shown_is
 unfolding cell_bytes
 returns-then-not-shown_is c =
     let a = c.args in
-    matched_stop {xs = words_bytes (masked a.missing.now a.mine.now)} _ (matched_none c.requires.1 (sym c.shown_is.ensures ∙ not-true _ c.if-not-shown_is.true))
+    matched_stop {xs = words_bytes (masked a.missing.now a.mine.now)} _ (matched_none c.requires.1 (sym c.shown_is.ensures ∙ c.if-not-shown_is.true))
 
 pub returns-then-not-sum_is : goal.returns-then-not-sum_is
 unfolding cell_bytes
 returns-then-not-sum_is c =
-    let sums = sum_bytes c.args.total.sum in
-    matched_then _ (Stop 12) (codes (goal.at.returns-then-not-sum_is c).After-struct_told-1) (matched_stop {xs = sums} _ (matched_none (codes (goal.at.returns-then-not-sum_is c).After-struct_told-1).meets.2 (sym (sum (goal.at.returns-then-not-sum_is c).After-sum_is) ∙ not-true _ c.if-not-sum_is.true)))
+    let a = c.args in
+    let sums = sum_bytes a.total.sum in
+    let shown = codes a.s.now a.start a.missing.now a.mine.now c.requires.1 c.shown_is.ensures c.if-not-shown_is.false in
+    let sum = sum_told {z = a.total.sum} (drop (a.start + 4 * length a.mine.now) a.s.now) (record { sfits = c.struct_told-1.given.0.1 }) c.sum_is.ensures in
+    matched_then _ (Stop 12) shown (matched_stop {xs = sums} _ (matched_none shown.meets.2 (sym sum ∙ c.if-not-sum_is.true)))
 
 pub returns-then-not-word_is : goal.returns-then-not-word_is
 unfolding cell_bytes
 returns-then-not-word_is c =
-    matched_then _ (Stop 12) (codes (goal.at.returns-then-not-word_is c).After-struct_told-1)
-    (matched_then _ (Stop 12) (summed (goal.at.returns-then-not-word_is c).After-word_is) (matched_none (summed (goal.at.returns-then-not-word_is c).After-word_is).meets.2 (sym c.word_is.ensures ∙ not-true _ c.if-not-word_is.true)))
+    let a = c.args in
+    let shown = codes a.s.now a.start a.missing.now a.mine.now c.requires.1 c.shown_is.ensures c.if-not-shown_is.false in
+    let sum = sum_told {z = a.total.sum} (drop (a.start + 4 * length a.mine.now) a.s.now) (record { sfits = c.struct_told-1.given.0.1 }) c.sum_is.ensures in
+    let summed : Matched a.s.now (a.start + 4 * length a.mine.now) (sum_bytes a.total.sum) (At (a.start + 4 * length a.mine.now + 8)) = matched_on shown.meets.2 (sym sum ∙ c.if-not-sum_is.false) in
+    matched_then _ (Stop 12) shown (matched_then _ (Stop 12) summed (matched_none summed.meets.2 (sym c.word_is.ensures ∙ c.if-not-word_is.true)))
 
 pub returns : goal.returns
 unfolding cell_bytes
 returns c =
-    matched_then _ (At _) (codes (goal.at.returns c).After-struct_told-1)
-    (matched_then _ (At _) (summed (goal.at.returns c).After-word_is) (matched_on (summed (goal.at.returns c).After-word_is).meets.2 (sym c.word_is.ensures ∙ not-false _ c.if-not-word_is.false)))
+    let a = c.args in
+    let shown = codes a.s.now a.start a.missing.now a.mine.now c.requires.1 c.shown_is.ensures c.if-not-shown_is.false in
+    let sum = sum_told {z = a.total.sum} (drop (a.start + 4 * length a.mine.now) a.s.now) (record { sfits = c.struct_told-1.given.0.1 }) c.sum_is.ensures in
+    let summed : Matched a.s.now (a.start + 4 * length a.mine.now) (sum_bytes a.total.sum) (At (a.start + 4 * length a.mine.now + 8)) = matched_on shown.meets.2 (sym sum ∙ c.if-not-sum_is.false) in
+    matched_then _ (At _) shown (matched_then _ (At _) summed (matched_on summed.meets.2 (sym c.word_is.ensures ∙ c.if-not-word_is.false)))

@@ -20,8 +20,8 @@ use Rattle.rows_slots.specs.Summed.{plus_row}
 use Rattle.rows_slots.proofs.Summing.{rows_from, adding_none, adding_bounds, adding_on, adding_end, entry_named}
 use Rattle.archive_cells.specs.Writing.{Writing}
 use Rattle.archive_cells.specs.WritingLaws.{writing_none, writing_more, writing_room, writing_done, wrote_as}
-use Rattle.archive_groups.specs.Masks.{masked}
-use Rattle.archive_groups.specs.Groups.{group_bytes}
+use Rattle.archive_groups.specs.Masks.{masked, Mask}
+use Rattle.archive_groups.specs.Groups.{Groupable, group_bytes}
 use Rattle.archive_groups.proofs.Masks.{masked-key}
 use Rattle.archive_groups.proofs.Left.{left, left_on, left_end, left-none}
 use borrow.Author.Rules.{rules}
@@ -64,22 +64,15 @@ long c =
 room : (c : goal.After-row_of-mine) → c.loop-i.at + (4 * c.args.dims + 12) ≤ length c.loop-i.out
 room c = omega (arith, long c, writing_room (cell_bytes (ended c)) _ (writing c) c.requires.slot_in_bounds)
 
--- what was written is that group
-wrote : (c : goal.After-slice_known-in-loop-i-1) → let l = c.loop-i in Wrote (cell_bytes (ended (PLACE c After-row_of-mine))) (mid_of l.at (length l.out - l.at) l.out) c.put_group-at.new.out c.put_group-at.result
-wrote c =
-    let a = c.args in
-    let l = c.loop-i in
-    let e = c.row_in-row.ensures.0 in
-    let r = row_in (get_or a.slot.now l.i 0) in
-    let m = c.mask_of-missing.result in
-    let p = c.requires.groupable in
-    let n = entry_named a.slot.now a.n l.i p.names c.loop-i-test.true in
+-- the codes under the mask and the total in hand are that group
+told : (d n s : ℕ) (ws slot m mine : List ℕ) (total t : Total) (i r : ℕ) → Groupable d n ws slot → i < length slot → Mask s m → r ≡ row_in (get_or slot i 0) → mine ≡ row_at (cut d n ws) r → t ≡ plus_row (row_total d n ws) total r
+    → cell_bytes (record { codes = masked m mine; total = t }) ≡ cell_bytes (record { codes = key s (cut d n ws) (row_in (get_or slot i 0)); total = plus_row (row_total d n ws) total (row_in (get_or slot i 0)) })
+told d n s ws slot m mine total t i r p h v e row sum =
     let codes =
-    ap (masked m) c.row_of-mine.ensures.0
-    ∙ ap (λ (z : ℕ). masked m (row_at (cut a.dims a.n a.rows.now) z)) e
-    ∙ masked-key a.dims a.n a.set r a.rows.now m p.dims p.valid c.mask_of-missing.ensures n in
-    let total = c.add_row-total.ensures ∙ ap (plus_row (row_total a.dims a.n a.rows.now) l.total) e in
-    wrote_as (ap₂ (λ (x : List ℕ) (t : Total). cell_bytes (record { codes = x; total = t })) codes total) c.put_group-at.ensures
+    ap (masked m) row
+    ∙ ap (λ (z : ℕ). masked m (row_at (cut d n ws) z)) e
+    ∙ masked-key d n s (row_in (get_or slot i 0)) ws m p.dims p.valid v (entry_named slot n i p.names h) in
+    ap₂ (λ (x : List ℕ) (t : Total). cell_bytes (record { codes = x; total = t })) codes (sum ∙ ap (plus_row (row_total d n ws) total) e)
 
 pub loop-i-init : goal.loop-i-init
 unfolding left group_bytes
@@ -122,7 +115,11 @@ pub put_group-at-requires : goal.put_group-at-requires
 put_group-at-requires c = (omega (arith, c.row_of-mine.ensures.1, c.requires.groupable.dims), simp (length-take, length-drop) (omega (arith, c.row_of-mine.ensures.1, room (goal.at.put_group-at-requires c).After-row_of-mine)))
 
 pub overflow_add-at : goal.overflow_add-at
-overflow_add-at c = omega (arith, room (goal.at.overflow_add-at c).After-row_of-mine, long (goal.at.overflow_add-at c).After-row_of-mine, (wrote c).count)
+overflow_add-at c =
+    let a = c.args in
+    let l = c.loop-i in
+    let wrote = wrote_as (told a.dims a.n a.set a.rows.now a.slot.now c.mask_of-missing.result c.row_of-mine.result.now l.total c.add_row-total.result l.i c.row_in-row.result c.requires.groupable c.loop-i-test.true c.mask_of-missing.ensures c.row_in-row.ensures.0 c.row_of-mine.ensures.0 c.add_row-total.ensures) c.put_group-at.ensures in
+    omega (arith, room (goal.at.overflow_add-at c).After-row_of-mine, long (goal.at.overflow_add-at c).After-row_of-mine, wrote.count)
 
 pub overflow_step-i-in-loop-i : goal.overflow_step-i-in-loop-i
 overflow_step-i-in-loop-i c = omega (arith, c.loop-i-test.true, c.requires.groupable.few)
@@ -130,10 +127,11 @@ overflow_step-i-in-loop-i c = omega (arith, c.loop-i-test.true, c.requires.group
 pub loop-i-preserved : goal.loop-i-preserved
 loop-i-preserved c =
     let a = c.args in
-    let l = c.loop-i in (
+    let l = c.loop-i in
+    let wrote = wrote_as (told a.dims a.n a.set a.rows.now a.slot.now c.mask_of-missing.result c.row_of-mine.result.now l.total c.add_row-total.result l.i c.row_in-row.result c.requires.groupable c.loop-i-test.true c.mask_of-missing.ensures c.row_in-row.ensures.0 c.row_of-mine.ensures.0 c.add_row-total.ensures) c.put_group-at.ensures in (
       search rules,
       adding_end (row_total a.dims a.n a.rows.now) (key a.set (cut a.dims a.n a.rows.now)) a.slot.now l.total l.i c.loop-i-test.true l.invariant.1,
-      writing_more (cell_bytes (ended (goal.at.loop-i-preserved c).After-row_of-mine)) _ (writing (goal.at.loop-i-preserved c).After-row_of-mine) (wrote c),
+      writing_more (cell_bytes (ended (goal.at.loop-i-preserved c).After-row_of-mine)) _ (writing (goal.at.loop-i-preserved c).After-row_of-mine) wrote,
     )
 
 pub shape_of-out : goal.shape_of-out

@@ -10,10 +10,10 @@ use Rattle.archive_groups.specs.Masks.{masked}
 use Rattle.archive_groups.proofs.Shown.{shown_from, word_of, shown-length, shown-all, shown_on, shown-none}
 use borrow.Author.Rules.{rules}
 use Rattle.archive_groups.proofs.put_shown.Goals as goal
-use Rattle.archive_groups.proofs.put_shown.Goals.{After-shared_slice_known-in-loop-d-1}
+use Rattle.archive_groups.proofs.put_shown.Goals.{In-loop-d}
 
 -- the word of dimension d is next
-next : (c : goal.In-loop-d) → let a = c.args in
+next : (c : In-loop-d) → let a = c.args in
     let l = c.loop-d in
     Writing (words_bytes (masked a.missing.now a.mine.now)) (word_of a.missing.now a.mine.now l.d ++ shown_from a.missing.now a.mine.now (l.d + 1)) a.out.now l.out l.at
 next c =
@@ -21,7 +21,7 @@ next c =
     rw (shown_on a.missing.now a.mine.now c.loop-d.d c.loop-d-test.true) at c.loop-d.invariant.1
 
 -- there is room for it
-room : (c : goal.In-loop-d) → c.loop-d.at + 4 ≤ length c.loop-d.out
+room : (c : In-loop-d) → c.loop-d.at + 4 ≤ length c.loop-d.out
 room c =
     let a = c.args in
     writing_room (word_of a.missing.now a.mine.now c.loop-d.d) _ (next c) (omega (arith, shown-length a.missing.now a.mine.now, c.requires.1))
@@ -35,23 +35,23 @@ pub bounds-missing-d : goal.bounds-missing-d
 bounds-missing-d c = omega (arith, c.loop-d-test.true, c.requires.0)
 
 pub slice_bounds-put_word-count : goal.slice_bounds-put_word-count
-slice_bounds-put_word-count c = omega (arith, room (goal.at.slice_bounds-put_word-count c).After-shared_slice_known-in-loop-d-1)
+slice_bounds-put_word-count c = omega (arith, room (goal.at.slice_bounds-put_word-count c).In-loop-d)
 
 pub slice_bounds-put_word-start : goal.slice_bounds-put_word-start
-slice_bounds-put_word-start c = omega (arith, room (goal.at.slice_bounds-put_word-start c).After-shared_slice_known-in-loop-d-1)
+slice_bounds-put_word-start c = omega (arith, room (goal.at.slice_bounds-put_word-start c).In-loop-d)
 
 pub put_word-at-requires : goal.put_word-at-requires
-put_word-at-requires c = simp (length-take, length-drop) (omega (arith, room (goal.at.put_word-at-requires c).After-shared_slice_known-in-loop-d-1))
+put_word-at-requires c = simp (length-take, length-drop) (omega (arith, room (goal.at.put_word-at-requires c).In-loop-d))
 
 pub overflow_add-at : goal.overflow_add-at
-overflow_add-at c = omega (arith, room (goal.at.overflow_add-at c).After-shared_slice_known-in-loop-d-1)
+overflow_add-at c = omega (arith, room (goal.at.overflow_add-at c).In-loop-d)
 
 pub loop-d-preserved : goal.loop-d-preserved
 loop-d-preserved c =
     let a = c.args in
     let l = c.loop-d in
     let word = word_of a.missing.now a.mine.now l.d in
-    (search rules, writing_more word _ (next (goal.at.loop-d-preserved c).After-shared_slice_known-in-loop-d-1) c.put_word-at.ensures)
+    (search rules, writing_more word _ (next (goal.at.loop-d-preserved c).In-loop-d) c.put_word-at.ensures)
 
 pub shape_of-out : goal.shape_of-out
 shape_of-out c = c.loop-d.invariant.1.wrote.same

@@ -10,11 +10,6 @@ use Rattle.archive_groups.specs.Masks.{masked}
 use Rattle.archive_groups.proofs.Shown.{shown_from, shown-all, shown-compared, shown-none}
 use borrow.Author.Rules.{rules}
 use Rattle.archive_groups.proofs.shown_is.Goals as goal
-use Rattle.archive_groups.proofs.shown_is.Goals.{After-shared_slice_known-in-loop-d-1}
-
--- the word of dimension d ends within the bytes
-room : (c : goal.In-loop-d) → c.loop-d.at + 4 ≤ length c.args.s.now
-room c = omega (arith, c.loop-d.invariant.1, c.loop-d-test.true, c.requires.1)
 
 pub loop-d-init : goal.loop-d-init
 loop-d-init c =
@@ -25,10 +20,10 @@ pub bounds-missing-d : goal.bounds-missing-d
 bounds-missing-d c = omega (arith, c.loop-d-test.true, c.requires.0)
 
 pub word_is-is-requires : goal.word_is-is-requires
-word_is-is-requires c = room (goal.at.word_is-is-requires c).After-shared_slice_known-in-loop-d-1
+word_is-is-requires c = omega (arith, c.loop-d.invariant.1, c.loop-d-test.true, c.requires.1)
 
 pub overflow_add-at : goal.overflow_add-at
-overflow_add-at c = omega (arith, room (goal.at.overflow_add-at c).After-shared_slice_known-in-loop-d-1)
+overflow_add-at c = omega (arith, c.loop-d.invariant.1, c.loop-d-test.true, c.requires.1)
 
 pub loop-d-preserved : goal.loop-d-preserved
 loop-d-preserved c =

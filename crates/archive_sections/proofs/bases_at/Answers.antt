@@ -14,7 +14,7 @@ use Rattle.archive_entries.proofs.Front.{front_is, front_length, front-room}
 use Rattle.archive_entries.proofs.Walking.{Opened, opened}
 use Rattle.archive_sections.proofs.Ends.{bases-off, bases_on, bases_past}
 use Rattle.archive_sections.proofs.bases_at.Goals as goal
-use Rattle.archive_sections.proofs.bases_at.Goals.{After-word_at-d, few, whole}
+use Rattle.archive_sections.proofs.bases_at.Goals.{After-word_at-d}
 
 abbrev zeros : List ℕ
 zeros = 0 ∷ 0 ∷ 0 ∷ 0 ∷ 0 ∷ 0 ∷ 0 ∷ 0 ∷ []

@@ -1,5 +1,4 @@
 -- `archive_sections::close_at` meets its contract: behind the last byte there is no check word.
-use borrow.Author.Rules.{rules}
 use Rattle.archive_sections.proofs.Ends.{close_past}
 use Rattle.archive_sections.proofs.close_at.Goals as goal
 

@@ -5,7 +5,6 @@ use Prim.Native.Nat.{ℕ, ◌+◌, ◌-◌, ◌≤◌}
 use native.Mathlib.Omega.{arith}
 use lib.ListN.{length, take, drop, length-drop}
 use lib.Seq.{take_all, drop-drop}
-use borrow.Author.Rules.{rules}
 use Rattle.fields_walk.specs.declared.Walk.TheVariants.{At}
 use Rattle.fields_walk.specs.Parsed.{stop, got}
 use Rattle.fields_walk.specs.Fields.{header}

@@ -24,10 +24,8 @@ pub returns-in-Known-row : goal.returns-in-Known-row
 returns-in-Known-row c =
     let e = c.in-Known.is in
     let f = c.in-Known-row.is in
-    let m = c.mine-1.given.0 in
-    let n = c.row-1.given.0 in
     let r = subst Readings e c.requires.0 in
     let q = subst Readings f c.requires.1 in
-    let l = rw (to_z-of_z (fit m.0 r.0), to_z-of_z (fit n.0 q.0)) at c.lesser.ensures in
-    let g = rw (to_z-of_z (fit m.1.0 r.1), to_z-of_z (fit n.1.0 q.1)) at c.greater.ensures in
+    let l = rw (to_z-of_z (fit c.in-Known.least r.0), to_z-of_z (fit c.in-Known-row.l q.0)) at c.lesser.ensures in
+    let g = rw (to_z-of_z (fit c.in-Known.greatest r.1), to_z-of_z (fit c.in-Known-row.g q.1)) at c.greater.ensures in
     rw (to_z-of_z {w = w64} (sfits_of c.lesser.type_inv), to_z-of_z {w = w64} (sfits_of c.greater.type_inv), l, g, e, f)

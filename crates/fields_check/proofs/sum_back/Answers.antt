@@ -1,7 +1,7 @@
 -- `fields_check::sum_back` meets its contract: the five sums have together the check word of the bytes behind the place.
-use Rattle.std.proofs.Common.{◌-◌, ◌*◌, ◌/◌, length, drop, ap, ◌∙◌, arith, length-drop, take_all, rules}
+use Rattle.std.proofs.Common.{◌-◌, ◌*◌, ◌/◌, length, drop, ap, ◌∙◌, arith, length-drop, take_all}
 use Rattle.fields_check.specs.Check.{check_of}
-use Rattle.fields_check.proofs.Summed.{Behind, behind_none, behind_on, behind_all}
+use Rattle.fields_check.proofs.Summed.{behind_none, behind_on, behind_all}
 use Rattle.fields_check.proofs.sum_back.Goals as goal
 
 pub loop-at-init : goal.loop-at-init
@@ -12,9 +12,9 @@ loop-at-init c =
 
 pub loop-at-preserved : goal.loop-at-preserved
 loop-at-preserved c =
-    behind_on c.loop-at.invariant (omega (arith, c.loop-at-test.true)) c.word_at.ensures c.word_at-in-loop-at.ensures c.word_at-in-loop-at-2.ensures c.word_at-in-loop-at-3.ensures c.wrapping_add_u32-first.ensures c.wrapping_add_u32-second.ensures c.wrapping_add_u32-third.ensures c.wrapping_add_u32-fourth.ensures
+    behind_on c.loop-at.invariant (omega (arith, c.loop-at-test.true)) c.word_at.ensures c.word_at-in-loop-at.ensures c.word_at-in-loop-at-2.ensures c.word_at-in-loop-at-3.ensures c.wrapping_add_u32-first.ensures.value c.wrapping_add_u32-second.ensures.value c.wrapping_add_u32-third.ensures.value c.wrapping_add_u32-fourth.ensures.value
 
 pub returns : goal.returns
 returns c =
     let all = behind_all c.loop-at.invariant c.loop-at-test.false in
-    omega (arith, all, c.wrapping_add_u32-sum.ensures, c.wrapping_add_u32-sum-2.ensures, c.wrapping_add_u32-sum-3.ensures, c.wrapping_add_u32.ensures)
+    omega (arith, all, c.wrapping_add_u32-sum.ensures.value, c.wrapping_add_u32-sum-2.ensures.value, c.wrapping_add_u32-sum-3.ensures.value, c.wrapping_add_u32.ensures.value)

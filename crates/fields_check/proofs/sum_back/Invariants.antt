@@ -1,6 +1,4 @@
-use Rattle.std.proofs.Common.{◌-◌, ◌*◌, ◌/◌, length, drop, ap, ◌∙◌, arith, length-drop, take_all, rules}
-use Rattle.fields_check.specs.Check.{check_of}
-use Rattle.fields_check.proofs.Summed.{Behind, behind_none, behind_on, behind_all}
+use Rattle.fields_check.proofs.Summed.{Behind}
 use Rattle.fields_check.proofs.sum_back.Given as goal
 
 abbrev pub invariant-loop-at : goal.invariant-loop-at

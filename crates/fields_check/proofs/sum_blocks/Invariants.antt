@@ -1,6 +1,5 @@
-use Rattle.std.proofs.Common.{◌≡◌, ◌+◌, ◌-◌, length, drop, ap, ◌∙◌, arith, length-drop, take_all, rules}
-use Rattle.fields_check.specs.Check.{check_of}
-use Rattle.fields_check.proofs.Summed.{Blocks, blocks_none, blocks_on, blocks_all}
+use Rattle.std.proofs.Common.{◌-◌, length}
+use Rattle.fields_check.proofs.Summed.{Blocks}
 use Rattle.fields_check.proofs.sum_blocks.Given as goal
 
 abbrev pub invariant-loop-at : goal.invariant-loop-at

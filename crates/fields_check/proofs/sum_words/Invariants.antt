@@ -1,5 +1,5 @@
-use Rattle.std.proofs.Common.{◌-◌, ◌≤◌, length, rules}
-use Rattle.fields_check.proofs.Summed.{Summed, summed-none, summed_on, summed-all}
+use Rattle.std.proofs.Common.{◌-◌, ◌≤◌, length}
+use Rattle.fields_check.proofs.Summed.{Summed}
 use Rattle.fields_check.proofs.sum_words.Given as goal
 
 abbrev pub invariant-loop-at : goal.invariant-loop-at

@@ -3,7 +3,6 @@ use mathlib.Core.Path.{ap, ◌∙◌}
 use Prim.Native.Nat.{ℕ, ◌%◌, ◌^◌}
 use mir.Facts.{to_z-of_z}
 use Rattle.fields_sums.specs.Twos.{bits_of}
-use borrow.Author.Rules.{rules}
 use Rattle.fields_sums.proofs.low_of.Goals as goal
 
 pub returns : goal.returns

@@ -3,7 +3,6 @@ use mathlib.Core.Path.{ap, ◌∙◌}
 use mir.Facts.{to_z-of_z}
 use Rattle.fields_sums.specs.Twos.{low_of, high_of}
 use Rattle.fields.specs.WrittenLaws.{wrote_then}
-use borrow.Author.Rules.{rules}
 use Rattle.fields_sums.proofs.put_sum.Goals as goal
 
 pub returns : goal.returns

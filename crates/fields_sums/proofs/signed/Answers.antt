@@ -8,7 +8,6 @@ use mir.Facts.{sfits_to_z, to_z-of_z}
 use native.Mathlib.Omega.{arith}
 use Rattle.fields_sums.specs.Twos.{signed_of}
 use Rattle.fields_sums.proofs.Machine.{upper}
-use borrow.Author.Rules.{rules}
 use Rattle.fields_sums.proofs.signed.Goals as goal
 
 up : (c : goal.Else-n-lt9223372036854775808) → negsuc 0 -ℤ to_z w64 (0xffff_ffff_ffff_ffff - c.args.n) ≡ signed_of 64 c.args.n

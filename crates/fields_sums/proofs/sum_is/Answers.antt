@@ -8,7 +8,6 @@ use Rattle.fields.specs.Words.{word_bytes}
 use Rattle.fields_sums.specs.Twos.{low_of, high_of}
 use Rattle.fields.specs.Opening.{starts_with}
 use Rattle.fields_sums.proofs.Sums.{starts-sum}
-use borrow.Author.Rules.{rules}
 use Rattle.fields_sums.proofs.sum_is.Goals as goal
 use Rattle.fields_sums.proofs.sum_is.Goals.{After-word_is}
 

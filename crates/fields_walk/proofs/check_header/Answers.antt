@@ -5,7 +5,6 @@ use mathlib.Core.List.{List}
 use Prim.Native.Nat.{ℕ, ◌≤◌}
 use native.Mathlib.Omega.{arith}
 use borrow.Author.Rules.{rules}
-use borrow.Author.Tests.{not-true, not-false}
 use lib.ListN.{length, drop, length-append}
 use Rattle.fields.specs.Opening.{starts_with}
 use Rattle.fields.specs.OpeningLaws.{starts_is}
@@ -20,13 +19,13 @@ long : (s o : List ℕ) → starts_with s o ≡ true → length o ≡ 4 → 4 �
 long s o e h = omega (arith, ap length (starts_is s o e), length-append o (drop (length o) s))
 
 opens : (c : goal.Else-not-opening_is) → starts_with c.args.s.now c.args.opening.now ≡ true
-opens c = sym c.opening_is.ensures.value ∙ not-false _ c.if-not-opening_is.false
+opens c = sym c.opening_is.ensures.value ∙ c.if-not-opening_is.false
 
 inside : (c : goal.Else-not-opening_is) → 4 ≤ length c.args.s.now
 inside c = long c.args.s.now c.args.opening.now (opens c) c.opening_is.ensures.opening_len
 
 pub returns-then-not-opening_is : goal.returns-then-not-opening_is
-returns-then-not-opening_is c = record { says = header-off _ _ (sym c.opening_is.ensures.value ∙ not-true _ c.if-not-opening_is.true) }
+returns-then-not-opening_is c = record { says = header-off _ _ (sym c.opening_is.ensures.value ∙ c.if-not-opening_is.true) }
 
 pub check_field-requires : goal.check_field-requires
 check_field-requires c = inside c

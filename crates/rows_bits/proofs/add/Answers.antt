@@ -2,7 +2,6 @@
 use mathlib.Core.Path.{◌∙◌}
 use lib.ListN.{length-set}
 use Rattle.rows_bits.proofs.Bits.{has_more}
-use borrow.Author.Rules.{rules}
 use Rattle.rows_bits.proofs.add.Goals as goal
 
 pub returns : goal.returns

@@ -1,7 +1,6 @@
 -- `rows_bits::has` meets its contract: the bit of the row in its word.
 use mathlib.Core.Path.{refl}
 use Rattle.rows_bits.specs.Rowsets.{has}
-use borrow.Author.Rules.{rules}
 use Rattle.rows_bits.proofs.has.Goals as goal
 
 pub returns : goal.returns

@@ -1,9 +1,4 @@
 -- `rows_bits::is_empty` meets its contract: a word has the bits of all words before place i.
-use mathlib.Core.Path.{◌≡◌}
-use Prim.Native.Nat.{◌-◌, ◌≤◌}
-use lib.Dec.{eqb}
-use lib.ListN.{length, take}
-use Rattle.rows_bits.specs.Rowsets.{empty}
 use Rattle.rows_bits.proofs.Bits.{empty-start, empty-more, empty-done}
 use borrow.Author.Rules.{rules}
 use Rattle.rows_bits.proofs.is_empty.Goals as goal

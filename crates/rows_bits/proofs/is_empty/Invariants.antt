@@ -3,8 +3,6 @@ use Prim.Native.Nat.{◌-◌, ◌≤◌}
 use lib.Dec.{eqb}
 use lib.ListN.{length, take}
 use Rattle.rows_bits.specs.Rowsets.{empty}
-use Rattle.rows_bits.proofs.Bits.{empty-start, empty-more, empty-done}
-use borrow.Author.Rules.{rules}
 use Rattle.rows_bits.proofs.is_empty.Given as goal
 
 abbrev pub invariant-loop-i : goal.invariant-loop-i

@@ -1,8 +1,6 @@
 -- `rows_bits::join` meets its contract: the words before place i are joined, the others are as they were.
-use Prim.Native.Nat.{◌-◌}
 use native.Mathlib.Omega.{arith}
-use Rattle.rows_bits.proofs.Bits.{Joining, joining_start, joining_more, joining_done}
-use borrow.Author.Rules.{rules}
+use Rattle.rows_bits.proofs.Bits.{joining_start, joining_more, joining_done}
 use Rattle.rows_bits.proofs.join.Goals as goal
 
 pub loop-i-init : goal.loop-i-init

@@ -1,7 +1,5 @@
 use Prim.Native.Nat.{◌-◌}
-use native.Mathlib.Omega.{arith}
-use Rattle.rows_bits.proofs.Bits.{Joining, joining_start, joining_more, joining_done}
-use borrow.Author.Rules.{rules}
+use Rattle.rows_bits.proofs.Bits.{Joining}
 use Rattle.rows_bits.proofs.join.Given as goal
 
 abbrev pub invariant-loop-i : goal.invariant-loop-i

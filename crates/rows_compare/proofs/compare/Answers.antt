@@ -9,6 +9,7 @@ use Rattle.rows_compare.specs.Compare.{compared}
 use Rattle.rows_compare.proofs.Agree.{alike-out}
 use Rattle.rows_compare.proofs.Compared.{further, further_none, alike_in, compared_skip, compared_less, compared-more, compared-done}
 use Rattle.rows_compare.proofs.compare.Goals as goal
+use Rattle.rows_compare.proofs.compare.Goals.{then-rest-eq1+else-x-y+else-y-x, else-rest-eq1}
 
 pub loop-d-init : goal.loop-d-init
 loop-d-init c = (omega arith, further_none _)
@@ -30,7 +31,7 @@ loop-d-preserved c =
     (
       search rules,
       compared_skip c.loop-d.rest c.args.mine.now c.args.other.now c.loop-d.d (search rules) (search rules)
-          (cases c.if-rest-eq1.branch (λ w. alike_in _ _ _ w.0.taken (omega (arith, w.1.left, w.2.left))) (λ w. alike-out _ _ _ w.left))
+          (elim c.if-rest-eq1.branch [ then-rest-eq1+else-x-y+else-y-x w ↦ alike_in _ _ _ w.if-rest-eq1.true (omega arith) | else-rest-eq1 w ↦ alike-out _ _ _ w.if-rest-eq1.false ])
           ∙ c.loop-d.invariant.1,
     )
 

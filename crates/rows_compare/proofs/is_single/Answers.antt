@@ -6,7 +6,7 @@ use mathlib.Core.Bool.{true}
 use mathlib.Core.List.{[]}
 use Prim.Native.Nat.{◌≤◌, ◌<◌, ◌-◌}
 use borrow.Author.Rules.{rules}
-use borrow.Author.Tests.{not-true, not-false}
+use borrow.Author.Tests.{eq-eqb, ne_eqb}
 use lib.ListN.{length, drop}
 use Rattle.lists.proofs.Tests.{cases}
 use Rattle.cube.specs.Codes.{agree, plain}
@@ -17,21 +17,13 @@ use Rattle.rows_compare.proofs.Agree.{alike-out, agree_skip, agree-stop, agree-d
 use Rattle.lists.proofs.Places.{distinct-at}
 use Rattle.rows_compare.proofs.Singles.{single-own, single_skip, single-stop, single-done}
 use Rattle.rows_compare.proofs.is_single.Goals as goal
-use Rattle.rows_compare.proofs.is_single.Goals.{After-row_of-other, In-rows}
+use Rattle.rows_compare.proofs.is_single.Goals.{In-rows, else-rest-eq1-via-then-rest-eq1+else-mine-d, else-rest-eq1-via-else-rest-eq1}
 
 -- the place in hand is that of a row
 within : (c : goal.In-rows)
     → (let a = c.args in
     c.rows.i < length (cut a.dims a.n a.rows.now))
 within c = rw cut-length (search rules)
-
--- the row in hand is another than `row`
-differs : (c : goal.After-row_of-other) → c.row_of-mine.result.now ≢ c.row_of-other.result.now
-differs c e =
-    let a = c.args in
-    let xs = cut a.dims a.n a.rows.now in
-    distinct-at [] xs c.rows.i a.row c.requires.2 (within (PLACE c In-rows)) (rw cut-length (search rules)) c.if-i-row.false
-    (sym c.row_of-other.ensures.0 ∙ sym e ∙ c.row_of-mine.ensures.0)
 
 pub rows-init : goal.rows-init
 rows-init c =
@@ -55,7 +47,7 @@ rows-preserved c =
     let a = c.args in
     let mine = c.row_of-mine.result.now in
     let stop = agree-stop c.loop-d.rest mine c.row_of-other.result.now c.loop-d.d (search rules) (search rules)
-    (rw c.if-rest-eq1.true (not-true _ c.if-mine-d.true)) in (
+    (rw c.if-rest-eq1.true (ne_eqb _ _ c.if-mine-d.true)) in (
       c.rows.invariant.0,
       search rules,
       rw c.loop-d.invariant.0
@@ -69,7 +61,7 @@ loop-d-preserved c =
       search rules,
       search rules,
       agree_skip l.rest _ _ l.d (search rules) (search rules)
-          (cases c.else-rest-eq1.branch (λ w. rw w.0.taken (not-false _ w.3.left)) (λ w. alike-out _ _ _ w.left)) ∙ l.invariant.2,
+          (elim c.else-rest-eq1.branch [ else-rest-eq1-via-then-rest-eq1+else-mine-d w ↦ rw w.if-rest-eq1.true (eq-eqb _ _ w.if-mine-d.false) | else-rest-eq1-via-else-rest-eq1 w ↦ alike-out _ _ _ w.if-rest-eq1.false ]) ∙ l.invariant.2,
     )
 
 pub returns-after-rows : goal.returns-after-rows
@@ -83,7 +75,10 @@ pub returns-after-loop-d : goal.returns-after-loop-d
 returns-after-loop-d c =
     let a = c.args in
     let mine = c.row_of-mine.result.now in
+    let xs = cut a.dims a.n a.rows.now in
     let done = agree-done c.loop-d.rest mine c.row_of-other.result.now c.loop-d.d (search rules) (search rules) in
     sym (sym c.rows.invariant.2
-    ∙ single-stop (plain a.dims) a.set mine (cut a.dims a.n a.rows.now) c.rows.i (within (goal.at.returns-after-loop-d c).In-rows)
-    c.row_of-other.ensures.0 (sym c.loop-d.invariant.2 ∙ done) (differs (goal.at.returns-after-loop-d c).After-row_of-other))
+    ∙ single-stop (plain a.dims) a.set mine xs c.rows.i (within (goal.at.returns-after-loop-d c).In-rows)
+    c.row_of-other.ensures.0 (sym c.loop-d.invariant.2 ∙ done)
+    (λ e. distinct-at [] xs c.rows.i a.row c.requires.2 (within (goal.at.returns-after-loop-d c).In-rows) (rw cut-length (search rules)) c.if-i-row.false
+    (sym c.row_of-other.ensures.0 ∙ sym e ∙ c.row_of-mine.ensures.0)))

@@ -8,18 +8,13 @@ use Rattle.rows_slots.specs.Slots.{code_in, slot_from, lone_from}
 use Rattle.rows_slots.proofs.Whole.{slot-none, lone-none}
 use borrow.Author.Rules.{rules}
 use Rattle.rows_slots.proofs.first_slot.Goals as goal
-use Rattle.rows_slots.proofs.first_slot.Goals.{After-slice_known-4-1}
-
--- each element is a row
-named : (c : goal.After-number_rows) → let a = c.args in Names c.number_rows.new.index a.n
-named c i h = rw (c.number_rows.ensures.1 i h) (omega (arith, h, c.number_rows.ensures.0, c.requires.order_len.0))
 
 pub pack_groups-requires : goal.pack_groups-requires
 pack_groups-requires c =
     let a = c.args in
     let p = c.requires in
     let o = c.number_rows.ensures in
-    let n = named (goal.at.pack_groups-requires c).After-slice_known-4-1 in record { names = (rw (c.clear.ensures.0 ∙ p.order_len.1) n, λ i h. omega (arith, n i h, p.n_bound.0), omega (arith, o.0, p.order_len.0, p.n_bound.0)); order_in_bounds = (omega (arith, o.0, p.order_len.0, p.order_len.2), omega (arith, o.0, p.order_len.0, p.order_len.3)) }
+    let n : Names c.number_rows.new.index a.n = λ i h. rw (o.1 i h) (omega (arith, h, o.0, p.order_len.0)) in record { names = (rw (c.clear.ensures.0 ∙ p.order_len.1) n, λ i h. omega (arith, n i h, p.n_bound.0), omega (arith, o.0, p.order_len.0, p.n_bound.0)); order_in_bounds = (omega (arith, o.0, p.order_len.0, p.order_len.2), omega (arith, o.0, p.order_len.0, p.order_len.3)) }
 
 pub returns : goal.returns
 returns c =
@@ -29,10 +24,4 @@ returns c =
     let column = c.clear.new.next in
     let zeros = c.clear.ensures.1 in
     let all = numbered c.number_rows.new.index a.n (o.0 ∙ p.order_len.0) o.1 in
-    let r = c.pack_groups.ensures in let the_answer = (
-      r.slot_after ∙ ap (slot_from (code_in column) a.least true) all ∙ slot-none a.dims a.n a.rows.now column p.n_bound.3 a.least p.n_bound.1 p.n_bound.2 zeros,
-      (
-        r.lone_after ∙ ap (lone_from (code_in column) a.least true) all ∙ lone-none a.dims a.n a.rows.now column p.n_bound.3 a.least p.n_bound.1 p.n_bound.2 zeros,
-        (omega (arith, r.len_in_bounds.0, o.0, p.order_len.0), omega (arith, r.len_in_bounds.1, o.0, p.order_len.0)),
-      ),
-    ) in record { slot_after = the_answer.0; lone_after = the_answer.1.0; len_le_n = the_answer.1.1 }
+    let r = c.pack_groups.ensures in record { slot_after = r.slot_after ∙ ap (slot_from (code_in column) a.least true) all ∙ slot-none a.dims a.n a.rows.now column p.n_bound.3 a.least p.n_bound.1 p.n_bound.2 zeros; lone_after = r.lone_after ∙ ap (lone_from (code_in column) a.least true) all ∙ lone-none a.dims a.n a.rows.now column p.n_bound.3 a.least p.n_bound.1 p.n_bound.2 zeros; len_le_n = (omega (arith, r.len_in_bounds.0, o.0, p.order_len.0), omega (arith, r.len_in_bounds.1, o.0, p.order_len.0)) }

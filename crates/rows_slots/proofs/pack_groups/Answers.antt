@@ -10,7 +10,7 @@ use Rattle.rows_slots.proofs.pack_groups.Goals as goal
 pub returns-then-least-eq2 : goal.returns-then-least-eq2
 returns-then-least-eq2 c =
     let r = c.pack_shared.ensures in
-let the_answer = (rw c.if-least-eq2.true r.slot_after, (rw c.if-least-eq2.true r.lone_after, r.len_in_bounds)) in record { slot_after = the_answer.0; lone_after = the_answer.1.0; len_in_bounds = the_answer.1.1 }
+    record { slot_after = rw c.if-least-eq2.true r.slot_after; lone_after = rw c.if-least-eq2.true r.lone_after; len_in_bounds = r.len_in_bounds }
 
 pub returns : goal.returns
 returns c =
@@ -18,4 +18,4 @@ returns c =
     let order = a.order.now in
     let key = code_in a.column.now in
     let other = ne_eqb a.least 2 c.if-least-eq2.false in
-let the_answer = (c.pack_all.ensures ∙ sym (slot-all key a.least other true true order), (sym (lone-all key a.least other true order), (search rules, search rules))) in record { slot_after = the_answer.0; lone_after = the_answer.1.0; len_in_bounds = the_answer.1.1 }
+    record { slot_after = c.pack_all.ensures ∙ sym (slot-all key a.least other true true order); lone_after = sym (lone-all key a.least other true order); len_in_bounds = (search rules, search rules) }

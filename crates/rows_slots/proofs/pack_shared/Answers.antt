@@ -26,7 +26,7 @@ done c =
     (closes_end key order _ (end + 1) (omega (arith, some))) c.entry_of-2.ensures (c.count_in-len-2.ensures ∙ ap (λ (b : Bool). staying (not b) l.len) c.is_lone-2.ensures))
 
 pub returns-then-n-eq0 : goal.returns-then-n-eq0
-returns-then-n-eq0 c = let none = drop_of_length-le c.args.order.now {i = 0} (search rules) in let the_answer = (rw none refl, (rw none refl, (search rules, search rules))) in record { slot_after = the_answer.0; lone_after = the_answer.1.0; len_in_bounds = the_answer.1.1 }
+returns-then-n-eq0 c = let none = drop_of_length-le c.args.order.now {i = 0} (search rules) in record { slot_after = rw none refl; lone_after = rw none refl; len_in_bounds = (search rules, search rules) }
 
 pub loop-i-init : goal.loop-i-init
 loop-i-init c =
@@ -70,4 +70,4 @@ pub returns : goal.returns
 returns c =
     let a = c.args in
     let key = code_in a.column.now in
-let the_answer = (packing_slot key a.order.now (done c), (packing_left key a.order.now (done c), ((done c).few, search rules))) in record { slot_after = the_answer.0; lone_after = the_answer.1.0; len_in_bounds = the_answer.1.1 }
+    record { slot_after = packing_slot key a.order.now (done c); lone_after = packing_left key a.order.now (done c); len_in_bounds = ((done c).few, search rules) }
