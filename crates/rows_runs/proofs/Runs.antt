@@ -1,5 +1,5 @@
 -- The runs of a list of rows in the order of their keys: where a run ends, which keys the runs have, and which rows; the runs of lists one behind the other.
-use mathlib.Core.Path.{◌≡◌, refl, ap, ◌∙◌}
+use mathlib.Core.Path.{◌≡◌, refl, sym, ap, subst, ◌∙◌}
 use mathlib.Core.Logic.{◌⊎◌, inl, inr}
 use mathlib.Core.Bool.{true, false}
 use mathlib.Core.List.Memᴰ
@@ -113,6 +113,9 @@ module _ (key : ℕ → List ℕ) where
   whole-more : (x : ℕ) (l : List ℕ) (r : Run) → earlier (key x) (cell_of r) ≡ true → Whole l r → Whole (x ∷ l) r
   whole-more x l r e w = rw (not_same (key x) (cell_of r) e) w
 
+  whole-join : (x y : ℕ) (l m : List ℕ) → key x ≡ key y → y ∷ m ≡ keep (alike key (key y)) (y ∷ l) → x ∷ y ∷ m ≡ keep (alike key (key x)) (x ∷ y ∷ l)
+  whole-join x y l m s w = rw (same_refl (key x)) (ap (λ (t : List ℕ). x ∷ t) (w ∙ ap (λ (k : List ℕ). keep (alike key k) (y ∷ l)) (sym s)))
+
   pub runs-whole : {r : Run} (l : List ℕ) → Ordered key l → r ∈ runs key l → Whole l r
   unfolding runs
   runs-whole [] o m = absurd (Memᴰ.not-nil (runs_in [] m))
@@ -123,11 +126,11 @@ module _ (key : ℕ → List ℕ) where
       (λ e. cases (Memᴰ.cases_cons (rw (runs-part x y l e) at m))
       (λ q. let none : keep (alike key (key x)) (y ∷ l) ≡ [] = keep-none (alike key (key x)) (y ∷ l)
       (λ z i p. by_codes.irrefl (key z) (rw (same-eq (key x) (key z) p) at (before-all key x y l o.1 e i))) in
-      rw (q, same_refl (key x), none))
+      subst (λ (z : Run). Whole (x ∷ y ∷ l) z) (sym q) (rw (same_refl (key x), none)))
       (λ i. whole-more x (y ∷ l) r (before-all key x y l o.1 e (runs_in (y ∷ l) i)) (runs-whole (y ∷ l) o.1 i)))
       (λ e. let s : key x ≡ key y = by_codes.total (key x) (key y) e (o.0 y (Memᴰ.head refl)) in
       cases (Memᴰ.cases_cons (rw (runs-join x y l f.0 f.1 e f.2) at m))
-      (λ q. rw (q, same_refl (key x), s) (ap (λ (t : List ℕ). x ∷ t) (runs-whole (y ∷ l) o.1 (rw f.2 (Memᴰ.head refl)))))
+      (λ q. subst (λ (z : Run). Whole (x ∷ y ∷ l) z) (sym q) (whole-join x y l f.0 s (runs-whole {r = record { first = y; more = f.0 }} (y ∷ l) o.1 (rw f.2 (Memᴰ.head refl)))))
       (λ i. whole-more x (y ∷ l) r (rw s ((rw f.2 at (runs-rising (y ∷ l) o.1)).0 (cell_of r) (Memᴰ.map cell_of i)))
       (runs-whole (y ∷ l) o.1 (rw f.2 (Memᴰ.tail i)))))
 

@@ -1,9 +1,9 @@
 -- `fee_shares::at_least` meets its contract: what is counted and what is left to be counted is the count of all.
 use mathlib.Core.Path.{◌≡◌}
-use Prim.Native.Nat.{◌+◌, ◌-◌, ◌≤◌}
+use Prim.Native.Nat.{◌+◌}
 use native.Mathlib.Omega.{arith}
 use lib.Dec.{leb}
-use lib.ListN.{length, drop}
+use lib.ListN.{drop}
 use Rattle.fee_shares.specs.Shares.{count}
 use Rattle.lists.proofs.Members.{keep-length}
 use Rattle.fee_shares.proofs.Walking.{count_next, count-done}

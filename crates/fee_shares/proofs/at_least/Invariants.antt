@@ -1,12 +1,8 @@
 use mathlib.Core.Path.{◌≡◌}
 use Prim.Native.Nat.{◌+◌, ◌-◌, ◌≤◌}
-use native.Mathlib.Omega.{arith}
 use lib.Dec.{leb}
 use lib.ListN.{length, drop}
 use Rattle.fee_shares.specs.Shares.{count}
-use Rattle.lists.proofs.Members.{keep-length}
-use Rattle.fee_shares.proofs.Walking.{count_next, count-done}
-use borrow.Author.Rules.{rules}
 use Rattle.fee_shares.proofs.at_least.Given as goal
 
 abbrev pub invariant-loop-i : goal.invariant-loop-i

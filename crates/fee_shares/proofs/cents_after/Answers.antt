@@ -1,7 +1,6 @@
 -- `fee_shares::cents_after` meets its contract, by the tests.
 use native.Mathlib.Omega.{arith}
 use borrow.Author.Tests.{eq-eqb, ne_eqb}
-use borrow.Author.Rules.{rules}
 use Rattle.fee_shares.proofs.cents_after.Goals as goal
 
 pub returns-then-k-gt0 : goal.returns-then-k-gt0

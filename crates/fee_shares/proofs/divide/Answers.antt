@@ -1,9 +1,8 @@
 -- `fee_shares::divide` meets its contract: the shares and remainders before place i are as they should be.
-use mathlib.Core.Path.{◌≡◌, refl, ◌∙◌}
-use mathlib.Core.List.{map}
-use Prim.Native.Nat.{◌-◌, ◌≤◌, ◌<◌}
+use mathlib.Core.Path.{refl, ◌∙◌}
+use Prim.Native.Nat.{◌≤◌, ◌<◌}
 use native.Mathlib.Omega.{arith}
-use lib.ListN.{length, take, length-set}
+use lib.ListN.{length, length-set}
 use Rattle.fee_shares.specs.Shares.{quota, rest}
 use Rattle.fee_shares.proofs.Walking.{weight_low, quotas-low, map_more, map-done}
 use borrow.Author.Rules.{rules}

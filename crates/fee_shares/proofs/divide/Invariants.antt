@@ -1,11 +1,8 @@
-use mathlib.Core.Path.{◌≡◌, refl, ◌∙◌}
+use mathlib.Core.Path.{◌≡◌}
 use mathlib.Core.List.{map}
-use Prim.Native.Nat.{◌-◌, ◌≤◌, ◌<◌}
-use native.Mathlib.Omega.{arith}
-use lib.ListN.{length, take, length-set}
+use Prim.Native.Nat.{◌-◌, ◌≤◌}
+use lib.ListN.{length, take}
 use Rattle.fee_shares.specs.Shares.{quota, rest}
-use Rattle.fee_shares.proofs.Walking.{weight_low, quotas-low, map_more, map-done}
-use borrow.Author.Rules.{rules}
 use Rattle.fee_shares.proofs.divide.Given as goal
 
 abbrev pub invariant-loop-i : goal.invariant-loop-i

@@ -1,11 +1,9 @@
 -- `fee_shares::give` meets its contract: the shares before place i have their cents, and those from it on get what is still to be given.
-use mathlib.Core.Path.{◌≡◌, refl, sym, ◌∙◌, ap}
-use mathlib.Core.List.{◌++◌}
-use Prim.Native.Nat.{◌+◌, ◌-◌, ◌≤◌, ◌<◌}
+use mathlib.Core.Path.{refl, sym, ◌∙◌, ap}
+use Prim.Native.Nat.{◌+◌, ◌<◌}
 use native.Mathlib.Omega.{arith}
-use lib.ListN.{length, get_or, take, drop, length-set}
-use Rattle.fee_shares.specs.Shares.{added}
-use Rattle.fee_shares.specs.Given.{gets, given}
+use lib.ListN.{length, get_or, length-set}
+use Rattle.fee_shares.specs.Given.{gets}
 use Rattle.fee_shares.proofs.Walking.{give-next, give-same, give-done, give-low, cent-low}
 use borrow.Author.Rules.{rules}
 use Rattle.fee_shares.proofs.give.Goals as goal

@@ -1,12 +1,9 @@
-use mathlib.Core.Path.{◌≡◌, refl, sym, ◌∙◌, ap}
+use mathlib.Core.Path.{◌≡◌}
 use mathlib.Core.List.{◌++◌}
-use Prim.Native.Nat.{◌+◌, ◌-◌, ◌≤◌, ◌<◌}
-use native.Mathlib.Omega.{arith}
-use lib.ListN.{length, get_or, take, drop, length-set}
+use Prim.Native.Nat.{◌-◌, ◌≤◌}
+use lib.ListN.{length, take, drop}
 use Rattle.fee_shares.specs.Shares.{added}
-use Rattle.fee_shares.specs.Given.{gets, given}
-use Rattle.fee_shares.proofs.Walking.{give-next, give-same, give-done, give-low, cent-low}
-use borrow.Author.Rules.{rules}
+use Rattle.fee_shares.specs.Given.{given}
 use Rattle.fee_shares.proofs.give.Given as goal
 
 abbrev pub invariant-loop-i : goal.invariant-loop-i

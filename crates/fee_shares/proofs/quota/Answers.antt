@@ -2,7 +2,6 @@
 use mathlib.Core.Path.{refl}
 use native.Mathlib.Omega.{arith}
 use Rattle.fee_shares.proofs.Walking.{product_low, quota-low}
-use borrow.Author.Rules.{rules}
 use Rattle.fee_shares.proofs.quota.Goals as goal
 
 pub overflow_mul-result : goal.overflow_mul-result

@@ -3,7 +3,6 @@ use Prim.Native.Nat.{◌*◌}
 use native.Mathlib.Nat.{mod-lt}
 use native.Mathlib.Omega.{arith}
 use Rattle.fee_shares.proofs.Walking.{product_low}
-use borrow.Author.Rules.{rules}
 use Rattle.fee_shares.proofs.rest.Goals as goal
 
 pub overflow_mul-result : goal.overflow_mul-result

@@ -6,30 +6,29 @@ use Rattle.fee_shares.specs.Shares.{quota, rest}
 use Rattle.fee_shares.proofs.Sharing.{Divided, divided_le, divided_few, divided_low, divided_above, divided_given}
 use borrow.Author.Rules.{rules}
 use Rattle.fee_shares.proofs.share_by.Goals as goal
-use Rattle.fee_shares.proofs.share_by.Goals.{After-slice_known-3-1, After-slice_known-4-1}
+use Rattle.fee_shares.proofs.share_by.Goals.{After-total_of}
 
 divided : (c : goal.After-total_of)
-    → Divided c.args.fee c.args.counts.now c.total_of-total.result c.divide.new.rests.1.1.0 c.divide.new.rests.1.1.1.0 c.total_of.result
+    → Divided c.args.fee c.args.counts.now c.total_of-total.result c.divide.new.shares c.divide.new.rests c.total_of.result
 divided c = record {
   some = c.requires.fee_bound.2;
   all = c.total_of-total.ensures;
   whole = c.divide.ensures.shares_after.0;
   over = c.divide.ensures.shares_after.1;
   cents = c.total_of.ensures;
-
 }
 
 pub overflow_sub-left : goal.overflow_sub-left
 overflow_sub-left c = divided_le (divided c)
 
 pub threshold-v-requires : goal.threshold-v-requires
-threshold-v-requires c = let d = divided (goal.at.threshold-v-requires c).After-slice_known-4-1 in (search rules, divided_few d, divided_low d)
+threshold-v-requires c = let d = divided (goal.at.threshold-v-requires c).After-total_of in (search rules, divided_few d, divided_low d)
 
 pub overflow_add-v : goal.overflow_add-v
 overflow_add-v c = omega (arith, c.threshold-v.ensures.1, c.total_of-total.ensures, c.requires.fee_bound.3)
 
 pub overflow_sub-left-2 : goal.overflow_sub-left-2
-overflow_sub-left-2 c = divided_above (divided (goal.at.overflow_sub-left-2 c).After-slice_known-3-1) c.threshold-v.ensures.0 c.at_least-above.ensures
+overflow_sub-left-2 c = divided_above (divided (goal.at.overflow_sub-left-2 c).After-total_of) c.threshold-v.ensures.0 c.at_least-above.ensures
 
 pub give-requires : goal.give-requires
 give-requires c =
@@ -40,4 +39,4 @@ give-requires c =
     )
 
 pub returns : goal.returns
-returns c = c.give.ensures ∙ divided_given (divided (goal.at.returns c).After-slice_known-3-1) c.threshold-v.ensures.0 c.at_least-above.ensures
+returns c = c.give.ensures ∙ divided_given (divided (goal.at.returns c).After-total_of) c.threshold-v.ensures.0 c.at_least-above.ensures

@@ -1,8 +1,5 @@
 -- `fee_shares::threshold` meets its contract: at least m remainders are at least the lower bound, and at most m the upper one.
-use Prim.Native.Nat.{◌-◌, ◌≤◌, ◌<◌}
 use native.Mathlib.Omega.{arith}
-use lib.Dec.{leb}
-use Rattle.fee_shares.specs.Shares.{count}
 use Rattle.fee_shares.proofs.Counts.{count-all}
 use Rattle.fee_shares.proofs.Given.{threshold_between}
 use borrow.Author.Rules.{rules}

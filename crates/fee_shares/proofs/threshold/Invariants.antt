@@ -1,10 +1,6 @@
 use Prim.Native.Nat.{◌-◌, ◌≤◌, ◌<◌}
-use native.Mathlib.Omega.{arith}
 use lib.Dec.{leb}
 use Rattle.fee_shares.specs.Shares.{count}
-use Rattle.fee_shares.proofs.Counts.{count-all}
-use Rattle.fee_shares.proofs.Given.{threshold_between}
-use borrow.Author.Rules.{rules}
 use Rattle.fee_shares.proofs.threshold.Given as goal
 
 abbrev pub invariant-loop-low : goal.invariant-loop-low

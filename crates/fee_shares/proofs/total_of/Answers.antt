@@ -1,9 +1,5 @@
 -- `fee_shares::total_of` meets its contract: what is added and what is left to be added is the total of all.
-use mathlib.Core.Path.{◌≡◌}
-use Prim.Native.Nat.{◌+◌, ◌-◌, ◌*◌, ◌≤◌}
 use native.Mathlib.Omega.{arith}
-use lib.ListN.{length, drop}
-use Rattle.lists.specs.Lists.{sum}
 use Rattle.fee_shares.proofs.Walking.{sum-next, sum_done}
 use borrow.Author.Rules.{rules}
 use Rattle.fee_shares.proofs.total_of.Goals as goal

@@ -70,13 +70,7 @@ fill_set-requires c =
     let p = c.requires in
     let v = c.loop-k.invariant in
     let h = below (goal.at.fill_set-requires c).Else-all-set in
-    let low = few (goal.at.fill_set-requires c).After-sets_of-all in let the_answer = (
-      (p.n_bound.0, omega arith, omega arith, p.n_bound.3),
-      (
-        (omega (arith, v.0, p.in_bounds.0), omega (arith, v.1, p.in_bounds.1), v.2, v.3, v.4),
-        (p.n_bound.1, c.read_columns.ensures, omega (arith, h, all-sets (goal.at.fill_set-requires c).After-sets_of-all), v.5 c.set_at-set.result, filling_shorter (omega (arith, low)) v.6.filling c.loop-k-test.true c.set_at-set.ensures h),
-      ),
-    ) in record { n_bound = the_answer.0; in_bounds = the_answer.1.0; dims_bound = the_answer.1.1 }
+    let low = few (goal.at.fill_set-requires c).After-sets_of-all in record { n_bound = (p.n_bound.0, omega arith, omega arith, p.n_bound.3); in_bounds = (omega (arith, v.0, p.in_bounds.0), omega (arith, v.1, p.in_bounds.1), v.2, v.3, v.4); dims_bound = (p.n_bound.1, c.read_columns.ensures, omega (arith, h, all-sets (goal.at.fill_set-requires c).After-sets_of-all), v.5 c.set_at-set.result, filling_shorter (omega (arith, low)) v.6.filling c.loop-k-test.true c.set_at-set.ensures h) }
 
 pub loop-k-preserved : goal.loop-k-preserved
 loop-k-preserved c =
@@ -90,13 +84,7 @@ fill_set-requires-2 c =
     let v = c.loop-k.invariant in
     let all = c.sets_of-all.result - 1 in
     let low = few (goal.at.fill_set-requires-2 c).After-sets_of-all in
-    let held = filling_done (omega (arith, low)) v.6.filling c.loop-k-test.false in let the_answer = (
-      (p.n_bound.0, omega arith, omega arith, p.n_bound.3),
-      (
-        (omega (arith, v.0, p.in_bounds.0), omega (arith, v.1, p.in_bounds.1), v.2, v.3, v.4),
-        (p.n_bound.1, c.read_columns.ensures, omega (arith, all-sets (goal.at.fill_set-requires-2 c).After-sets_of-all), v.5 all, λ one. held.all _ (shorter_less all one low)),
-      ),
-    ) in record { n_bound = the_answer.0; in_bounds = the_answer.1.0; dims_bound = the_answer.1.1 }
+    let held = filling_done (omega (arith, low)) v.6.filling c.loop-k-test.false in record { n_bound = (p.n_bound.0, omega arith, omega arith, p.n_bound.3); in_bounds = (omega (arith, v.0, p.in_bounds.0), omega (arith, v.1, p.in_bounds.1), v.2, v.3, v.4); dims_bound = (p.n_bound.1, c.read_columns.ensures, omega (arith, all-sets (goal.at.fill_set-requires-2 c).After-sets_of-all), v.5 all, λ one. held.all _ (shorter_less all one low)) }
 
 pub returns : goal.returns
 returns c =

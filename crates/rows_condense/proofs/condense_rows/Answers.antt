@@ -78,13 +78,7 @@ list_set-cells-requires c =
     let h = c.loop-k-test.true in
     let e = c.set_at-set.ensures in
     let f = below (goal.at.list_set-cells-requires c).Else-all-set in
-    let g = base (goal.at.list_set-cells-requires c).After-sets_of-all in let the_answer = (
-      (p.n_bound.0, p.n_bound.3.valid, p.n_bound.1, c.read_columns.ensures, omega (arith, f, full-lt c.args.dims), filling_shorter (few (goal.at.list_set-cells-requires c).After-sets_of-all) v.8 h e f),
-      (
-        (omega (arith, v.0, p.in_bounds.0), omega (arith, v.1, p.in_bounds.1), v.5, v.6, v.7),
-        ((omega (arith, v.3), v.4, listing_lower g v.9 h e f), (omega (arith, v.2, p.in_bounds.2), v.9.short, listing_fit g v.9 h e f)),
-      ),
-    ) in record { n_bound = the_answer.0; in_bounds = the_answer.1.0; in_bounds_2 = the_answer.1.1.0; n_in_bounds = the_answer.1.1.1 }
+    let g = base (goal.at.list_set-cells-requires c).After-sets_of-all in record { n_bound = (p.n_bound.0, p.n_bound.3.valid, p.n_bound.1, c.read_columns.ensures, omega (arith, f, full-lt c.args.dims), filling_shorter (few (goal.at.list_set-cells-requires c).After-sets_of-all) v.8 h e f); in_bounds = (omega (arith, v.0, p.in_bounds.0), omega (arith, v.1, p.in_bounds.1), v.5, v.6, v.7); in_bounds_2 = (omega (arith, v.3), v.4, listing_lower g v.9 h e f); n_in_bounds = (omega (arith, v.2, p.in_bounds.2), v.9.short, listing_fit g v.9 h e f) }
 
 pub overflow_add-cells : goal.overflow_add-cells
 overflow_add-cells c = omega (arith, listing-few (base (goal.at.overflow_add-cells c).After-sets_of-all) (next c))
@@ -101,7 +95,4 @@ pub returns : goal.returns
 returns c =
     let a = c.args in
     let v = c.loop-k.invariant in
-    let r = listing-done (base (goal.at.returns c).After-sets_of-all) v.9 c.loop-k-test.false in let the_answer = (
-      filling_done (few (goal.at.returns c).After-sets_of-all) v.8 c.loop-k-test.false,
-      ((r.0, v.9.short), ap₂ ◌+◌ (c.blanks.ensures ∙ ap blanks (sym (cut-length a.dims a.n a.rows.now))) r.1 ∙ sym (normals-count (plain a.dims) (cut a.dims a.n a.rows.now))),
-    ) in record { all_hold = the_answer.0; lists_after = the_answer.1.0; value = the_answer.1.1 }
+    let r = listing-done (base (goal.at.returns c).After-sets_of-all) v.9 c.loop-k-test.false in record { all_hold = filling_done (few (goal.at.returns c).After-sets_of-all) v.8 c.loop-k-test.false; lists_after = (r.0, v.9.short); value = ap₂ ◌+◌ (c.blanks.ensures ∙ ap blanks (sym (cut-length a.dims a.n a.rows.now))) r.1 ∙ sym (normals-count (plain a.dims) (cut a.dims a.n a.rows.now)) }

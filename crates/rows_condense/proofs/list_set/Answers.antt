@@ -53,7 +53,7 @@ pub fill_set-left-requires : goal.fill_set-left-requires
 fill_set-left-requires c =
     let p = c.requires in
     let r = c.pass_rows in
-let the_answer = ((p.n_bound.0, omega arith, omega arith, p.n_bound.1), (p.in_bounds, (p.n_bound.2, p.n_bound.3, p.n_bound.4, lower_passing p.in_bounds_2.2 r.new.1.1.0 r.ensures.1 r.ensures.0, p.n_bound.5))) in record { n_bound = the_answer.0; in_bounds = the_answer.1.0; dims_bound = the_answer.1.1 }
+    record { n_bound = (p.n_bound.0, omega arith, omega arith, p.n_bound.1); in_bounds = p.in_bounds; dims_bound = (p.n_bound.2, p.n_bound.3, p.n_bound.4, lower_passing p.in_bounds_2.2 r.new.1.1.0 r.ensures.1 r.ensures.0, p.n_bound.5) }
 
 pub slice_bounds-new-end : goal.slice_bounds-new-end
 slice_bounds-new-end c =
@@ -109,10 +109,4 @@ returns c =
     let w = c.add_rows in
     let m = c.note_lone.ensures in
     let passed = r.new.1.1.0 in
-    let n : (x : ℕ) → has w.new.1.0 x ≡ some (eqb x) (new (goal.at.returns c).After-fill_set-arg-2-1) || has passed x = λ x. w.ensures.1 x ∙ ap (λ (l : List ℕ). some (eqb x) l || has passed x) (new-there (goal.at.returns c).After-fill_set-arg-2-1) in let the_answer = (
-      c.fill_set-left.ensures.filled,
-      (
-        lower_told c.requires.in_bounds_2.2 passed r.ensures.1 w.new.1.0 c.put_words.new.1.1.0 n c.put_words.ensures,
-        ((m.lists_after ∙ ap (λ (l : List ℕ). noted a.set l (lists_of a.n a.lists.now)) (new-there (goal.at.returns c).After-fill_set-arg-2-1), m.short), c.count_groups.ensures ∙ ap ends (filled (goal.at.returns c).After-slot_of-slot)),
-      ),
-    ) in record { filled = the_answer.0; told = the_answer.1.0; lists_after = the_answer.1.1.0; value = the_answer.1.1.1 }
+    let n : (x : ℕ) → has w.new.1.0 x ≡ some (eqb x) (new (goal.at.returns c).After-fill_set-arg-2-1) || has passed x = λ x. w.ensures.1 x ∙ ap (λ (l : List ℕ). some (eqb x) l || has passed x) (new-there (goal.at.returns c).After-fill_set-arg-2-1) in record { filled = c.fill_set-left.ensures.filled; told = lower_told c.requires.in_bounds_2.2 passed r.ensures.1 w.new.1.0 c.put_words.new.1.1.0 n c.put_words.ensures; lists_after = (m.lists_after ∙ ap (λ (l : List ℕ). noted a.set l (lists_of a.n a.lists.now)) (new-there (goal.at.returns c).After-fill_set-arg-2-1), m.short); value = c.count_groups.ensures ∙ ap ends (filled (goal.at.returns c).After-slot_of-slot) }

@@ -7,7 +7,6 @@ use Rattle.rows_crowds.specs.Crowds.{left_out}
 use Rattle.rows_crowds.proofs.Filling.{filled}
 use borrow.Author.Rules.{rules}
 use Rattle.rows_crowds.proofs.fill_first.Goals as goal
-use Rattle.rows_crowds.proofs.fill_first.Goals.{After-first_slot-arg-1, After-first_slot-arg-2-1}
 
 pub slice_bounds-first_slot-end-2 : goal.slice_bounds-first_slot-end-2
 slice_bounds-first_slot-end-2 c = let p = c.requires in sym (length-take-le c.args.n c.args.order.now (omega (arith, p.n_bound.0, p.in_bounds.2)))
@@ -19,7 +18,7 @@ pub first_slot-done-requires : goal.first_slot-done-requires
 first_slot-done-requires c =
     let a = c.args in
     let p = c.requires in
-    record { n_bound = p.n_bound; order_len = (sym (slice-aggregate-first-slot (goal.at.first_slot-done-requires c).After-first_slot-arg-1), sym (slice-aggregate-first-slot-2 (goal.at.first_slot-done-requires c).After-first_slot-arg-2-1), omega (arith, p.n_bound.0, length-take-le 1024 a.store.now (omega (arith, p.in_bounds.0))), omega (arith, p.n_bound.0, p.in_bounds.4)) }
+    record { n_bound = p.n_bound; order_len = (length-take-le c.args.n c.args.order.now (omega (arith, p.n_bound.0, p.in_bounds.2)), length-take-le c.args.n c.args.spare.now (omega (arith, p.n_bound.0, p.in_bounds.3)), omega (arith, p.n_bound.0, length-take-le 1024 a.store.now (omega (arith, p.in_bounds.0))), omega (arith, p.n_bound.0, p.in_bounds.4)) }
 
 pub returns : goal.returns
 unfolding left_out
@@ -27,4 +26,4 @@ returns c =
     let a = c.args in
     let p = c.requires in
     let r = c.first_slot-done in
-    let size : length r.new.1.1.1.1.1.1.0 ≡ 1024 = r.auto.1.1.1.1.1.1.0 ∙ length-take-le 1024 a.store.now (omega (arith, p.in_bounds.0)) in record { filled = filled a.least a.dims a.n a.rows.now a.store.now a.sizes.now r.new.1.1.1.1.1.1.0 0 0 1024 r.result.len p.n_bound.0 (omega arith) p.in_bounds.0 p.in_bounds.1 refl size refl r.ensures.1.1.0 r.ensures.0; lone_after = (r.ensures.1.0, r.ensures.1.1.1) }
+    let size : length r.new.slot ≡ 1024 = r.auto.slot ∙ length-take-le 1024 a.store.now (omega (arith, p.in_bounds.0)) in record { filled = filled a.least a.dims a.n a.rows.now a.store.now a.sizes.now r.new.slot 0 0 1024 r.result.len p.n_bound.0 (omega arith) p.in_bounds.0 p.in_bounds.1 refl size refl r.ensures.len_le_n.0 r.ensures.slot_after; lone_after = (r.ensures.lone_after, r.ensures.len_le_n.1) }

@@ -6,6 +6,7 @@ use Prim.Native.Nat.{ℕ, ◌+◌, ◌-◌, ◌*◌, ◌<◌}
 use native.Mathlib.Omega.{arith}
 use borrow.Rule.Slice.PartMut.{mid_len}
 use lib.ListN.{length, get_or, take, drop}
+use Rattle.std.proofs.Common.{length-append}
 use lib.Seq.{length-take-le, take-append-le, take_all}
 use Rattle.lists.specs.Lists.{◌∈◌}
 use Rattle.rows_bits.specs.Rowsets.{stays}
@@ -17,22 +18,7 @@ use Rattle.rows_crowds.proofs.Column.{turn_small, turn-column}
 use Rattle.rows_crowds.proofs.Filling.{below_all, Next, next-few, next-slot, next-rising, next-names, next_kept, next-left, filled}
 use borrow.Author.Rules.{rules}
 use Rattle.rows_crowds.proofs.fill_next.Goals as goal
-use Rattle.rows_crowds.proofs.fill_next.Goals.{After-column_of-rising, After-marks-1, After-slice_known-1, After-slice_known-3-1, After-slice_known-5-1, After-slice_known-8-1, After-slot_of-old, After-split_groups-arg-1, few}
-
--- the set is one of 256
-low : (c : goal.After-slice_known-5-1) → c.args.set < 256
-low c = below_all c.args.dims c.requires.dims_bound.0 c.requires.dims_bound.3
-
--- its last dimension
-last : (c : goal.After-slice_known-5-1) → place c.args.set < c.args.dims
-last c = let p = c.requires.dims_bound in shorter-place c.args.set p.2 (low c) c.args.dims p.3
-
--- the set without it
-less : (c : goal.After-sets_of) → c.args.set - c.sets_of.result ≡ shorter c.args.set
-less c = ap (λ (z : ℕ). c.args.set - z) c.sets_of.ensures
-
-held : (c : goal.After-sets_of) → let a = c.args in Holds a.least a.dims a.n a.rows.now a.store.now a.sizes.now (a.set - c.sets_of.result)
-held c = let a = c.args in subst (Holds a.least a.dims a.n a.rows.now a.store.now a.sizes.now) (sym (less c)) c.requires.dims_bound.5
+use Rattle.rows_crowds.proofs.fill_next.Goals.{After-column_of-rising}
 
 -- what is split, and by what
 next : (c : goal.After-column_of-rising) → let a = c.args in
@@ -47,7 +33,7 @@ next c =
         few = p.n_bound.0;
         valid = p.n_bound.3;
         one = p.dims_bound.2;
-        small = low (PLACE c After-slice_known-3-1);
+        small = below_all c.args.dims p.dims_bound.0 p.dims_bound.3;
         within = p.dims_bound.3;
         told = p.dims_bound.1;
         is_column = c.column_of-column.ensures;
@@ -55,7 +41,7 @@ next c =
         passing = p.dims_bound.4;
       };
       held = p.dims_bound.5;
-      is-old = c.slot_of-old.ensures ∙ ap (λ (u : ℕ). part u (get_or a.sizes.now u 0) a.store.now) (less (PLACE c After-slice_known-4-1));
+      is-old = c.slot_of-old.ensures ∙ ap (λ (u : ℕ). part u (get_or a.sizes.now u 0) a.store.now) (ap (λ (z : ℕ). c.args.set - z) c.sets_of.ensures);
     }
 
 -- the marks are in front of what is lent
@@ -66,22 +52,22 @@ marked : (p : ℕ → Bool) (column old l m : List ℕ) (k : ℕ) → length l �
 marked p column old l m k e h y i = ap (λ (z : List ℕ). get_or z y 0) (front l m k e) ∙ h y i
 
 pub overflow_sub-d : goal.overflow_sub-d
-overflow_sub-d c = shorter_zeros c.args.set c.requires.dims_bound.2 (low c)
+overflow_sub-d c = shorter_zeros c.args.set c.requires.dims_bound.2 (below_all c.args.dims c.requires.dims_bound.0 c.requires.dims_bound.3)
 
 pub sets_of-requires : goal.sets_of-requires
-sets_of-requires c = omega (arith, last c, c.requires.dims_bound.0)
+sets_of-requires c = omega (arith, (shorter-place c.args.set c.requires.dims_bound.2 (below_all c.args.dims c.requires.dims_bound.0 c.requires.dims_bound.3) c.args.dims c.requires.dims_bound.3), c.requires.dims_bound.0)
 
 pub overflow_sub-shorter : goal.overflow_sub-shorter
-overflow_sub-shorter c = omega (arith, c.sets_of.ensures, shorter_power c.args.set c.requires.dims_bound.2 (low (goal.at.overflow_sub-shorter c).After-slice_known-5-1))
+overflow_sub-shorter c = omega (arith, c.sets_of.ensures, shorter_power c.args.set c.requires.dims_bound.2 (below_all c.args.dims c.requires.dims_bound.0 c.requires.dims_bound.3))
 
 pub slot_of-old-requires : goal.slot_of-old-requires
-slot_of-old-requires c = let p = c.requires in (p.in_bounds.0, p.in_bounds.1, omega (arith, low (goal.at.slot_of-old-requires c).After-slice_known-3-1), omega (arith, (held (goal.at.slot_of-old-requires c).After-slice_known-4-1).few, p.n_bound.0))
+slot_of-old-requires c = let p = c.requires in (p.in_bounds.0, p.in_bounds.1, omega (arith, (below_all c.args.dims c.requires.dims_bound.0 c.requires.dims_bound.3)), omega (arith, (let a = c.args in subst (Holds a.least a.dims a.n a.rows.now a.store.now a.sizes.now) (sym (ap (λ (z : ℕ). c.args.set - z) c.sets_of.ensures)) p.dims_bound.5).few, p.n_bound.0))
 
 pub column_of-column-requires : goal.column_of-column-requires
-column_of-column-requires c = let p = c.requires in (p.dims_bound.1.room, omega (arith, last (goal.at.column_of-column-requires c).After-slice_known-3-1, p.dims_bound.0), p.n_bound.0)
+column_of-column-requires c = let p = c.requires in (p.dims_bound.1.room, omega (arith, (shorter-place c.args.set c.requires.dims_bound.2 (below_all c.args.dims c.requires.dims_bound.0 c.requires.dims_bound.3) c.args.dims c.requires.dims_bound.3), p.dims_bound.0), p.n_bound.0)
 
 pub column_of-rising-requires : goal.column_of-rising-requires
-column_of-rising-requires c = let p = c.requires in (p.dims_bound.1.room, omega (arith, last (goal.at.column_of-rising-requires c).After-slice_known-3-1, p.dims_bound.0), p.n_bound.0)
+column_of-rising-requires c = let p = c.requires in (p.dims_bound.1.room, omega (arith, (shorter-place c.args.set c.requires.dims_bound.2 (below_all c.args.dims c.requires.dims_bound.0 c.requires.dims_bound.3) c.args.dims c.requires.dims_bound.3), p.dims_bound.0), p.n_bound.0)
 
 pub slice_bounds-split_groups-end-2 : goal.slice_bounds-split_groups-end-2
 slice_bounds-split_groups-end-2 c = let p = c.requires in sym (length-take-le c.args.n _ (omega (arith, p.n_bound.0, p.in_bounds.3)))
@@ -89,53 +75,50 @@ slice_bounds-split_groups-end-2 c = let p = c.requires in sym (length-take-le c.
 pub split_groups-staying-requires : goal.split_groups-staying-requires
 split_groups-staying-requires c =
     let p = c.requires in
-    let x = next (goal.at.split_groups-staying-requires c).After-column_of-rising in record { column_len_bound = (omega (arith, turn-column x.turn, p.n_bound.0), next-slot x, p.dims_bound.4.room, turn_small x.turn, next-rising x); order_len = (p.in_bounds.2, sym (slice-aggregate-split-groups c) ∙ sym (turn-column x.turn), p.in_bounds.4) }
+    let x = next (goal.at.split_groups-staying-requires c).After-column_of-rising in record { column_len_bound = (omega (arith, turn-column x.turn, p.n_bound.0), next-slot x, p.dims_bound.4.room, turn_small x.turn, next-rising x); order_len = (p.in_bounds.2, length-take-le c.args.n c.args.marks.now (omega (arith, p.n_bound.0, p.in_bounds.3)) ∙ sym (turn-column x.turn), p.in_bounds.4) }
 
 pub overflow_mul-from : goal.overflow_mul-from
-overflow_mul-from c = omega (arith, low (goal.at.overflow_mul-from c).After-slice_known-3-1)
+overflow_mul-from c = omega (arith, (below_all c.args.dims c.requires.dims_bound.0 c.requires.dims_bound.3))
 
 pub overflow_add-to : goal.overflow_add-to
-overflow_add-to c = omega (arith, low (goal.at.overflow_add-to c).After-slice_known-3-1)
+overflow_add-to c = omega (arith, (below_all c.args.dims c.requires.dims_bound.0 c.requires.dims_bound.3))
 
 pub slice_bounds-pack_groups-end : goal.slice_bounds-pack_groups-end
 slice_bounds-pack_groups-end c =
     let p = c.requires in
     let r = c.split_groups-staying in
-    omega (arith, r.ensures.0.1, next-few (next (goal.at.slice_bounds-pack_groups-end c).After-column_of-rising), p.n_bound.0, r.auto.1.1.1.1.1.0, p.in_bounds.2)
-
-pub slice_bounds-pack_groups-end-2 : goal.slice_bounds-pack_groups-end-2
-slice_bounds-pack_groups-end-2 c = sym (length-take-le c.split_groups-staying.result _ (slice-reshare-prefix-pack-groups (goal.at.slice_bounds-pack_groups-end-2 c).After-marks-1))
-
-pub slice_bounds-pack_groups-end-3 : goal.slice_bounds-pack_groups-end-3
-slice_bounds-pack_groups-end-3 c = let p = c.requires in omega (arith, c.marks-1.given.1, p.in_bounds.3, p.n_bound.0)
-
-pub slice_bounds-pack_groups-end-4 : goal.slice_bounds-pack_groups-end-4
-slice_bounds-pack_groups-end-4 c = sym (length-take-le c.args.n _ (slice-reshare-prefix-pack-groups-2 (goal.at.slice_bounds-pack_groups-end-4 c).After-marks-1))
+    omega (arith, r.ensures.order_after.1, next-few (next (goal.at.slice_bounds-pack_groups-end c).After-column_of-rising), p.n_bound.0, r.auto.order, p.in_bounds.2)
 
 pub offset_bounds-store-from : goal.offset_bounds-store-from
-offset_bounds-store-from c = omega (arith, low (goal.at.offset_bounds-store-from c).After-slice_known-1)
+offset_bounds-store-from c = omega (arith, below_all c.args.dims c.requires.dims_bound.0 c.requires.dims_bound.3)
 
 pub slice_bounds-pack_groups-end-5 : goal.slice_bounds-pack_groups-end-5
-slice_bounds-pack_groups-end-5 c = omega (arith, low (goal.at.slice_bounds-pack_groups-end-5 c).After-slice_known-1, c.requires.in_bounds.0)
+slice_bounds-pack_groups-end-5 c = omega (arith, below_all c.args.dims c.requires.dims_bound.0 c.requires.dims_bound.3, c.requires.in_bounds.0)
 
 pub pack_groups-done-requires : goal.pack_groups-done-requires
 pack_groups-done-requires c =
     let a = c.args in
     let p = c.requires in
     let r = c.split_groups-staying in
-    let x = next (goal.at.pack_groups-done-requires c).After-slot_of-old in
-    let names = next-names x (take r.result r.new.1.1.1.1.1.0) r.new.1.1.1.1.1.1.0 r.ensures.0.0 r.ensures.1 in
-    let n = slice-aggregate-pack-groups (goal.at.pack_groups-done-requires c).After-marks-1 in
-    let few = next-few x in record { names = (λ i l. omega (arith, names i l, slice-aggregate-pack-groups-2 (goal.at.pack_groups-done-requires c).After-slice_known-8-1), λ i l. omega (arith, names i l, p.n_bound.0), omega (arith, n, r.ensures.0.1, few, p.n_bound.0)); order_in_bounds = (
-        omega (arith, n, r.ensures.0.1, few, p.n_bound.0, mid_len (a.set * 1024) (a.set * 1024 + 1024) a.store.now (part-pack-groups-end (goal.at.pack_groups-done-requires c).After-slice_known-8-1)),
-        omega (arith, n, r.ensures.0.1, few, p.n_bound.0, r.auto.1.1.1.1.0, p.in_bounds.4),
-      ) }
+    let x = next (goal.at.pack_groups-done-requires c).After-column_of-rising in
+    let few = next-few x in
+    let wide : length r.new.marks ≡ a.n = r.auto.marks ∙ length-take-le a.n a.marks.now (omega (arith, p.n_bound.0, p.in_bounds.3)) in
+    let long : length (take a.n (r.new.marks ++ drop a.n a.marks.now)) ≡ a.n = length-take-le a.n _ (omega (arith, length-append r.new.marks (drop a.n a.marks.now), wide)) in
+    let n : length (take r.result r.new.order) ≡ r.result = length-take-le r.result r.new.order (omega (arith, r.ensures.order_after.1, few, p.n_bound.0, r.auto.order, p.in_bounds.2)) in
+    let names = next-names x (take r.result r.new.order) r.new.marks r.ensures.order_after.0 r.ensures.by_index in
+    record {
+      names = (λ i l. omega (arith, names i l, long), λ i l. omega (arith, names i l, p.n_bound.0), omega (arith, n, r.ensures.order_after.1, few, p.n_bound.0));
+      order_in_bounds = (
+        omega (arith, n, r.ensures.order_after.1, few, p.n_bound.0, mid_len (a.set * 1024) (a.set * 1024 + 1024) a.store.now (omega (arith, (below_all c.args.dims c.requires.dims_bound.0 c.requires.dims_bound.3), p.in_bounds.0))),
+        omega (arith, n, r.ensures.order_after.1, few, p.n_bound.0, r.auto.next, p.in_bounds.4),
+      );
+    }
 
 pub offset_bounds-sizes-at : goal.offset_bounds-sizes-at
-offset_bounds-sizes-at c = omega (arith, low (goal.at.offset_bounds-sizes-at c).After-slice_known-1)
+offset_bounds-sizes-at c = omega (arith, below_all c.args.dims c.requires.dims_bound.0 c.requires.dims_bound.3)
 
 pub bounds-sizes-at : goal.bounds-sizes-at
-bounds-sizes-at c = omega (arith, low (goal.at.bounds-sizes-at c).After-slice_known-1, c.requires.in_bounds.1)
+bounds-sizes-at c = omega (arith, below_all c.args.dims c.requires.dims_bound.0 c.requires.dims_bound.3, c.requires.in_bounds.1)
 
 pub returns : goal.returns
 returns c =
@@ -143,14 +126,18 @@ returns c =
     let p = c.requires in
     let s = c.split_groups-staying in
     let r = c.pack_groups-done in
-    let x = next (goal.at.returns c).After-slot_of-old in
+    let x = next (goal.at.returns c).After-column_of-rising in
     let few = next-few x in
-    let n = slice-aggregate-pack-groups (goal.at.returns c).After-marks-1 in
-    let wide : length s.new.1.1.1.1.1.1.0 ≡ a.n = s.auto.1.1.1.1.1.1.0 ∙ sym (slice-aggregate-split-groups (goal.at.returns c).After-split_groups-arg-1) in
+    let n : length (take s.result s.new.order) ≡ s.result = length-take-le s.result s.new.order (omega (arith, s.ensures.order_after.1, few, p.n_bound.0, s.auto.order, p.in_bounds.2)) in
+    let wide : length s.new.marks ≡ a.n = s.auto.marks ∙ length-take-le a.n a.marks.now (omega (arith, p.n_bound.0, p.in_bounds.3)) in
     let rest = drop a.n a.marks.now in
-    let h = marked (stays a.passed.now) c.column_of-column.result.now c.slot_of-old.result.now s.new.1.1.1.1.1.1.0 rest a.n wide s.ensures.1 in
-    let order = take s.result s.new.1.1.1.1.1.0 in
-    let marks = take a.n (s.new.1.1.1.1.1.1.0 ++ rest) in
+    let h = marked (stays a.passed.now) c.column_of-column.result.now c.slot_of-old.result.now s.new.marks rest a.n wide s.ensures.by_index in
+    let order = take s.result s.new.order in
+    let marks = take a.n (s.new.marks ++ rest) in
     let w : a.set * 1024 + 1024 - a.set * 1024 ≡ 1024 = omega arith in
-    let len : length r.new.1.1.1.0 ≡ a.set * 1024 + 1024 - a.set * 1024 = r.auto.1.1.1.0 ∙ mid_len (a.set * 1024) (a.set * 1024 + 1024) a.store.now (part-pack-groups-end (goal.at.returns c).After-slice_known-8-1) in record { filled = filled a.least a.dims a.n a.rows.now a.store.now a.sizes.now r.new.1.1.1.0 a.set (a.set * 1024) (a.set * 1024 + 1024 - a.set * 1024) r.result.len p.n_bound.0 (low (goal.at.returns c).After-slice_known-1) p.in_bounds.0 p.in_bounds.1 refl len w
-          (omega (arith, r.ensures.1.1.0, n, s.ensures.0.1, few)) (r.ensures.0 ∙ next_kept x order marks s.ensures.0.0 h); lone_after = (r.ensures.1.0 ∙ next-left x order marks s.ensures.0.0 h, omega (arith, r.ensures.1.1.1, n, s.ensures.0.1, few)) }
+    let len : length r.new.slot ≡ a.set * 1024 + 1024 - a.set * 1024 = r.auto.slot ∙ mid_len (a.set * 1024) (a.set * 1024 + 1024) a.store.now (omega (arith, (below_all c.args.dims c.requires.dims_bound.0 c.requires.dims_bound.3), p.in_bounds.0)) in
+    record {
+      filled = filled a.least a.dims a.n a.rows.now a.store.now a.sizes.now r.new.slot a.set (a.set * 1024) (a.set * 1024 + 1024 - a.set * 1024) r.result.len p.n_bound.0 (below_all c.args.dims c.requires.dims_bound.0 c.requires.dims_bound.3) p.in_bounds.0 p.in_bounds.1 refl len w
+          (omega (arith, r.ensures.len_in_bounds.0, n, s.ensures.order_after.1, few)) (r.ensures.slot_after ∙ next_kept x order marks s.ensures.order_after.0 h);
+      lone_after = (r.ensures.lone_after ∙ next-left x order marks s.ensures.order_after.0 h, omega (arith, r.ensures.len_in_bounds.1, n, s.ensures.order_after.1, few));
+    }

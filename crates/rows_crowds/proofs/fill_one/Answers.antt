@@ -12,15 +12,7 @@ use Rattle.rows_crowds.proofs.Column.{Turn, turn-column, turn-rising, one-names,
 use Rattle.rows_crowds.proofs.Filling.{below_all, filled}
 use borrow.Author.Rules.{rules}
 use Rattle.rows_crowds.proofs.fill_one.Goals as goal
-use Rattle.rows_crowds.proofs.fill_one.Goals.{After-column_of-order, After-slice_known-3-1}
-
--- the set is one of 256
-low : (c : goal.After-slice_known-3-1) → c.args.set < 256
-low c = below_all c.args.dims c.requires.dims_bound.0 c.requires.dims_bound.3
-
--- its dimension
-last : (c : goal.After-slice_known-3-1) → place c.args.set < c.args.dims
-last c = let p = c.requires.dims_bound in shorter-place c.args.set p.2 (low c) c.args.dims p.3
+use Rattle.rows_crowds.proofs.fill_one.Goals.{After-column_of-order}
 
 -- its column, and the rows in order
 turn : (c : goal.After-column_of-order) → let a = c.args in Turn a.least a.dims a.n a.rows.now a.columns.now c.column_of-by.result.now c.column_of-order.result.now a.passed.now a.set
@@ -32,7 +24,7 @@ turn c =
       few = p.n_bound.0;
       valid = p.n_bound.3;
       one = p.dims_bound.2;
-      small = low (PLACE c After-slice_known-3-1);
+      small = below_all c.args.dims p.dims_bound.0 p.dims_bound.3;
       within = p.dims_bound.3;
       told = p.dims_bound.1;
       is_column = c.column_of-by.ensures;
@@ -45,16 +37,16 @@ long : (c : goal.After-column_of-order) → length c.column_of-order.result.now 
 long c = let x = turn c in ap length (turn-rising x) ∙ arranged-length (code_in c.column_of-by.result.now) c.args.n
 
 pub overflow_sub-d : goal.overflow_sub-d
-overflow_sub-d c = shorter_zeros c.args.set c.requires.dims_bound.2 (low c)
+overflow_sub-d c = shorter_zeros c.args.set c.requires.dims_bound.2 (below_all c.args.dims c.requires.dims_bound.0 c.requires.dims_bound.3)
 
 pub column_of-by-requires : goal.column_of-by-requires
-column_of-by-requires c = let p = c.requires in (p.dims_bound.1.room, omega (arith, last c, p.dims_bound.0), p.n_bound.0)
+column_of-by-requires c = let p = c.requires in (p.dims_bound.1.room, omega (arith, (shorter-place c.args.set c.requires.dims_bound.2 (below_all c.args.dims c.requires.dims_bound.0 c.requires.dims_bound.3) c.args.dims c.requires.dims_bound.3), p.dims_bound.0), p.n_bound.0)
 
 pub column_of-order-requires : goal.column_of-order-requires
-column_of-order-requires c = let p = c.requires in (p.dims_bound.1.room, omega (arith, last (goal.at.column_of-order-requires c).After-slice_known-3-1, p.dims_bound.0), p.n_bound.0)
+column_of-order-requires c = let p = c.requires in (p.dims_bound.1.room, omega (arith, (shorter-place c.args.set c.requires.dims_bound.2 (below_all c.args.dims c.requires.dims_bound.0 c.requires.dims_bound.3) c.args.dims c.requires.dims_bound.3), p.dims_bound.0), p.n_bound.0)
 
 pub slice_bounds-pack_groups-end : goal.slice_bounds-pack_groups-end
-slice_bounds-pack_groups-end c = omega (arith, low (goal.at.slice_bounds-pack_groups-end c).After-slice_known-3-1, c.requires.in_bounds.0)
+slice_bounds-pack_groups-end c = omega (arith, (below_all c.args.dims c.requires.dims_bound.0 c.requires.dims_bound.3), c.requires.in_bounds.0)
 
 pub pack_groups-done-requires : goal.pack_groups-done-requires
 pack_groups-done-requires c =
@@ -62,10 +54,10 @@ pack_groups-done-requires c =
     let p = c.requires in
     let x = turn (goal.at.pack_groups-done-requires c).After-column_of-order in
     let n = long (goal.at.pack_groups-done-requires c).After-column_of-order in
-    let names = one-names x p.dims_bound.5 p.dims_bound.6 in record { names = (λ i l. omega (arith, names i l, turn-column x), λ i l. omega (arith, names i l, p.n_bound.0), omega (arith, n, p.n_bound.0)); order_in_bounds = (omega (arith, n, p.n_bound.0, mid_len (a.set * 1024) (a.set * 1024 + 1024) a.store.now (part-pack-groups-end (goal.at.pack_groups-done-requires c).After-column_of-order)), omega (arith, n, p.n_bound.0, p.in_bounds.2)) }
+    let names = one-names x p.dims_bound.5 p.dims_bound.6 in record { names = (λ i l. omega (arith, names i l, turn-column x), λ i l. omega (arith, names i l, p.n_bound.0), omega (arith, n, p.n_bound.0)); order_in_bounds = (omega (arith, n, p.n_bound.0, mid_len (a.set * 1024) (a.set * 1024 + 1024) a.store.now (omega (arith, (below_all c.args.dims c.requires.dims_bound.0 c.requires.dims_bound.3), p.in_bounds.0))), omega (arith, n, p.n_bound.0, p.in_bounds.2)) }
 
 pub bounds-sizes-set : goal.bounds-sizes-set
-bounds-sizes-set c = omega (arith, low (goal.at.bounds-sizes-set c).After-slice_known-3-1, c.requires.in_bounds.1)
+bounds-sizes-set c = omega (arith, (below_all c.args.dims c.requires.dims_bound.0 c.requires.dims_bound.3), c.requires.in_bounds.1)
 
 pub returns : goal.returns
 returns c =
@@ -75,5 +67,8 @@ returns c =
     let x = turn (goal.at.returns c).After-column_of-order in
     let n = long (goal.at.returns c).After-column_of-order in
     let w : a.set * 1024 + 1024 - a.set * 1024 ≡ 1024 = omega arith in
-    let len : length r.new.1.1.1.0 ≡ a.set * 1024 + 1024 - a.set * 1024 = r.auto.1.1.1.0 ∙ mid_len (a.set * 1024) (a.set * 1024 + 1024) a.store.now (part-pack-groups-end (goal.at.returns c).After-column_of-order) in record { filled = filled a.least a.dims a.n a.rows.now a.store.now a.sizes.now r.new.1.1.1.0 a.set (a.set * 1024) (a.set * 1024 + 1024 - a.set * 1024) r.result.len p.n_bound.0 (low (goal.at.returns c).After-slice_known-3-1) p.in_bounds.0 p.in_bounds.1 refl len w
-          (omega (arith, r.ensures.1.1.0, n)) (r.ensures.0 ∙ one_kept x p.dims_bound.5 p.dims_bound.6); lone_after = (r.ensures.1.0 ∙ one_left x p.dims_bound.5 p.dims_bound.6, omega (arith, r.ensures.1.1.1, n)) }
+    let len : length r.new.slot ≡ a.set * 1024 + 1024 - a.set * 1024 = r.auto.slot ∙ mid_len (a.set * 1024) (a.set * 1024 + 1024) a.store.now (omega (arith, (below_all c.args.dims c.requires.dims_bound.0 c.requires.dims_bound.3), p.in_bounds.0)) in record {
+      filled = filled a.least a.dims a.n a.rows.now a.store.now a.sizes.now r.new.slot a.set (a.set * 1024) (a.set * 1024 + 1024 - a.set * 1024) r.result.len p.n_bound.0 (below_all c.args.dims c.requires.dims_bound.0 c.requires.dims_bound.3) p.in_bounds.0 p.in_bounds.1 refl len w
+          (omega (arith, r.ensures.len_in_bounds.0, n)) (r.ensures.slot_after ∙ one_kept x p.dims_bound.5 p.dims_bound.6);
+      lone_after = (r.ensures.lone_after ∙ one_left x p.dims_bound.5 p.dims_bound.6, omega (arith, r.ensures.len_in_bounds.1, n));
+    }

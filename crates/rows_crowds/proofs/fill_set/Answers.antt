@@ -13,15 +13,15 @@ returns-then-set-eq0 c =
     let e = c.if-set-eq0.true in
     let r = c.fill_first.ensures in
     let all = c.requires.dims_bound.3.first e in
-let the_answer = rw e (r.filled, (r.lone_after.0 ∙ sym (keep_all (stays a.passed.now) _ (λ x m. all x)), r.lone_after.1)) in record { filled = the_answer.0; lone_after = the_answer.1 }
+    record { filled = rw e r.filled; lone_after = rw e (r.lone_after.0 ∙ sym (keep_all (stays a.passed.now) _ (λ x m. all x)), r.lone_after.1) }
 
 pub fill_one-requires : goal.fill_one-requires
 fill_one-requires c =
     let p = c.requires in
-let the_answer = (p.n_bound, ((p.in_bounds.0, p.in_bounds.1, p.in_bounds.4), (p.dims_bound.0, p.dims_bound.1, omega (arith, c.if-set-eq0.false), p.dims_bound.2, p.dims_bound.3, sym c.size_of_set.ensures ∙ c.if-size_of_set-eq1.true, c.if-n-ne1.true))) in record { n_bound = the_answer.0; in_bounds = the_answer.1.0; dims_bound = the_answer.1.1 }
+    record { n_bound = p.n_bound; in_bounds = (p.in_bounds.0, p.in_bounds.1, p.in_bounds.4); dims_bound = (p.dims_bound.0, p.dims_bound.1, omega (arith, c.if-set-eq0.false), p.dims_bound.2, p.dims_bound.3, sym c.size_of_set.ensures ∙ c.if-size_of_set-eq1.true, c.if-n-ne1.true) }
 
 pub fill_next-requires : goal.fill_next-requires
 fill_next-requires c =
     let p = c.requires in
     let one : 1 ≤ c.args.set = omega (arith, c.if-set-eq0.false) in
-let the_answer = (p.n_bound, (p.in_bounds, (p.dims_bound.0, p.dims_bound.1, one, p.dims_bound.2, p.dims_bound.3, p.dims_bound.4 one))) in record { n_bound = the_answer.0; in_bounds = the_answer.1.0; dims_bound = the_answer.1.1 }
+    record { n_bound = p.n_bound; in_bounds = p.in_bounds; dims_bound = (p.dims_bound.0, p.dims_bound.1, one, p.dims_bound.2, p.dims_bound.3, p.dims_bound.4 one) }

@@ -36,14 +36,12 @@ row_of-mine-requires c = (c.requires.dims_value.0, indexed_below c.order_rows.en
 
 pub total_run-total-requires : goal.total_run-total-requires
 total_run-total-requires c =
-    let s = c.before.before.before.before.before.before.before.before.before.before.before.before.before.before in
     let x = c.order_rows.ensures in
-    (s.requires.0.0, indexed_summed x s.requires.1.1.1 _ _ (omega (arith, c.run_end-end.ensures.within, x.places)))
+    (c.requires.dims_value.0, indexed_summed x c.requires.table.1 _ _ (omega (arith, c.run_end-end.ensures.within, x.places)))
 
 pub put_row-requires : goal.put_row-requires
 put_row-requires c =
-    let s = c.before.before.before.before.before.before.before.before.before.before.before.before.before.before.before.before in
-    rw c.row_of-mine.ensures.1 (le_trans (row_within (width s.args.dims) s.args.n _ (search rules)) (search rules))
+    rw c.row_of-mine.ensures.1 (le_trans (row_within (width c.args.dims) c.args.n _ (search rules)) (search rules))
 
 pub loop-from-preserved : goal.loop-from-preserved
 unfolding key

@@ -11,7 +11,7 @@ use Rattle.fields.specs.Words.{words_at}
 use Rattle.fields.specs.WordsLaws.{length_words_at}
 use Rattle.table.proofs.Accepted.{read}
 use Rattle.table_rows.proofs.fill_row.Goals as goal
-use Rattle.table_rows.proofs.fill_row.Goals.{After-read_words, Start}
+use Rattle.table_rows.proofs.fill_row.Goals.{Start}
 
 front : (c : goal.Start) → length (take c.args.dims c.args.row.now) ≡ c.args.dims
 front c = length-take-le c.args.dims c.args.row.now (omega (arith, c.requires.0))
@@ -26,6 +26,6 @@ pub returns : goal.returns
 returns c =
     let a = c.args in
     let codes = c.read_words.ensures ∙ ap (λ (n : ℕ). words_at a.s.now n a.at) (front (goal.at.returns c).Start) in
-    let sum = to_z-of_z {(goal.at.returns c).After-read_words = w64} (sfits_of c.reading_at-sum.type_inv) ∙ c.reading_at-sum.ensures in
+    let sum = to_z-of_z {w = w64} (sfits_of c.reading_at-sum.type_inv) ∙ c.reading_at-sum.ensures in
     c.put_total.ensures
-    ∙ ap₂ read (take_at c.read_words.new.1.1.0 _ a.dims (ap length codes ∙ length_words_at a.s.now a.dims a.at) ∙ codes) sum
+    ∙ ap₂ read (take_at c.read_words.new.out _ a.dims (ap length codes ∙ length_words_at a.s.now a.dims a.at) ∙ codes) sum

@@ -21,10 +21,12 @@ pub group_rows-requires : goal.group_rows-requires
 group_rows-requires c =
     let p = c.requires in
     let r = c.store_rows in
-    let few : width c.args.dims ≤ 11 = omega (arith, p.dims_value.3) in let the_answer = (
-      (omega (arith, p.dims_value.0, r.auto.1.1.1.1.0), p.dims_value.1, p.dims_value.2),
-      (omega (arith, mul-le-mul p.dims_value.2 few, p.dims_in_bounds.1), rw r.ensures p.table),
-    ) in record { dims_value = the_answer.0; dims_in_bounds = the_answer.1.0; table = the_answer.1.1 }
+    let few : width c.args.dims ≤ 11 = omega (arith, p.dims_value.3) in
+    record {
+      dims_value = (omega (arith, p.dims_value.0, r.auto.rows), p.dims_value.1, p.dims_value.2);
+      dims_in_bounds = omega (arith, mul-le-mul p.dims_value.2 few, p.dims_in_bounds.1);
+      table = rw r.ensures p.table;
+    }
 
 pub returns : goal.returns
 unfolding folded

@@ -6,7 +6,7 @@ use borrow.Author.Rules.{rules}
 use Rattle.rows.proofs.Rows.{rows_small}
 use Rattle.rows.specs.Rows.{width}
 use Rattle.table_rows.proofs.fold_table.Goals as goal
-use Rattle.table_rows.proofs.fold_table.Goals.{After-index-1, After-own-1, Start}
+use Rattle.table_rows.proofs.fold_table.Goals.{Start}
 
 -- the words of all rows
 words-few : (c : goal.Start) → c.args.n * width c.args.d ≤ 11264
@@ -23,7 +23,10 @@ slice_bounds-fold_rows-end-2 c = sym (length-take-le c.args.n _ c.requires.0.few
 
 pub fold_rows-requires : goal.fold_rows-requires
 fold_rows-requires c =
-    let p = c.requires in let the_answer = (
-      (slice-aggregate-fold-rows (goal.at.fold_rows-requires c).After-own-1, sym (slice-aggregate-fold-rows-2 (goal.at.fold_rows-requires c).After-index-1), p.0.few, p.0.dims),
-      ((p.0.inside, p.1), (p.0.table, p.0.summable)),
-    ) in record { dims_value = the_answer.0; dims_in_bounds = the_answer.1.0; table = the_answer.1.1 }
+    let p = c.requires in
+    let w = words-few (goal.at.fold_rows-requires c).Start in
+    record {
+      dims_value = (sym (length-take-le (c.args.n * width c.args.d) _ w), length-take-le c.args.n _ p.0.few, p.0.few, p.0.dims);
+      dims_in_bounds = (p.0.inside, p.1);
+      table = (p.0.table, p.0.summable);
+    }

@@ -36,7 +36,7 @@ pub loop-i-preserved : goal.loop-i-preserved
 loop-i-preserved c =
     let r = c.store_row in
     let l = c.loop-i.invariant in
-    (r.auto.1.1.1.1.0 ∙ l.0, turn_on _ _ _ _ _ l.1 _ c.loop-i-test.true r.ensures)
+    (r.auto.rows ∙ l.0, turn_on _ _ _ _ _ l.1 _ c.loop-i-test.true r.ensures)
 
 pub returns : goal.returns
 returns c = turn-done _ _ _ _ _ c.loop-i.invariant.1 c.loop-i-test.false
