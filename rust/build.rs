@@ -8,7 +8,7 @@ fn main() {
     let library = folder.join("libcube_archive.a");
     println!("cargo:rerun-if-changed={}", library.display());
     let folder = folder.canonicalize().unwrap_or_else(|e| panic!("no folder {}: {e}; set CUBE_LIB", folder.display()));
-    assert!(library.is_file(), "no file {}: run 'rt staticlib cube_archive', or set CUBE_LIB", library.display());
+    assert!(library.is_file(), "no file {}: run ./build, or set CUBE_LIB", library.display());
     println!("cargo:rustc-link-search=native={}", folder.display());
     println!("cargo:rustc-link-lib=static=cube_archive");
 }

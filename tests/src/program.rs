@@ -52,7 +52,7 @@ impl Program {
             Program::Lister => "lister",
             Program::SmallTables => "small_tables",
         });
-        assert!(path.is_file(), "no file {}: run 'rt check builder lister small_tables', or set CUBE_BIN", path.display());
+        assert!(path.is_file(), "no file {}: run ./build, or set CUBE_BIN", path.display());
         path
     }
 }

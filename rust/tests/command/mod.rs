@@ -19,7 +19,7 @@ pub fn folder(name: &str) -> Folder {
 /// The folder of the proved programs: the one that CUBE_BIN names, or ../target/bin.
 pub fn programs() -> PathBuf {
     let folder = std::env::var_os("CUBE_BIN").map(PathBuf::from).unwrap_or_else(|| PathBuf::from("../target/bin"));
-    folder.canonicalize().unwrap_or_else(|error| panic!("{}: {error}; run 'rt check builder lister', or set CUBE_BIN", folder.display()))
+    folder.canonicalize().unwrap_or_else(|error| panic!("{}: {error}; run ./build, or set CUBE_BIN", folder.display()))
 }
 
 /// Exit status, standard output and standard error.
