@@ -20,7 +20,7 @@ fn files(folder: &str, found: &mut Vec<String>) {
     for entry in fs::read_dir(Path::new(TOP).join(folder)).unwrap().map(Result::unwrap) {
         let name = entry.file_name().into_string().unwrap();
         match entry.file_type().unwrap().is_dir() {
-            true if name == "target" || name == ".git" => {}
+            true if ["target", "out", ".git"].contains(&name.as_str()) => {}
             true => files(&format!("{folder}{name}/"), found),
             false => found.push(format!("{folder}{name}")),
         }
@@ -146,11 +146,11 @@ fn what_is_not_there_is_found() {
         ("`empty_set_forgotten` (rows_condense)", "`empty_set_forgotten` (rows_alone)"),
         ("`rows_condense::condense_rows`: `full_set_listed`", "`rows_lists::list_of`: `full_set_listed`"),
         ("| Edit (crate cube) |\n|---|\n| `key_by_one_row` |", "| Edit (crate lists) |\n|---|\n| `key_by_one_row` |"),
-        ("`built-fewest`", "`built-few`"),
-        ("`keys-enough`, `fee-enough` (`Room.antt`)", "`keys-enough`, `fee-written` (`Room.antt`)"),
+        ("`built_fewest`", "`built_few`"),
+        ("`keys_enough`, `fee_enough` (`Room.antt`)", "`keys_enough`, `fee_written` (`Room.antt`)"),
         ("`call_join::same_sizes`, `join_rows`", "`call_join::same_sizes`, `merge_rows`"),
         ("`cube::Total::plus`", "`cube::Total::minus`"),
-        ("`tableAnswer (readTable s)`", "`tableAnswer (tableRead s)`"),
+        ("`table_answer (read_table s)`", "`table_answer (table_read s)`"),
         ("`crates/cube/specs/Cube.antt`", "`crates/cube/specs/Cubes.antt`"),
         ("`Cube.antt`", "`Cubes.antt`"),
     ] {
