@@ -147,7 +147,7 @@ fn what_is_not_there_is_found() {
         ("`rows_condense::condense_rows`: `full_set_listed`", "`rows_lists::list_of`: `full_set_listed`"),
         ("| Edit (crate cube) |\n|---|\n| `key_by_one_row` |", "| Edit (crate lists) |\n|---|\n| `key_by_one_row` |"),
         ("`built_fewest`", "`built_few`"),
-        ("`keys_enough`, `fee_enough` (`Room.antt`)", "`keys_enough`, `fee_written` (`Room.antt`)"),
+        ("`keys-enough`, `fee_enough` (`Room.antt`)", "`keys-enough`, `fee_written` (`Room.antt`)"),
         ("`call_join::same_sizes`, `join_rows`", "`call_join::same_sizes`, `merge_rows`"),
         ("`cube::Total::plus`", "`cube::Total::minus`"),
         ("`table_answer (read_table s)`", "`table_answer (table_read s)`"),
