@@ -8,4 +8,4 @@ pub slice_bounds-put_shares-end : goal.slice_bounds-put_shares-end
 slice_bounds-put_shares-end c = sym (length-take-le _ _ c.requires.fee_bound.1)
 
 pub put_shares-requires : goal.put_shares-requires
-put_shares-requires c = record { fee_bound = c.requires.fee_bound; shares_len = (sym (slice-aggregate-put-shares c), c.requires.counts_in_bounds) }
+put_shares-requires c = record { fee_bound = c.requires.fee_bound; shares_len = (length-take-le _ _ c.requires.fee_bound.1, c.requires.counts_in_bounds) }
