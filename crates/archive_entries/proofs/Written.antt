@@ -14,7 +14,7 @@ use Rattle.lists.proofs.Pigeonhole.{no_more}
 use Rattle.fields.specs.Words.{word_bytes, words_bytes}
 use Rattle.fields_sums.specs.Twos.{sum_bytes}
 use Rattle.fields_walk.specs.Parsed.{Parsed, got, and_then, stop_unless, many}
-use Rattle.fields_walk.specs.Fields.{word, sum, codes}
+use Rattle.fields_walk.specs.Fields.{word, sum}
 use Rattle.fields_walk.specs.Limits.{Below}
 use Rattle.fields_walk.proofs.Steps.{then_made}
 use Rattle.fields_walk.proofs.Codec.{Codec, codec_same, codec_as, codec_test, pair, codec_pair, codec_count}

@@ -62,6 +62,7 @@ module _ (t : Records) (l : TableLimits t) where
     reads q i = l.each q (keep_in (λ q. same r.codes q.codes) t.rows i).0
 
     some-counted : (rows : List (Row Total)) {q : Row Total} → q ∈ rows → q.total.count ≡ 1 → 1 ≤ count_of rows
+    some-counted [] {q = q} x' c = elim x' [ ]
     some-counted (p ∷ rows) (Memᴰ.head e) c = omega (arith, ap (λ (q : Row Total). q.total.count) e, c)
     some-counted (p ∷ rows) (Memᴰ.tail i) c = omega (arith, some-counted rows i c)
 

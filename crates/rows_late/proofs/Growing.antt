@@ -30,7 +30,7 @@ module _ (L : Lattice) (W : Laws L) (x : List ℕ) (v : L.valid x) where
   pub over_iff : (c : List ℕ) → (c ∈ over L x) ↔ (L.falls c x ≡ true)
   unfolding over
   over_iff c = (
-    λ m. let r = Memᴰ.of_map (λ s. L.cell s x) L.nodes m in rw (← r.2) (W.falls_cell r.0 x x v r.1 ∙ W.Agree-refl r.0 x),
+    λ m. let r = Memᴰ.of_map (λ s. L.cell s x) L.nodes m in rw (← r.2) (W.falls_cell r.0 x x v r.1 ∙ W.agree_refl r.0 x),
     λ f. let q = W.cell-of c x v f in Memᴰ.cast q.1 (Memᴰ.map (λ s. L.cell s x) q.0),
   )
 

@@ -129,11 +129,11 @@ module _ {A : Type 0} (M : Measure A) (d : ℕ) (rows : List (Row A)) (t : Table
       -- The cells over the row gain it,
       pub late_gains : L.falls c x ≡ true → total L M after c ≡ M.more (total L M rows c) r.total
       unfolding total
-      late_gains h = united-total M d E rows (r ∷ []) t (one_table d r k) L c ∙ ap (M.more (total L M rows c)) (rw h (E.None-more r.total))
+      late_gains h = united-total M d E rows (r ∷ []) t (one_table d r k) L c ∙ ap (M.more (total L M rows c)) (rw h (E.none_more r.total))
 
       -- from nothing where there was no record,
       pub late-starts : L.falls c x ≡ true → ((y : List ℕ) → y ∈ xs → L.falls c y ≡ true → ⊥) → total L M after c ≡ r.total
-      late-starts h n = late_gains h ∙ ap (λ (a : A). M.more a r.total) (total_lacks L M rows c n) ∙ E.None-more r.total
+      late-starts h n = late_gains h ∙ ap (λ (a : A). M.more a r.total) (total_lacks L M rows c n) ∙ E.none_more r.total
 
       -- and every other cell keeps its total.
       pub late_keeps : L.falls c x ≡ false → total L M after c ≡ total L M rows c

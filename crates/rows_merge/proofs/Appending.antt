@@ -41,10 +41,10 @@ module _ {A : Type 0} where
 
 module _ {A : Type 0} (M : Measure A) (E : Adds M) where
   pub more-none : (a : A) → M.more a M.none ≡ a
-  more-none a = E.more_comm a M.none ∙ E.None-more a
+  more-none a = E.more_comm a M.none ∙ E.none_more a
 
   pub sum-append : (a b : List (Row A)) → total_of M (a ++ b) ≡ M.more (total_of M a) (total_of M b)
-  sum-append [] b = sym (E.None-more (total_of M b))
+  sum-append [] b = sym (E.none_more (total_of M b))
   sum-append (r ∷ a) b =
       sum-cons M E r (a ++ b) ∙ ap (M.more r.total) (sum-append a b) ∙ sym (E.more_assoc r.total (total_of M a) (total_of M b))
       ∙ ap (λ (t : A). M.more t (total_of M b)) (sym (sum-cons M E r a))

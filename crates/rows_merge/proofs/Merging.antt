@@ -160,7 +160,7 @@ module _ {A : Type 0} (M : Measure A) where
     passed p l = total_of M (keep (λ r. p r.codes) l)
 
     pub passed_merged : (p : List ℕ → Bool) (a b : List (Row A)) → passed p (merged M a b) ≡ M.more (passed p a) (passed p b)
-    passed_merged p [] b = sym (E.None-more (passed p b))
+    passed_merged p [] b = sym (E.none_more (passed p b))
     passed_merged p (r ∷ a) [] = sym (more-none M E (passed p (r ∷ a)))
     passed_merged p (r ∷ a) (q ∷ b) = cases (order r.codes q.codes)
         (λ o. ap (passed p) (merged-left M r q a b o.0) ∙ sum_taking M E p r (merged M a (q ∷ b))
@@ -184,7 +184,7 @@ module _ {A : Type 0} (M : Measure A) where
         (λ p q i j h f g. by_codes.irrefl q.codes (rw (sym (same-eq r.codes p.codes f) ∙ same-eq r.codes q.codes g) at h))
         (pairwise_of_map (λ x y. earlier x y ≡ true) (λ q. q.codes) rows u))
         m (same_refl r.codes) in
-        ap (total_of M) one ∙ E.None-more r.total
+        ap (total_of M) one ∙ E.none_more r.total
 
     -- One pass over rising rows is their folding.
     pub united-merged : (d : ℕ) (a b : List (Row A)) → Table d a → Table d b → Rising earlier (codes_of a) → Rising earlier (codes_of b) → united M d a b ≡ merged M a b

@@ -151,7 +151,7 @@ module _ {A : Type 0} (M : Measure A) (E : Adds M) (d : ℕ) where
       (λ p q i j h f g. by_codes.irrefl (keys c) (rw (← same-eq c p.codes f, ← same-eq c q.codes g) at h))
       (complete-rising M d rows t))
       r.1 r.2 in
-      ap (total_of M) one ∙ E.None-more r.0.total ∙ ((iff r.0).0 r.1).1 ∙ ap (total (plain d) M rows) (sym q))
+      ap (total_of M) one ∙ E.none_more r.0.total ∙ ((iff r.0).0 r.1).1 ∙ ap (total (plain d) M rows) (sym q))
       (λ e. ap (total_of M) (keep-none (λ r. same c r.codes) cube (λ r m f. false≢true (sym (some_not (λ r. same c r.codes) e m) ∙ f)))
       ∙ sym (total_lacks (plain d) M rows c (λ x m f. false≢true (sym (some_not (λ r. same c r.codes) e ((iff (filled (plain d) M rows c)).1 (inl (x, m, f), refl))) ∙ same_refl c))))
 

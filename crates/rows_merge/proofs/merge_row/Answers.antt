@@ -10,7 +10,7 @@ use Rattle.rows_merge.specs.Turns.{turn}
 use Rattle.rows_merge.proofs.Pass.{store_room, pair_adds, turn-first, turn-second, turn-both, passed_first, passed_second, passed_both}
 use borrow.Author.Rules.{rules}
 use Rattle.rows_merge.proofs.merge_row.Goals as goal
-use Rattle.rows_merge.proofs.merge_row.Goals.{0, 1, In-Both, In-First, In-Second}
+use Rattle.rows_merge.proofs.merge_row.Goals.{In-Both, In-First, In-Second}
 
 -- whose turn it is, and that there is a row left
 first : (c : goal.In-First) → (let a = c.args in turn (drop a.i (cut a.dims a.n a.rows1.now)) (drop a.j (cut a.dims a.m a.rows2.now)) ≡ First)
@@ -35,7 +35,7 @@ pub row_of-row-requires : goal.row_of-row-requires
 row_of-row-requires c = (c.requires.pair.0.one.size, first-left c)
 
 pub total_at-total-requires : goal.total_at-total-requires
-total_at-total-requires c = row-of-requires (goal.at.total_at-total-requires c).In-First κs
+total_at-total-requires c = (c.requires.pair.0.one.size, first-left (goal.at.total_at-total-requires c).In-First)
 
 pub put_row-requires : goal.put_row-requires
 put_row-requires c =
@@ -48,7 +48,7 @@ pub row_of-row-requires-in-Second : goal.row_of-row-requires-in-Second
 row_of-row-requires-in-Second c = (c.requires.pair.0.other.size, second-left c)
 
 pub total_at-total-requires-in-Second : goal.total_at-total-requires-in-Second
-total_at-total-requires-in-Second c = row-of-requires-2 (goal.at.total_at-total-requires-in-Second c).In-Second κs
+total_at-total-requires-in-Second c = (c.requires.pair.0.other.size, second-left (goal.at.total_at-total-requires-in-Second c).In-Second)
 
 pub put_row-requires-in-Second : goal.put_row-requires-in-Second
 put_row-requires-in-Second c =
@@ -61,7 +61,7 @@ pub row_of-row-requires-in-Both : goal.row_of-row-requires-in-Both
 row_of-row-requires-in-Both c = (c.requires.pair.0.one.size, (both_left c).0)
 
 pub total_at-total-requires-in-Both : goal.total_at-total-requires-in-Both
-total_at-total-requires-in-Both c = row-of-requires-3 (goal.at.total_at-total-requires-in-Both c).In-Both κs
+total_at-total-requires-in-Both c = (c.requires.pair.0.one.size, (both_left (goal.at.total_at-total-requires-in-Both c).In-Both).0)
 
 pub total_at-other-requires : goal.total_at-other-requires
 total_at-other-requires c = (c.requires.pair.0.other.size, (both_left (goal.at.total_at-other-requires c).In-Both).1)

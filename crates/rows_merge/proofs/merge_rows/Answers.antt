@@ -32,7 +32,11 @@ returns-then-k-eq1024 c = passed_over c.requires.0 c.loop-i.invariant.2 c.if-k-e
 pub merge_row-next-requires : goal.merge_row-next-requires
 merge_row-next-requires c =
     let l = c.loop-i in
-let the_answer = ((c.requires.0, c.loop-i-test.true), ((omega (arith, l.invariant.0, c.requires.1), omega (arith, l.invariant.1, c.if-k-eq1024.false)), l.invariant.2)) in record { pair = the_answer.0; in_bounds = the_answer.1.0; passed = the_answer.1.1 }
+    record {
+      pair = (c.requires.0, c.loop-i-test.true);
+      in_bounds = (omega (arith, l.invariant.0, c.requires.1), omega (arith, l.invariant.1, c.if-k-eq1024.false));
+      passed = l.invariant.2;
+    }
 
 pub overflow_add-k : goal.overflow_add-k
 overflow_add-k c = omega (arith, c.loop-i.invariant.1)

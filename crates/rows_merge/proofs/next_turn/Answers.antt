@@ -24,7 +24,7 @@ told c =
     let a = c.args in
     let r = c.row_of-mine.ensures in
     let q = c.row_of-other.ensures in
-    turn-compared (cut a.dims a.n a.first.now) (cut a.dims a.m a.second.now) a.i a.j (left (PLACE c Else-i-n))
+    turn-compared (cut a.dims a.n a.first.now) (cut a.dims a.m a.second.now) a.i a.j (omega (arith, cut-length a.dims a.n a.first.now, c.if-i-n.false, c.requires.3))
     (omega (arith, cut-length a.dims a.m a.second.now, c.if-j-m.false, c.requires.4)) r.0 q.0 (omega (arith, r.1, c.requires.2)) (omega (arith, q.1, c.requires.2)) c.compare.ensures
 
 pub returns-then-i-n : goal.returns-then-i-n

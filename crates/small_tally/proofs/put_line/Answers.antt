@@ -7,7 +7,7 @@ use Rattle.small_model.specs.Tally.{most_entries}
 use Rattle.small_tally.proofs.Tallies.{most-fits, zeros_front}
 use borrow.Author.Rules.{rules}
 use Rattle.small_tally.proofs.put_line.Goals as goal
-use Rattle.small_tally.proofs.put_line.Goals.{2, After-sets_of-rows}
+use Rattle.small_tally.proofs.put_line.Goals.{After-sets_of-rows}
 
 -- how many rows a table can have, and how many tallies there are
 sized : (c : goal.After-sets_of-rows) → let m = c.sets_of-rows.result in (m ≤ 8) × (m * m ≤ 64) × (m + m * m + 1 ≡ suc (most_entries c.args.dims))
@@ -32,4 +32,5 @@ pub put_tallied-requires : goal.put_tallied-requires
 put_tallied-requires c =
     let p = c.requires in
     let m = c.sets_of-rows.result in
-    record { dims_bound = (p.0, sym (slice-aggregate-put-tallied c) ∙ (sized (goal.at.put_tallied-requires c).After-sets_of-rows).2, zeros_front (m + m * m + 1) 73); dims_in_bounds = p.1 }
+    let s = sized (goal.at.put_tallied-requires c).After-sets_of-rows in
+    record { dims_bound = (p.0, length-take-le (m + m * m + 1) _ (omega (arith, s.0, s.1)) ∙ s.2, zeros_front (m + m * m + 1) 73); dims_in_bounds = p.1 }

@@ -20,7 +20,7 @@ room c =
     rw c.word_at-n.ensures (rw (length-base_text (base_there a.s.now a.dims a.at)) at c.requires.at_in_bounds_2)
 
 pub put_row-done-requires : goal.put_row-done-requires
-put_row-done-requires c =  let the_answer = search (rules, room (goal.at.put_row-done-requires c).After-word_at-n) in record { dims_in_bounds = the_answer.0; at_in_bounds = the_answer.1 }
+put_row-done-requires c = record { dims_in_bounds = search (rules, room (goal.at.put_row-done-requires c).After-word_at-n); at_in_bounds = search (rules, room (goal.at.put_row-done-requires c).After-word_at-n) }
 
 pub slice_bounds-put_character-count : goal.slice_bounds-put_character-count
 slice_bounds-put_character-count c = search (rules, room (goal.at.slice_bounds-put_character-count c).After-word_at-n)
@@ -53,7 +53,7 @@ pub slice_bounds-put_sets-start : goal.slice_bounds-put_sets-start
 slice_bounds-put_sets-start c = search (rules, room (goal.at.slice_bounds-put_sets-start c).After-word_at-n)
 
 pub put_sets-done-requires : goal.put_sets-done-requires
-put_sets-done-requires c =  let the_answer = search (rules, room (goal.at.put_sets-done-requires c).After-word_at-n) in record { n_in_bounds = the_answer.0; at_in_bounds = the_answer.1 }
+put_sets-done-requires c = record { n_in_bounds = search (rules, room (goal.at.put_sets-done-requires c).After-word_at-n); at_in_bounds = search (rules, room (goal.at.put_sets-done-requires c).After-word_at-n) }
 
 pub overflow_add-done-3 : goal.overflow_add-done-3
 overflow_add-done-3 c = search (rules, room (goal.at.overflow_add-done-3 c).After-word_at-n)

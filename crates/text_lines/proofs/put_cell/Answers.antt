@@ -14,7 +14,7 @@ room : (c : goal.Start) → let a = c.args in length (row_text (row_there a.s.no
 room c = let a = c.args in rw (length-cell_text (row_there a.s.now a.dims a.at)) at c.requires.at_in_bounds
 
 pub put_row-done-requires : goal.put_row-done-requires
-put_row-done-requires c =  let the_answer = search (rules, room (goal.at.put_row-done-requires c).Start) in record { dims_in_bounds = the_answer.0; at_in_bounds = the_answer.1 }
+put_row-done-requires c = record { dims_in_bounds = search (rules, room (goal.at.put_row-done-requires c).Start); at_in_bounds = search (rules, room (goal.at.put_row-done-requires c).Start) }
 
 pub slice_bounds-put_character-count : goal.slice_bounds-put_character-count
 slice_bounds-put_character-count c = search (rules, room (goal.at.slice_bounds-put_character-count c).Start)
