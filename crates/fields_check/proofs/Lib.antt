@@ -1,3 +1,2 @@
 -- Laws that serve several functions.
 pub mod Summed
-pub mod CheckLaws

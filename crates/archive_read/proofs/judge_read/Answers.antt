@@ -1,40 +1,35 @@
 -- `archive_read::judge_read` meets its contract: the base rows fill the front of the array, and the archive is the one they require, or stop 12.
 use mathlib.Core.Path.{sym, ◌∙◌}
-use Prim.Native.Nat.{◌*◌}
+use mathlib.Core.List.{List}
+use Prim.Native.Nat.{ℕ, ◌*◌, ◌≤◌}
 use native.Mathlib.Omega.{arith}
-use lib.ListN.{take}
-use Rattle.fields_walk.specs.Limits.{Bytes}
+use lib.ListN.{length, take}
 use Rattle.rows.specs.Rows.{width}
 use Rattle.archive_judge.specs.Read.{Read}
 use Rattle.fields_walk.proofs.Limits.{bytes_of}
 use Rattle.archive_read.proofs.Reading.{read_small, read_of, passed_required, stopped_required}
 use borrow.Author.Rules.{rules}
 use Rattle.archive_read.proofs.judge_read.Goals as goal
-use Rattle.archive_read.proofs.judge_read.Goals.{After-shared_slice_known-1, Start, size}
-
-are-bytes : (c : goal.After-shared_slice_known-1) → Bytes c.args.s.now
-are-bytes c = bytes_of c.args.s.now (λ i. omega (arith, c.type_inv.s i))
-
-read : (c : goal.After-shared_slice_known-1) → (let a = c.args in Read a.s.now a.dims a.bases (take (a.bases * width a.dims) a.rows.now))
-read c = let a = c.args in read_of (are-bytes c) c.requires.s_value a.rows.now c.requires.in_bounds.0 c.requires.in_bounds.1
 
 pub overflow_mul-size : goal.overflow_mul-size
-overflow_mul-size c = omega (arith, read_small (are-bytes (goal.at.overflow_mul-size c).After-shared_slice_known-1) c.requires.s_value)
+overflow_mul-size c = omega (arith, read_small (bytes_of c.args.s.now (λ i. omega (arith, c.type_inv.s i))) c.requires.s_value)
 
 pub slice_bounds-is_required-end : goal.slice_bounds-is_required-end
-slice_bounds-is_required-end c = (read (goal.at.slice_bounds-is_required-end c).Start).size
+slice_bounds-is_required-end c = (read_of (bytes_of c.args.s.now (λ i. omega (arith, c.type_inv.s i))) c.requires.s_value c.args.rows.now c.requires.in_bounds.0 c.requires.in_bounds.1).size
 
 pub is_required-requires : goal.is_required-requires
-is_required-requires c = let p = c.requires.in_bounds_2 in (read (goal.at.is_required-requires c).Start, p.0, p.1)
+is_required-requires c = let p = c.requires.in_bounds_2 in (read_of (bytes_of c.args.s.now (λ i. omega (arith, c.type_inv.s i))) c.requires.s_value c.args.rows.now c.requires.in_bounds.0 c.requires.in_bounds.1, p.0, p.1)
 
 pub returns-then-is_required : goal.returns-then-is_required
 returns-then-is_required c =
     let e = c.is_required.ensures in
     let p = c.requires.s_value in
-    record { value = passed_required p (read (goal.at.returns-then-is_required c).Start) (sym c.if-is_required.true ∙ e.value); grouped = e.grouped }
+    let read = read_of (bytes_of c.args.s.now (λ i. omega (arith, c.type_inv.s i))) p c.args.rows.now c.requires.in_bounds.0 c.requires.in_bounds.1 in
+    record { value = passed_required p read (sym c.if-is_required.true ∙ e.value); grouped = e.grouped }
 
 pub returns-else-is_required : goal.returns-else-is_required
 returns-else-is_required c =
     let e = c.is_required.ensures in
     let p = c.requires.s_value in
-    record { value = stopped_required p (read (goal.at.returns-else-is_required c).Start) (sym c.if-is_required.false ∙ e.value); grouped = e.grouped }
+    let read = read_of (bytes_of c.args.s.now (λ i. omega (arith, c.type_inv.s i))) p c.args.rows.now c.requires.in_bounds.0 c.requires.in_bounds.1 in
+    record { value = stopped_required p read (sym c.if-is_required.false ∙ e.value); grouped = e.grouped }

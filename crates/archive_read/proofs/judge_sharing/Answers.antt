@@ -8,4 +8,4 @@ pub returns : goal.returns
 returns c =
     let s = c.args.s.now in
     let e = c.read_judged.ensures in
-let the_answer = (e.value, (e.stored, shares-required s _ _ (shares-told (walk_archive s) _ _ c.requires (sharing_held e.grouped)))) in record { value = the_answer.0; stored = the_answer.1.0; shares = the_answer.1.1 }
+    record { value = e.value; stored = e.stored; shares = shares-required s _ _ (shares-told (walk_archive s) _ _ c.requires (sharing_held e.grouped)) }

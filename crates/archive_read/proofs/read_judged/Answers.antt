@@ -7,9 +7,7 @@ pub store_rows-requires : goal.store_rows-requires
 store_rows-requires c = record { by_index = (_, c.requires); in_bounds = search rules }
 
 pub judge_read-requires : goal.judge_read-requires
-judge_read-requires c =  let the_answer = (c.requires, ((search rules, c.store_rows.ensures), (search rules, search rules))) in record { s_value = the_answer.0; in_bounds = the_answer.1.0; in_bounds_2 = the_answer.1.1 }
+judge_read-requires c = record { s_value = c.requires; in_bounds = (search rules, c.store_rows.ensures); in_bounds_2 = (search rules, search rules) }
 
 pub returns : goal.returns
-returns c =
-    let s = c.args.s.now in
-let the_answer = (c.judge_read.ensures.value, (stored-required s _ c.store_rows.ensures, c.judge_read.ensures.grouped)) in record { value = the_answer.0; stored = the_answer.1.0; grouped = the_answer.1.1 }
+returns c = record { value = c.judge_read.ensures.value; stored = stored-required c.args.s.now _ c.store_rows.ensures; grouped = c.judge_read.ensures.grouped }

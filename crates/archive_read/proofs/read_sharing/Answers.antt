@@ -13,7 +13,4 @@ pub returns-in-Stop : goal.returns-in-Stop
 returns-in-Stop c =
     let s = c.args.s.now in
     let e = sym c.check_archive.ensures ∙ c.in-Stop.is in
-let the_answer = (stop-required s e, (stored-required s _ (stopped_stored (walk_archive s) _ e), shares-stop s _ _ e)) in record { value = the_answer.0; stored = the_answer.1.0; shares = the_answer.1.1 }
-
-pub returns-in-Entries : goal.returns-in-Entries
-returns-in-Entries c =  let the_answer = c.judge_sharing.ensures in record { value = the_answer.0; stored = the_answer.1.0; shares = the_answer.1.1 }
+    record { value = stop-required s e; stored = stored-required s _ (stopped_stored (walk_archive s) _ e); shares = shares-stop s _ _ e }

@@ -14,7 +14,7 @@ use Rattle.archive_normals.specs.Normals.{normal_bytes}
 use Rattle.archive_write.proofs.Archive.{archive_parts, archive_sum, cells-few}
 use borrow.Author.Rules.{rules}
 use Rattle.archive_write.proofs.put_archive.Goals as goal
-use Rattle.archive_write.proofs.put_archive.Goals.{After-put_bases-at, After-put_header-at}
+use Rattle.archive_write.proofs.put_archive.Goals.{After-put_header-at}
 
 -- there is room for the sections behind the header, and for those behind the base entries
 room : (c : goal.After-put_header-at) → (let a = c.args in let d = length a.sizes.now in let n = rows_of d a.n a.rows.now in
@@ -23,10 +23,6 @@ room c =
     let a = c.args in
     let p = c.requires in
     omega (arith, c.put_header-at.ensures.count, length-header CUBE a.sizes.now, archive_sum a.sizes.now p.listed.0 p.listed.2, p.rows_in_bounds)
-
-behind : (c : goal.After-put_bases-at) → (let a = c.args in let d = length a.sizes.now in let n = rows_of d a.n a.rows.now in
-    c.put_header-at.result + 4 + c.put_bases-at.result + 4 + length (normal_bytes d n) + 4 ≤ length a.out.now)
-behind c = omega (arith, room (PLACE c After-put_header-at), c.put_bases-at.ensures.count)
 
 pub put_header-at-requires : goal.put_header-at-requires
 put_header-at-requires c =
@@ -56,41 +52,41 @@ pub put_bases-at-requires : goal.put_bases-at-requires
 put_bases-at-requires c = record { listed = c.requires.listed.0; rows_in_bounds = simp (length-take, length-drop) (omega (arith, room (goal.at.put_bases-at-requires c).After-put_header-at)) }
 
 pub overflow_add-at-2 : goal.overflow_add-at-2
-overflow_add-at-2 c = omega (arith, behind (goal.at.overflow_add-at-2 c).After-put_bases-at)
+overflow_add-at-2 c = omega (arith, room (goal.at.overflow_add-at-2 c).After-put_header-at, c.put_bases-at.ensures.count)
 
 pub slice_bounds-put_word-count-2 : goal.slice_bounds-put_word-count-2
-slice_bounds-put_word-count-2 c = omega (arith, behind (goal.at.slice_bounds-put_word-count-2 c).After-put_bases-at)
+slice_bounds-put_word-count-2 c = omega (arith, room (goal.at.slice_bounds-put_word-count-2 c).After-put_header-at, c.put_bases-at.ensures.count)
 
 pub slice_bounds-put_word-start-2 : goal.slice_bounds-put_word-start-2
-slice_bounds-put_word-start-2 c = omega (arith, behind (goal.at.slice_bounds-put_word-start-2 c).After-put_bases-at)
+slice_bounds-put_word-start-2 c = omega (arith, room (goal.at.slice_bounds-put_word-start-2 c).After-put_header-at, c.put_bases-at.ensures.count)
 
 pub overflow_cast-cells : goal.overflow_cast-cells
 overflow_cast-cells c = let p = c.requires.listed in omega (arith, cells-few c.args.sizes.now p.0 p.2)
 
 pub put_word-at-requires-2 : goal.put_word-at-requires-2
-put_word-at-requires-2 c = simp (length-take, length-drop) (omega (arith, behind (goal.at.put_word-at-requires-2 c).After-put_bases-at))
+put_word-at-requires-2 c = simp (length-take, length-drop) (omega (arith, room (goal.at.put_word-at-requires-2 c).After-put_header-at, c.put_bases-at.ensures.count))
 
 pub overflow_add-at-3 : goal.overflow_add-at-3
-overflow_add-at-3 c = omega (arith, behind (goal.at.overflow_add-at-3 c).After-put_bases-at)
+overflow_add-at-3 c = omega (arith, room (goal.at.overflow_add-at-3 c).After-put_header-at, c.put_bases-at.ensures.count)
 
 pub slice_bounds-put_normals-count : goal.slice_bounds-put_normals-count
-slice_bounds-put_normals-count c = omega (arith, behind (goal.at.slice_bounds-put_normals-count c).After-put_bases-at)
+slice_bounds-put_normals-count c = omega (arith, room (goal.at.slice_bounds-put_normals-count c).After-put_header-at, c.put_bases-at.ensures.count)
 
 pub slice_bounds-put_normals-start : goal.slice_bounds-put_normals-start
-slice_bounds-put_normals-start c = omega (arith, behind (goal.at.slice_bounds-put_normals-start c).After-put_bases-at)
+slice_bounds-put_normals-start c = omega (arith, room (goal.at.slice_bounds-put_normals-start c).After-put_header-at, c.put_bases-at.ensures.count)
 
 pub put_normals-at-requires : goal.put_normals-at-requires
-put_normals-at-requires c = record { grouped = c.requires.listed.1; rows_in_bounds = simp (length-take, length-drop) (omega (arith, behind (goal.at.put_normals-at-requires c).After-put_bases-at)) }
+put_normals-at-requires c = record { grouped = c.requires.listed.1; rows_in_bounds = simp (length-take, length-drop) (omega (arith, room (goal.at.put_normals-at-requires c).After-put_header-at, c.put_bases-at.ensures.count)) }
 
 pub overflow_add-at-4 : goal.overflow_add-at-4
-overflow_add-at-4 c = omega (arith, behind (goal.at.overflow_add-at-4 c).After-put_bases-at, c.put_normals-at.ensures.count, c.well_formed)
+overflow_add-at-4 c = omega (arith, room (goal.at.overflow_add-at-4 c).After-put_header-at, c.put_bases-at.ensures.count, c.put_normals-at.ensures.count, c.well_formed)
 
 pub put_check-requires : goal.put_check-requires
-put_check-requires c = omega (arith, behind (goal.at.put_check-requires c).After-put_bases-at, c.put_normals-at.ensures.count)
+put_check-requires c = omega (arith, room (goal.at.put_check-requires c).After-put_header-at, c.put_bases-at.ensures.count, c.put_normals-at.ensures.count)
 
 pub returns : goal.returns
 returns c =
     let p = c.requires.listed in
     let w = wrote_then (wrote_then (wrote_then (wrote_then c.put_header-at.ensures c.put_word-at.ensures) c.put_bases-at.ensures) c.put_word-at-2.ensures) c.put_normals-at.ensures in
     let r = c.put_check.ensures in
-    wrote_as (archive_parts c.args.sizes.now p.0 p.2) (wrote_check w r.0 (omega (arith, behind (goal.at.returns c).After-put_bases-at, c.put_normals-at.ensures.count)) r.1)
+    wrote_as (archive_parts c.args.sizes.now p.0 p.2) (wrote_check w r.0 (omega (arith, room (goal.at.returns c).After-put_header-at, c.put_bases-at.ensures.count, c.put_normals-at.ensures.count)) r.1)

@@ -9,7 +9,6 @@ use Rattle.rows.specs.Rows.{rows_of}
 use Rattle.call_cuboids.proofs.Lengths.{blank_elsewhere, blank_put}
 use borrow.Author.Rules.{rules}
 use Rattle.call_cuboids.proofs.blank_cells.Goals as goal
-use Rattle.call_cuboids.proofs.blank_cells.Goals.{After-codes-1}
 
 abbrev zeros : List ℕ
 zeros = 0 ∷ 0 ∷ 0 ∷ 0 ∷ 0 ∷ 0 ∷ 0 ∷ 0 ∷ []
@@ -24,9 +23,9 @@ slice_bounds-put_row-end c = sym (length-take-le c.args.dims _ c.requires.0)
 pub put_row-requires : goal.put_row-requires
 put_row-requires c =
     let p = c.requires in
-    omega (arith, slice-aggregate-put-row c, p.1)
+    omega (arith, length-take-le c.args.dims zeros p.0, p.1)
 
 pub returns : goal.returns
 returns c =
     let a = c.args in
-    (omega arith, blank_put a.dims a.set (take a.dims zeros) _ a.cells.now _ (slice-aggregate-put-row (goal.at.returns c).After-codes-1) (omega (arith, c.if-set-ne0.false)) refl c.put_row.ensures)
+    (omega arith, blank_put a.dims a.set (take a.dims zeros) _ a.cells.now _ (sym (length-take-le a.dims zeros c.requires.0)) (omega (arith, c.if-set-ne0.false)) refl c.put_row.ensures)

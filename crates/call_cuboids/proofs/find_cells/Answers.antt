@@ -26,7 +26,7 @@ pub group_rows-requires : goal.group_rows-requires
 group_rows-requires c =
     let p = c.requires.ready.0 in
     let q = c.requires.in_bounds in
-let the_answer = ((p.size, c.requires.ready.1, p.few), (omega (arith, rows_small c.args.dims c.args.n p.dims p.few, q), (p.table, p.summable))) in record { dims_value = the_answer.0; dims_in_bounds = the_answer.1.0; table = the_answer.1.1 }
+    record { dims_value = (p.size, c.requires.ready.1, p.few); dims_in_bounds = omega (arith, rows_small c.args.dims c.args.n p.dims p.few, q); table = (p.table, p.summable) }
 
 pub returns : goal.returns
 returns c =

@@ -1,5 +1,4 @@
 -- `cube::greater` meets its contract: the code compares the numbers that its bits stand for.
-use mathlib.Core.Path.{◌≡◌, sym}
 use mir.Facts.{to_z-of_z}
 use Rattle.cube.proofs.greater.Goals as goal
 

@@ -1,5 +1,4 @@
 -- `cube::lesser` meets its contract: the code compares the numbers that its bits stand for.
-use mathlib.Core.Path.{◌≡◌, sym}
 use mir.Facts.{to_z-of_z}
 use Rattle.cube.proofs.lesser.Goals as goal
 

@@ -6,7 +6,7 @@ use lib.IntN.{ℤ}
 use lib.ListN.{get_or}
 use mir.Syntax.{w64}
 use mir.Facts.{to_z-of_z}
-use borrow.Author.Rules.{rules, sfits_of}
+use borrow.Author.Rules.{sfits_of}
 use Rattle.fields_sums.specs.Twos.{sum_of}
 use Rattle.cube.specs.declared.Total.{Total}
 use Rattle.rows.proofs.Flat.{total-words}

@@ -5,7 +5,6 @@ use mathlib.Core.Bool.{true, ◌||◌}
 use Prim.Native.Nat.{ℕ, ◌-◌, ◌^◌, ◌≤◌}
 use native.Mathlib.Omega.{arith}
 use lib.ListN.{length}
-use borrow.Author.Tests.{not-true, not-false}
 use Rattle.lattice.specs.Sets.{holds}
 use Rattle.lattice.proofs.Less.{less_within}
 use Rattle.rows_bits.specs.Rowsets.{has}
@@ -21,7 +20,7 @@ tested c = c.holds_set.ensures ∙ ap (holds 32 c.args.set) c.sets_of-one.ensure
 
 -- it has, so that there is a set without it
 had : (c : goal.Else-not-holds_set) → holds 32 c.args.set (2 ^ c.loop-d.d) ≡ true
-had c = sym (tested (PLACE c After-holds_set)) ∙ not-false c.holds_set.result c.if-not-holds_set.false
+had c = sym (c.holds_set.ensures ∙ ap (holds 32 c.args.set) c.sets_of-one.ensures) ∙ c.if-not-holds_set.false
 
 pub loop-d-init : goal.loop-d-init
 loop-d-init c =
@@ -33,7 +32,7 @@ pub loop-d-preserved-then-not-holds_set : goal.loop-d-preserved-then-not-holds_s
 loop-d-preserved-then-not-holds_set c =
     let a = c.args in
     let l = c.loop-d in
-    (search rules, l.invariant.1, λ x. l.invariant.2 x ∙ sym (passes-off a.alone.now a.set x l.d (sym (tested (goal.at.loop-d-preserved-then-not-holds_set c).After-holds_set) ∙ not-true c.holds_set.result c.if-not-holds_set.true)))
+    (search rules, l.invariant.1, λ x. l.invariant.2 x ∙ sym (passes-off a.alone.now a.set x l.d (sym (tested (goal.at.loop-d-preserved-then-not-holds_set c).After-holds_set) ∙ c.if-not-holds_set.true)))
 
 pub overflow_sub-set : goal.overflow_sub-set
 overflow_sub-set c = omega (arith, c.sets_of-one.ensures, less_within 32 c.loop-d.d c.args.set (omega (arith, c.loop-d-test.true)) (had (goal.at.overflow_sub-set c).Else-not-holds_set))

@@ -1,13 +1,9 @@
 -- `rows_compare::compare` meets its contract: what is left of the rows has the order under the rest of the set that the rows have under the set.
-use mathlib.Core.Path.{◌≡◌, sym, ◌∙◌}
-use Prim.Native.Nat.{◌-◌, ◌≤◌}
+use mathlib.Core.Path.{sym, ◌∙◌}
 use native.Mathlib.Omega.{arith}
 use borrow.Author.Rules.{rules}
-use lib.ListN.{length, drop}
-use Rattle.lists.proofs.Tests.{cases}
-use Rattle.rows_compare.specs.Compare.{compared}
 use Rattle.rows_compare.proofs.Agree.{alike-out}
-use Rattle.rows_compare.proofs.Compared.{further, further_none, alike_in, compared_skip, compared_less, compared-more, compared-done}
+use Rattle.rows_compare.proofs.Compared.{further_none, alike_in, compared_skip, compared_less, compared-more, compared-done}
 use Rattle.rows_compare.proofs.compare.Goals as goal
 use Rattle.rows_compare.proofs.compare.Goals.{then-rest-eq1+else-x-y+else-y-x, else-rest-eq1}
 
@@ -27,13 +23,12 @@ returns-then-y-x c =
     c.if-rest-eq1.true c.if-y-x.true)
 
 pub loop-d-preserved : goal.loop-d-preserved
-loop-d-preserved c =
-    (
-      search rules,
-      compared_skip c.loop-d.rest c.args.mine.now c.args.other.now c.loop-d.d (search rules) (search rules)
-          (elim c.if-rest-eq1.branch [ then-rest-eq1+else-x-y+else-y-x w ↦ alike_in _ _ _ w.if-rest-eq1.true (omega arith) | else-rest-eq1 w ↦ alike-out _ _ _ w.if-rest-eq1.false ])
-          ∙ c.loop-d.invariant.1,
-    )
+loop-d-preserved c = (
+  search rules,
+  compared_skip c.loop-d.rest c.args.mine.now c.args.other.now c.loop-d.d (search rules) (search rules)
+      (elim c.if-rest-eq1.branch [ then-rest-eq1+else-x-y+else-y-x w ↦ alike_in _ _ _ w.if-rest-eq1.true (omega arith) | else-rest-eq1 w ↦ alike-out _ _ _ w.if-rest-eq1.false ])
+      ∙ c.loop-d.invariant.1,
+)
 
 pub returns : goal.returns
 returns c =

@@ -1,12 +1,8 @@
-use mathlib.Core.Path.{◌≡◌, sym, ◌∙◌}
+use mathlib.Core.Path.{◌≡◌}
 use Prim.Native.Nat.{◌-◌, ◌≤◌}
-use native.Mathlib.Omega.{arith}
-use borrow.Author.Rules.{rules}
 use lib.ListN.{length, drop}
-use Rattle.lists.proofs.Tests.{cases}
 use Rattle.rows_compare.specs.Compare.{compared}
-use Rattle.rows_compare.proofs.Agree.{alike-out}
-use Rattle.rows_compare.proofs.Compared.{further, further_none, alike_in, compared_skip, compared_less, compared-more, compared-done}
+use Rattle.rows_compare.proofs.Compared.{further}
 use Rattle.rows_compare.proofs.compare.Given as goal
 
 abbrev pub invariant-loop-d : goal.invariant-loop-d

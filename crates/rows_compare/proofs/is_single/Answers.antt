@@ -1,15 +1,12 @@
 -- `rows_compare::is_single` meets its contract. The row loop: no row so far agrees, and the row is single among the rows from i on just where it is among all.
 -- The dimension loop: what is left of two rows agrees on the rest of the set just where they agree on the set; `continue 'rows` steps i, so i is among its variables.
-use mathlib.Core.Path.{◌≡◌, refl, sym, ap, ◌∙◌}
-use mathlib.Core.Logic.{◌≢◌}
-use mathlib.Core.Bool.{true}
+use mathlib.Core.Path.{refl, sym, ap, ◌∙◌}
 use mathlib.Core.List.{[]}
-use Prim.Native.Nat.{◌≤◌, ◌<◌, ◌-◌}
+use Prim.Native.Nat.{◌<◌}
 use borrow.Author.Rules.{rules}
 use borrow.Author.Tests.{eq-eqb, ne_eqb}
-use lib.ListN.{length, drop}
-use Rattle.lists.proofs.Tests.{cases}
-use Rattle.cube.specs.Codes.{agree, plain}
+use lib.ListN.{length}
+use Rattle.cube.specs.Codes.{plain}
 use Rattle.cube.specs.Condensed.{single}
 use Rattle.rows.specs.Rows.{cut, row_at}
 use Rattle.rows.proofs.Rows.{cut-length}

@@ -1,19 +1,10 @@
-use mathlib.Core.Path.{◌≡◌, refl, sym, ap, ◌∙◌}
-use mathlib.Core.Logic.{◌≢◌}
+use mathlib.Core.Path.{◌≡◌}
 use mathlib.Core.Bool.{true}
-use mathlib.Core.List.{[]}
-use Prim.Native.Nat.{◌≤◌, ◌<◌, ◌-◌}
-use borrow.Author.Rules.{rules}
-use borrow.Author.Tests.{not-true, not-false}
-use lib.ListN.{length, drop}
-use Rattle.lists.proofs.Tests.{cases}
+use Prim.Native.Nat.{◌≤◌, ◌-◌}
+use lib.ListN.{drop}
 use Rattle.cube.specs.Codes.{agree, plain}
 use Rattle.cube.specs.Condensed.{single}
 use Rattle.rows.specs.Rows.{cut, row_at}
-use Rattle.rows.proofs.Rows.{cut-length}
-use Rattle.rows_compare.proofs.Agree.{alike-out, agree_skip, agree-stop, agree-done}
-use Rattle.lists.proofs.Places.{distinct-at}
-use Rattle.rows_compare.proofs.Singles.{single-own, single_skip, single-stop, single-done}
 use Rattle.rows_compare.proofs.is_single.Given as goal
 
 abbrev pub invariant-loop-d : goal.invariant-loop-d

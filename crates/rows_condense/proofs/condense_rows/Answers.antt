@@ -29,22 +29,16 @@ few c = omega (arith, full-lt c.args.dims, pow_mono {i = c.args.dims} {j = 8} c.
 below : (c : goal.Else-all-set) → c.set_at-set.result < full c.args.dims
 below c = omega (arith, c.if-all-set.false, c.sets_of-all.ensures)
 
--- one set more
-next : (c : goal.After-slice_known-in-loop-k-3-1) → let a = c.args in
-    let l = c.loop-k in
-    let r = c.List-set_of_Decides in
-    Listing a.dims a.n a.rows.now r.new.1.1.1.1.1.0 r.new.1.1.1.1.1.1.1.1.1.1.1.1.0 (l.cells + r.result) (l.k + 1)
-next c =
-    let r = c.List-set_of_Decides.ensures in
-    listing-more (base (PLACE c After-sets_of-all)) c.loop-k.invariant.9 c.loop-k-test.true c.set_at-set.ensures (below (PLACE c Else-all-set)) r.1.0 r.1.1.0 r.1.1.1
-
 -- the lists and the common cells when all sets had their turn, and how many cells there are then
 one : (n : ℕ) → blanks n ≤ 1
 one zero = omega arith
 one (suc n) = omega arith
 
 all_listed : (c : goal.After-blanks) → blanks c.args.n + c.loop-k.cells ≤ 262145
-all_listed c = omega (arith, one c.args.n, listing-few (base (PLACE c After-sets_of-all)) c.loop-k.invariant.9)
+all_listed c =
+    let p = c.requires.n_bound in
+    let g : Given c.args.dims c.args.n c.args.rows.now = record { dims = p.1; few = p.0; size = p.2; base = p.3 } in
+    omega (arith, one c.args.n, listing-few g c.loop-k.invariant.9)
 
 pub read_columns-requires : goal.read_columns-requires
 read_columns-requires c = let p = c.requires in (p.n_bound.2, p.n_bound.0, p.n_bound.1, search rules, p.n_bound.3.valid)
@@ -81,12 +75,12 @@ list_set-cells-requires c =
     let g = base (goal.at.list_set-cells-requires c).After-sets_of-all in record { n_bound = (p.n_bound.0, p.n_bound.3.valid, p.n_bound.1, c.read_columns.ensures, omega (arith, f, full-lt c.args.dims), filling_shorter (few (goal.at.list_set-cells-requires c).After-sets_of-all) v.8 h e f); in_bounds = (omega (arith, v.0, p.in_bounds.0), omega (arith, v.1, p.in_bounds.1), v.5, v.6, v.7); in_bounds_2 = (omega (arith, v.3), v.4, listing_lower g v.9 h e f); n_in_bounds = (omega (arith, v.2, p.in_bounds.2), v.9.short, listing_fit g v.9 h e f) }
 
 pub overflow_add-cells : goal.overflow_add-cells
-overflow_add-cells c = omega (arith, listing-few (base (goal.at.overflow_add-cells c).After-sets_of-all) (next c))
+overflow_add-cells c = omega (arith, listing-few (base (goal.at.overflow_add-cells c).After-sets_of-all) (listing-more (base (goal.at.overflow_add-cells c).After-sets_of-all) c.loop-k.invariant.9 c.loop-k-test.true c.set_at-set.ensures (below (goal.at.overflow_add-cells c).Else-all-set) c.list_set-cells.ensures.told c.list_set-cells.ensures.lists_after c.list_set-cells.ensures.value))
 
 pub loop-k-preserved : goal.loop-k-preserved
 loop-k-preserved c =
     let v = c.loop-k.invariant in
-    (search rules, search rules, search rules, search rules, search rules, search rules, search rules, search rules, filling_more (few (goal.at.loop-k-preserved c).After-sets_of-all) v.8 c.loop-k-test.true c.set_at-set.ensures (below (goal.at.loop-k-preserved c).Else-all-set) c.List-set_of_Decides.ensures.0, next c)
+    (search rules, search rules, search rules, search rules, search rules, search rules, search rules, search rules, filling_more (few (goal.at.loop-k-preserved c).After-sets_of-all) v.8 c.loop-k-test.true c.set_at-set.ensures (below (goal.at.loop-k-preserved c).Else-all-set) c.list_set-cells.ensures.filled, listing-more (base (goal.at.loop-k-preserved c).After-sets_of-all) c.loop-k.invariant.9 c.loop-k-test.true c.set_at-set.ensures (below (goal.at.loop-k-preserved c).Else-all-set) c.list_set-cells.ensures.told c.list_set-cells.ensures.lists_after c.list_set-cells.ensures.value)
 
 pub overflow_add-result : goal.overflow_add-result
 overflow_add-result c = omega (arith, all_listed c, c.blanks.ensures)

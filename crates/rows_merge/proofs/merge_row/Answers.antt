@@ -8,7 +8,6 @@ use Rattle.rows.specs.Rows.{cut}
 use Rattle.rows_merge.specs.declared.Turn.TheVariants.{First, Second, Both}
 use Rattle.rows_merge.specs.Turns.{turn}
 use Rattle.rows_merge.proofs.Pass.{store_room, pair_adds, turn-first, turn-second, turn-both, passed_first, passed_second, passed_both}
-use borrow.Author.Rules.{rules}
 use Rattle.rows_merge.proofs.merge_row.Goals as goal
 use Rattle.rows_merge.proofs.merge_row.Goals.{In-Both, In-First, In-Second}
 

@@ -1,10 +1,8 @@
 -- `rows_merge::merge_rows` meets its contract: the rows that are stored, and the merge of what is left of both lists, are the merge.
-use mathlib.Core.Path.{◌≡◌, refl}
-use Prim.Native.Nat.{◌+◌, ◌-◌, ◌≤◌}
+use mathlib.Core.Path.{refl}
+use Prim.Native.Nat.{◌+◌, ◌≤◌}
 use native.Mathlib.Omega.{arith}
-use lib.ListN.{length}
 use Rattle.rows.specs.Rows.{rows_of}
-use Rattle.rows_merge.specs.Pass.{Passed}
 use Rattle.rows_merge.proofs.Pass.{passed_start, passed_over, passed_done}
 use borrow.Author.Rules.{rules}
 use Rattle.rows_merge.proofs.merge_rows.Goals as goal

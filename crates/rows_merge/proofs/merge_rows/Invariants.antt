@@ -1,11 +1,8 @@
-use mathlib.Core.Path.{◌≡◌, refl}
+use mathlib.Core.Path.{◌≡◌}
 use Prim.Native.Nat.{◌+◌, ◌-◌, ◌≤◌}
-use native.Mathlib.Omega.{arith}
 use lib.ListN.{length}
 use Rattle.rows.specs.Rows.{rows_of}
 use Rattle.rows_merge.specs.Pass.{Passed}
-use Rattle.rows_merge.proofs.Pass.{passed_start, passed_over, passed_done}
-use borrow.Author.Rules.{rules}
 use Rattle.rows_merge.proofs.merge_rows.Given as goal
 
 abbrev pub invariant-loop-i : goal.invariant-loop-i

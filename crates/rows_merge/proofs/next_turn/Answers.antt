@@ -8,7 +8,6 @@ use Rattle.rows_compare.specs.Compare.{is_before, is_equal}
 use Rattle.rows.proofs.Rows.{cut-length}
 use Rattle.rows_merge.specs.Turns.{turn_by, turn}
 use Rattle.rows_merge.proofs.Turns.{turn-none, turn-only, turn-compared}
-use borrow.Author.Rules.{rules}
 use Rattle.rows_merge.proofs.next_turn.Goals as goal
 use Rattle.rows_merge.proofs.next_turn.Goals.{After-compare, Else-i-n}
 

@@ -1,14 +1,8 @@
 use mathlib.Core.Path.{◌≡◌}
-use mathlib.Core.List.{List}
-use Prim.Native.Nat.{ℕ, ◌+◌, ◌-◌, ◌≤◌, ◌<◌}
-use native.Mathlib.Numerals.{add-one}
-use native.Mathlib.Omega.{arith}
-use lib.ListN.{drop, drop_of_length-le}
-use lib.Seq.{drop-cons}
-use borrow.Author.Rules.{rules}
+use Prim.Native.Nat.{◌+◌, ◌-◌, ◌≤◌}
+use lib.ListN.{drop}
 use Rattle.cube.specs.Bounds.{count_of}
-use Rattle.rows.specs.Rows.{rows_of, row_total}
-use Rattle.rows.proofs.Flat.{blank, rows-length}
+use Rattle.rows.specs.Rows.{rows_of}
 use Rattle.rows_merge.proofs.readings_in.Given as goal
 
 abbrev pub invariant-loop-i : goal.invariant-loop-i

@@ -1,19 +1,13 @@
-use mathlib.Core.Path.{◌≡◌, ap}
-use mathlib.Core.List.{◌++◌, append-nil}
+use mathlib.Core.Path.{◌≡◌}
+use mathlib.Core.List.{◌++◌}
 use Prim.Native.Nat.{◌-◌, ◌≤◌}
-use native.Mathlib.Nat.{le_trans}
-use native.Mathlib.Omega.{arith}
-use borrow.Author.Rules.{rules}
 use lib.ListN.{length, drop}
 use Rattle.cube.specs.Measure.{sums as measure}
-use Rattle.cube.specs.Codes.{cell, plain}
+use Rattle.cube.specs.Codes.{plain}
 use Rattle.cube.specs.Cube.{grouped}
-use Rattle.rows.specs.Rows.{width, cut, rows_of, row_total}
-use Rattle.rows.proofs.Rows.{row_within}
+use Rattle.rows.specs.Rows.{cut, rows_of, row_total}
 use Rattle.rows_order.specs.Index.{key}
-use Rattle.rows_runs.proofs.Indexed.{indexed_below, indexed_summed}
-use Rattle.rows_order.proofs.Columns.{table-valid}
-use Rattle.rows_runs.proofs.Gathered.{gather, gather_more, gather_done, gather_all}
+use Rattle.rows_runs.proofs.Gathered.{gather}
 use Rattle.rows_runs.proofs.group_rows.Given as goal
 
 abbrev pub invariant-loop-from : goal.invariant-loop-from

@@ -1,10 +1,8 @@
 -- `rows_runs::put_cell` meets its contract: what is written, and the cell of what is left of the row on the rest of the set, are the row's cell.
-use mathlib.Core.Path.{◌≡◌, refl, sym, ◌∙◌}
-use Prim.Native.Nat.{◌-◌, ◌≤◌}
+use mathlib.Core.Path.{refl, sym, ◌∙◌}
 use borrow.Author.Rules.{rules}
-use lib.ListN.{length, length-set}
-use Rattle.cube.specs.Codes.{cell}
-use Rattle.rows_runs.proofs.CellCodes.{cell_from, cell-more, cell-done}
+use lib.ListN.{length-set}
+use Rattle.rows_runs.proofs.CellCodes.{cell-more, cell-done}
 use Rattle.rows_runs.proofs.put_cell.Goals as goal
 
 pub loop-d-init : goal.loop-d-init

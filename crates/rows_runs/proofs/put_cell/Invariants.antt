@@ -1,9 +1,8 @@
-use mathlib.Core.Path.{◌≡◌, refl, sym, ◌∙◌}
+use mathlib.Core.Path.{◌≡◌}
 use Prim.Native.Nat.{◌-◌, ◌≤◌}
-use borrow.Author.Rules.{rules}
-use lib.ListN.{length, length-set}
+use lib.ListN.{length}
 use Rattle.cube.specs.Codes.{cell}
-use Rattle.rows_runs.proofs.CellCodes.{cell_from, cell-more, cell-done}
+use Rattle.rows_runs.proofs.CellCodes.{cell_from}
 use Rattle.rows_runs.proofs.put_cell.Given as goal
 
 abbrev pub invariant-loop-d : goal.invariant-loop-d

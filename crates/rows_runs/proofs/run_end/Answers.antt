@@ -1,14 +1,10 @@
 -- `rows_runs::run_end` meets its contract: the first row comes before none of the rows passed.
-use mathlib.Core.Path.{◌≡◌, sym, ◌∙◌}
-use mathlib.Core.Bool.{false}
-use Prim.Native.Nat.{ℕ, ◌-◌, ◌≤◌, ◌<◌}
+use mathlib.Core.Path.{sym, ◌∙◌}
 use native.Mathlib.Omega.{arith}
 use borrow.Author.Rules.{rules}
 use borrow.Author.Tests.{eqb-true, eqb-false}
 use lib.Dec.{eqb}
 use Rattle.lists.proofs.Tests.{cases, truth}
-use lib.ListN.{get_or}
-use Rattle.lists.specs.Order.{earlier}
 use Rattle.rows.specs.Rows.{cut}
 use Rattle.rows_order.specs.Index.{key}
 use Rattle.rows_runs.proofs.Runs.{ends_at}

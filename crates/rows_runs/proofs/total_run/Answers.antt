@@ -1,14 +1,13 @@
 -- `rows_runs::total_run` meets its contract: the running total, over the rows that are left, is the total of all.
 use mathlib.Core.Path.{◌≡◌}
 use mathlib.Core.List.{◌∷◌}
-use Prim.Native.Nat.{◌+◌, ◌-◌}
+use Prim.Native.Nat.{◌+◌}
 use native.Mathlib.Omega.{arith}
-use borrow.Author.Rules.{rules}
 use lib.ListN.{get_or}
 use lib.Seq.{slice}
 use Rattle.rows.specs.Rows.{row_total}
-use Rattle.rows_runs.specs.Totals.{amount_at, amounts_at, run_total}
-use Rattle.rows_runs.proofs.Totals.{total_from, Room, room-nothing, room-one, room-plus, total-start, amounts_next, amounts_none}
+use Rattle.rows_runs.specs.Totals.{amount_at, amounts_at}
+use Rattle.rows_runs.proofs.Totals.{total_from, room-nothing, room-one, room-plus, total-start, amounts_next, amounts_none}
 use Rattle.rows_runs.proofs.total_run.Goals as goal
 use Rattle.rows_runs.proofs.total_run.Goals.{In-loop-k}
 

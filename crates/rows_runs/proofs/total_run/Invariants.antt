@@ -1,13 +1,9 @@
 use mathlib.Core.Path.{◌≡◌}
-use mathlib.Core.List.{◌∷◌}
-use Prim.Native.Nat.{◌+◌, ◌-◌}
-use native.Mathlib.Omega.{arith}
-use borrow.Author.Rules.{rules}
-use lib.ListN.{get_or}
+use Prim.Native.Nat.{◌-◌}
 use lib.Seq.{slice}
 use Rattle.rows.specs.Rows.{row_total}
-use Rattle.rows_runs.specs.Totals.{amount_at, amounts_at, run_total}
-use Rattle.rows_runs.proofs.Totals.{total_from, Room, room-nothing, room-one, room-plus, total-start, amounts_next, amounts_none}
+use Rattle.rows_runs.specs.Totals.{amounts_at, run_total}
+use Rattle.rows_runs.proofs.Totals.{total_from, Room}
 use Rattle.rows_runs.proofs.total_run.Given as goal
 
 abbrev pub invariant-loop-k : goal.invariant-loop-k

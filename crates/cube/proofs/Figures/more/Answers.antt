@@ -1,6 +1,4 @@
 -- `cube::Figures::more` meets its contract: sums and extremes go their own ways.
-use mathlib.Core.Path.{◌≡◌}
-use borrow.Author.Rules.{rules}
 use Rattle.cube.proofs.Figures.more.Goals as goal
 
 pub returns : goal.returns

@@ -1,5 +1,4 @@
 -- `cube::Total::plus` meets its contract: within the bounds that it requires, both sums fit.
-use borrow.Author.Rules.{rules}
 use lib.IntN.{◌+ℤ◌}
 use mir.Syntax.{w64}
 use mir.Val.{SFits}
