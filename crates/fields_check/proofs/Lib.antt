@@ -1,2 +1,3 @@
 -- Laws that serve several functions.
 pub mod Summed
+pub mod CheckLaws

@@ -1,7 +1,8 @@
 -- Words summed one by one: what a loop over them keeps, modulo 2 ^ 32.
 use Rattle.std.proofs.Common.{◌≡◌, ℕ, ◌+◌, ◌*◌, ◌%◌, ◌^◌, ◌<◌, ◌≤◌, List, length, take, drop, sym, ap, ◌∙◌, arith, length-drop, drop-drop}
 use Rattle.fields_check.specs.Check.{words_sum, check_of}
-use Rattle.fields_check.specs.CheckLaws.{check_lt, check_cut}
+use Rattle.fields_check.specs.CheckLaws.{check_lt}
+use Rattle.fields_check.proofs.CheckLaws.{check_cut}
 use Rattle.fields.specs.Words.{words, word_at}
 use Rattle.fields.specs.WordsLaws.{words_cons, words_none}
 

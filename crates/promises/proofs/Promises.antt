@@ -17,7 +17,7 @@ use borrow.Author.Tests.{lt-ltb}
 use Rattle.lists.specs.Lists.{◌∈◌}
 use Rattle.lists.proofs.Members.{flat-same, flat-map}
 use Rattle.fields_check.specs.Check.{check_sum, check_of}
-use Rattle.fields_check.specs.CheckLaws.{check_sum_append, check_cut}
+use Rattle.fields_check.proofs.CheckLaws.{check_sum_append, check_cut}
 use Rattle.lattice.specs.Sets.{sets, holds}
 use Rattle.lattice.proofs.Sets.{sets_of}
 use Rattle.fields_walk.specs.Parsed.{got}

@@ -10,7 +10,7 @@ use Rattle.fields.specs.Words.{words, word_bytes, words_bytes}
 use Rattle.fields.specs.WordsLaws.{length_words_bytes, words_append}
 use Rattle.fields_sums.specs.Twos.{reading_bytes}
 use Rattle.fields_check.specs.Check.{words_sum, check_of}
-use Rattle.fields_check.specs.CheckLaws.{sum-append}
+use Rattle.fields_check.proofs.CheckLaws.{sum-append}
 use Rattle.fields_walk.specs.Fields.{header_bytes}
 use Rattle.fields_walk.proofs.Lengths.{length-header}
 use Rattle.cube.specs.declared.Total.{Total}
