@@ -1,7 +1,6 @@
 -- `fee_list::put_fee` meets its contract: the shares go over the front of an array.
 use mathlib.Core.Path.{sym}
 use lib.Seq.{length-take-le}
-use borrow.Author.Rules.{rules}
 use Rattle.fee_list.proofs.put_fee.Goals as goal
 
 pub slice_bounds-put_shares-end : goal.slice_bounds-put_shares-end

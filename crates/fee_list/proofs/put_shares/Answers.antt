@@ -4,7 +4,6 @@ use native.Mathlib.Omega.{arith}
 use lib.ListN.{length}
 use Rattle.fee_shares.proofs.Proportions.{shares-length}
 use Rattle.fee_list.proofs.Listed.{fee_is, fee_length}
-use borrow.Author.Rules.{rules}
 use Rattle.fee_list.proofs.put_shares.Goals as goal
 
 pub put_list-requires : goal.put_list-requires

@@ -1,11 +1,8 @@
 -- `fields_walk::check_codes` meets its contract: what is read from the present place on ends as what is read from the start.
-use Prim.Native.Nat.{◌-◌, ◌≤◌}
 use native.Mathlib.Omega.{arith}
 use borrow.Author.Rules.{rules}
-use lib.ListN.{length, drop}
-use Rattle.fields_walk.specs.Fields.{codes}
 use Rattle.fields_walk.proofs.Steps.{seen}
-use Rattle.fields_walk.proofs.Loops.{Follows, follows_self, codes_on, codes-off, codes-done}
+use Rattle.fields_walk.proofs.Loops.{follows_self, codes_on, codes-off, codes-done}
 use Rattle.fields_walk.proofs.check_codes.Goals as goal
 
 pub loop-i-init : goal.loop-i-init

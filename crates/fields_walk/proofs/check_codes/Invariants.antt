@@ -1,10 +1,7 @@
 use Prim.Native.Nat.{◌-◌, ◌≤◌}
-use native.Mathlib.Omega.{arith}
-use borrow.Author.Rules.{rules}
 use lib.ListN.{length, drop}
 use Rattle.fields_walk.specs.Fields.{codes}
-use Rattle.fields_walk.proofs.Steps.{seen}
-use Rattle.fields_walk.proofs.Loops.{Follows, follows_self, codes_on, codes-off, codes-done}
+use Rattle.fields_walk.proofs.Loops.{Follows}
 use Rattle.fields_walk.proofs.check_codes.Given as goal
 
 abbrev pub invariant-loop-i : goal.invariant-loop-i

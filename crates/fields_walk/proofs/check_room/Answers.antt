@@ -1,6 +1,5 @@
 -- `fields_walk::check_room` meets its contract: the bytes are there, or the input ends before the last of them.
 use native.Mathlib.Omega.{arith}
-use borrow.Author.Rules.{rules}
 use Rattle.fields_walk.proofs.Steps.{place_short, place-whole}
 use Rattle.fields_walk.proofs.check_room.Goals as goal
 

@@ -1,12 +1,9 @@
 -- `fields_walk::check_sizes` meets its contract: what is read from the present place on ends as what is read from the start.
-use Prim.Native.Nat.{◌-◌, ◌≤◌}
 use native.Mathlib.Omega.{arith}
 use native.Mathlib.Nat.{sub-zero}
-use borrow.Author.Rules.{rules}
-use lib.ListN.{length, drop}
-use Rattle.fields_walk.specs.Fields.{field, sizes}
+use Rattle.fields_walk.specs.Fields.{field}
 use Rattle.fields_walk.proofs.Steps.{seen}
-use Rattle.fields_walk.proofs.Loops.{Follows, follows_self, many_on, many-off, many-done}
+use Rattle.fields_walk.proofs.Loops.{follows_self, many_on, many-off, many-done}
 use Rattle.fields_walk.proofs.check_sizes.Goals as goal
 
 pub loop-i-init : goal.loop-i-init

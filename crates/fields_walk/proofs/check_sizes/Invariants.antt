@@ -1,11 +1,7 @@
 use Prim.Native.Nat.{◌-◌, ◌≤◌}
-use native.Mathlib.Omega.{arith}
-use native.Mathlib.Nat.{sub-zero}
-use borrow.Author.Rules.{rules}
 use lib.ListN.{length, drop}
-use Rattle.fields_walk.specs.Fields.{field, sizes}
-use Rattle.fields_walk.proofs.Steps.{seen}
-use Rattle.fields_walk.proofs.Loops.{Follows, follows_self, many_on, many-off, many-done}
+use Rattle.fields_walk.specs.Fields.{sizes}
+use Rattle.fields_walk.proofs.Loops.{Follows}
 use Rattle.fields_walk.proofs.check_sizes.Given as goal
 
 abbrev pub invariant-loop-i : goal.invariant-loop-i

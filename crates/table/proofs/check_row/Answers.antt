@@ -1,5 +1,4 @@
 -- `table::check_row` meets its contract: the codes, then four bytes of any value.
-use borrow.Author.Rules.{rules}
 use mathlib.Core.List.{List}
 use Prim.Native.Nat.{ℕ}
 use lib.ListN.{drop}

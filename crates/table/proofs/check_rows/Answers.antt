@@ -1,12 +1,8 @@
 -- `table::check_rows` meets its contract: what is read from the present place on ends as what is read from the start.
-use Prim.Native.Nat.{◌-◌, ◌≤◌}
 use native.Mathlib.Omega.{arith}
 use native.Mathlib.Nat.{sub-zero}
-use borrow.Author.Rules.{rules}
-use lib.ListN.{length, drop}
-use Rattle.fields_walk.specs.Parsed.{many}
 use Rattle.fields_walk.proofs.Steps.{seen}
-use Rattle.fields_walk.proofs.Loops.{Follows, follows_self, many_on, many-off, many-done}
+use Rattle.fields_walk.proofs.Loops.{follows_self, many_on, many-off, many-done}
 use Rattle.table.specs.Reading.{row}
 use Rattle.table.proofs.check_rows.Goals as goal
 

@@ -1,6 +1,5 @@
 -- `table::check_sized` meets its contract: the buffer has the words that stand behind D.
 use mathlib.Core.Path.{sym, ap}
-use borrow.Author.Rules.{rules}
 use mathlib.Core.List.{List}
 use Prim.Native.Nat.{ℕ}
 use lib.ListN.{drop}

@@ -6,7 +6,7 @@ use lib.ListN.{length, take}
 use lib.Seq.{length-take-le, take_at}
 use mir.Syntax.{w64}
 use mir.Facts.{to_z-of_z}
-use borrow.Author.Rules.{rules, sfits_of}
+use borrow.Author.Rules.{sfits_of}
 use Rattle.fields.specs.Words.{words_at}
 use Rattle.fields.specs.WordsLaws.{length_words_at}
 use Rattle.table.proofs.Accepted.{read}

@@ -2,7 +2,6 @@
 use mathlib.Core.Path.{sym}
 use Prim.Native.Nat.{◌*◌, ◌≤◌}
 use lib.Seq.{length-take-le}
-use borrow.Author.Rules.{rules}
 use Rattle.rows.proofs.Rows.{rows_small}
 use Rattle.rows.specs.Rows.{width}
 use Rattle.table_rows.proofs.fold_table.Goals as goal

@@ -1,12 +1,11 @@
 -- `table_rows::store_rows` meets its contract: the rows that are stored and those left are the table's.
-use mathlib.Core.Path.{◌≡◌, refl, ◌∙◌}
-use Prim.Native.Nat.{◌+◌, ◌-◌, ◌*◌, ◌≤◌}
+use mathlib.Core.Path.{refl, ◌∙◌}
+use Prim.Native.Nat.{◌+◌, ◌*◌, ◌≤◌}
 use native.Mathlib.Omega.{arith}
-use borrow.Author.Rules.{rules}
 use lib.ListN.{length}
 use Rattle.rows.specs.Rows.{width}
 use Rattle.rows.proofs.Rows.{row_within}
-use Rattle.table_rows.proofs.Storing.{Turn, turn-start, turn-room, turn_on, turn-done}
+use Rattle.table_rows.proofs.Storing.{turn-start, turn-room, turn_on, turn-done}
 use Rattle.table_rows.proofs.store_rows.Goals as goal
 use Rattle.table_rows.proofs.store_rows.Goals.{In-loop-i}
 

@@ -1,11 +1,7 @@
-use mathlib.Core.Path.{◌≡◌, refl, ◌∙◌}
-use Prim.Native.Nat.{◌+◌, ◌-◌, ◌*◌, ◌≤◌}
-use native.Mathlib.Omega.{arith}
-use borrow.Author.Rules.{rules}
+use mathlib.Core.Path.{◌≡◌}
+use Prim.Native.Nat.{◌-◌}
 use lib.ListN.{length}
-use Rattle.rows.specs.Rows.{width}
-use Rattle.rows.proofs.Rows.{row_within}
-use Rattle.table_rows.proofs.Storing.{Turn, turn-start, turn-room, turn_on, turn-done}
+use Rattle.table_rows.proofs.Storing.{Turn}
 use Rattle.table_rows.proofs.store_rows.Given as goal
 
 abbrev pub invariant-loop-i : goal.invariant-loop-i

@@ -1,9 +1,6 @@
 -- `text_lines::put_codes` meets its contract. The invariant: the codes from word i on are left to write.
-use mathlib.Core.List.{flat_map}
-use Prim.Native.Nat.{◌+◌, ◌*◌, ◌-◌, ◌≤◌}
+use Prim.Native.Nat.{◌+◌, ◌≤◌}
 use lib.ListN.{length}
-use Rattle.fields.specs.Words.{words_at}
-use Rattle.archive_cells.specs.Writing.{Writing}
 use Rattle.text_lines.specs.Lines.{code_text}
 use Rattle.text_lines.proofs.Words.{texts_none, texts_room, texts_more, texts_done}
 use borrow.Author.Rules.{rules}

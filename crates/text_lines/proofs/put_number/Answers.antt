@@ -1,6 +1,5 @@
 -- `text_lines::put_number` meets its contract: a number, then the character behind it.
 use Rattle.fields.specs.WrittenLaws.{wrote_then}
-use borrow.Author.Rules.{rules}
 use Rattle.text_lines.proofs.put_number.Goals as goal
 
 pub returns : goal.returns

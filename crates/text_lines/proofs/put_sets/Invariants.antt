@@ -1,11 +1,8 @@
 use mathlib.Core.List.{flat_map}
 use Prim.Native.Nat.{◌+◌, ◌*◌, ◌-◌, ◌≤◌}
-use lib.ListN.{length}
 use Rattle.fields.specs.Words.{words_at}
 use Rattle.archive_cells.specs.Writing.{Writing}
 use Rattle.text_lines.specs.Lines.{set_text}
-use Rattle.text_lines.proofs.Words.{texts_none, texts_room, texts_more, texts_done}
-use borrow.Author.Rules.{rules}
 use Rattle.text_lines.proofs.put_sets.Given as goal
 
 abbrev pub invariant-loop-i : goal.invariant-loop-i

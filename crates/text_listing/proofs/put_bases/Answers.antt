@@ -1,6 +1,6 @@
 -- `text_listing::put_bases` meets its contract: the base entries that are left stand from the place on, and all lines but theirs are written.
 use mathlib.Core.List.{List}
-use Prim.Native.Nat.{ℕ, ◌+◌, ◌-◌, ◌*◌, ◌≤◌}
+use Prim.Native.Nat.{ℕ, ◌+◌, ◌*◌, ◌≤◌}
 use native.Mathlib.Omega.{arith}
 use borrow.Author.Rules.{rules}
 use lib.ListN.{length, length-take, length-drop}
@@ -8,12 +8,10 @@ use Rattle.fields_walk.specs.Limits.{Bytes}
 use Rattle.fields_walk.proofs.Limits.{bytes_of}
 use Rattle.archive_entries.specs.Layout.{base_bytes}
 use Rattle.archive_entries.specs.Places.{base_there, width_there}
-use Rattle.archive_entries.specs.Reading.{read_archive}
 use Rattle.text_lines.specs.Lines.{base_text}
-use Rattle.text_listing.specs.Listing.{held_by}
 use Rattle.text_listing.proofs.Fits.{BaseFits}
 use Rattle.text_listing.proofs.Read.{base_reads}
-use Rattle.text_listing.proofs.Turns.{Turn, turn-done, thing_whole, thing_room, turn_on}
+use Rattle.text_listing.proofs.Turns.{turn-done, thing_whole, thing_room, turn_on}
 use Rattle.text_listing.proofs.Places.{bases-start, whole}
 use Rattle.text_listing.proofs.put_bases.Goals as goal
 use Rattle.text_listing.proofs.put_bases.Goals.{In-loop-i}

@@ -1,19 +1,10 @@
-use mathlib.Core.List.{List}
-use Prim.Native.Nat.{ℕ, ◌+◌, ◌-◌, ◌*◌, ◌≤◌}
-use native.Mathlib.Omega.{arith}
-use borrow.Author.Rules.{rules}
-use lib.ListN.{length, length-take, length-drop}
-use Rattle.fields_walk.specs.Limits.{Bytes}
-use Rattle.fields_walk.proofs.Limits.{bytes_of}
+use Prim.Native.Nat.{◌-◌}
 use Rattle.archive_entries.specs.Layout.{base_bytes}
-use Rattle.archive_entries.specs.Places.{base_there, width_there}
 use Rattle.archive_entries.specs.Reading.{read_archive}
 use Rattle.text_lines.specs.Lines.{base_text}
 use Rattle.text_listing.specs.Listing.{held_by}
 use Rattle.text_listing.proofs.Fits.{BaseFits}
-use Rattle.text_listing.proofs.Read.{base_reads}
-use Rattle.text_listing.proofs.Turns.{Turn, turn-done, thing_whole, thing_room, turn_on}
-use Rattle.text_listing.proofs.Places.{bases-start, whole}
+use Rattle.text_listing.proofs.Turns.{Turn}
 use Rattle.text_listing.proofs.put_bases.Given as goal
 
 abbrev pub invariant-loop-i : goal.invariant-loop-i

@@ -1,7 +1,7 @@
 -- `text_listing::put_cells` meets its contract: the normal entries that are left stand from the place on, and all lines but theirs are written.
 use mathlib.Core.Path.{refl}
 use mathlib.Core.List.{List}
-use Prim.Native.Nat.{ℕ, ◌+◌, ◌-◌, ◌*◌, ◌≤◌}
+use Prim.Native.Nat.{ℕ, ◌+◌, ◌*◌, ◌≤◌}
 use native.Mathlib.Omega.{arith}
 use borrow.Author.Rules.{rules}
 use lib.ListN.{length, length-take, length-drop}
@@ -9,12 +9,10 @@ use Rattle.fields_walk.specs.Limits.{Bytes}
 use Rattle.fields_walk.proofs.Limits.{bytes_of}
 use Rattle.archive_entries.specs.Layout.{cell_bytes}
 use Rattle.archive_entries.specs.Places.{row_there}
-use Rattle.archive_entries.specs.Reading.{read_archive}
 use Rattle.text_lines.specs.Lines.{cell_text}
-use Rattle.text_listing.specs.Listing.{held_by}
 use Rattle.text_listing.proofs.Fits.{RowFits}
 use Rattle.text_listing.proofs.Read.{cell_reads}
-use Rattle.text_listing.proofs.Turns.{Turn, turn-done, thing_whole, thing_room, turn_on}
+use Rattle.text_listing.proofs.Turns.{turn-done, thing_whole, thing_room, turn_on}
 use Rattle.text_listing.proofs.Places.{cells-start, whole}
 use Rattle.text_listing.proofs.put_cells.Goals as goal
 use Rattle.text_listing.proofs.put_cells.Goals.{In-loop-i}
