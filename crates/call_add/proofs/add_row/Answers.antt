@@ -24,23 +24,15 @@ use Rattle.call_add.proofs.add_row.Goals.{After-put_row, Else-not-codes_fit}
 widened : (z : ℤ) → SFits w32 z → ◌≡◌ {A = Total} (record { sum = to_z w64 (of_z w64 (to_z w32 (of_z w32 z))); count = 1 }) (record { sum = z; count = 1 })
 widened z f = ap (λ (y : ℤ). record { sum = y; count = 1 }) (ap (λ (y : ℤ). to_z w64 (of_z w64 y)) (to_z-of_z {w = w32} f) ∙ to_z-of_z {w = w64} (record { sfits = omega (arith, f.sfits) }))
 
--- the codes are a row's
-fit : (c : goal.Else-not-codes_fit) → true ≡ coded c.args.sizes.now c.args.codes.now
-fit c = sym (not-false _ c.if-not-codes_fit.false) ∙ c.codes_fit.ensures
-
 small : (c : goal.Else-not-codes_fit) → width (length c.args.codes.now) ≤ 11
-small c = record_small c.requires.0 c.args.codes.now c.args.reading c.ranges.reading.sfits (fit c)
-
--- the array has the length that it had
-room : (c : goal.After-put_row) → 11 ≤ length c.put_row.new.cells
-room c = search rules
+small c = record_small c.requires.0 c.args.codes.now c.args.reading c.ranges.reading.sfits (sym c.if-not-codes_fit.false ∙ c.codes_fit.ensures)
 
 -- the record in the front of the array
 stored : (c : goal.After-put_row) → (let a = c.args in Store a.sizes.now 1 (take (width (length a.codes.now)) c.put_row.new.cells))
-stored c = record_store c.requires.0 c.args.codes.now c.args.reading c.ranges.reading.sfits (fit (PLACE c Else-not-codes_fit)) _ c.put_row.new.cells (room c) (widened c.args.reading c.ranges.reading) c.put_row.ensures
+stored c = record_store c.requires.0 c.args.codes.now c.args.reading c.ranges.reading.sfits (sym c.if-not-codes_fit.false ∙ c.codes_fit.ensures) _ c.put_row.new.cells (search rules) (widened c.args.reading c.ranges.reading) c.put_row.ensures
 
 pub returns-then-not-codes_fit : goal.returns-then-not-codes_fit
-returns-then-not-codes_fit c = let a = c.args in stopped a.out.now (added_stopped a.sizes.now (rows_of (length a.sizes.now) a.n a.rows.now) a.codes.now a.reading (sym (not-true _ c.if-not-codes_fit.true) ∙ c.codes_fit.ensures))
+returns-then-not-codes_fit c = let a = c.args in stopped a.out.now (added_stopped a.sizes.now (rows_of (length a.sizes.now) a.n a.rows.now) a.codes.now a.reading (sym c.if-not-codes_fit.true ∙ c.codes_fit.ensures))
 
 pub overflow_cast-sum : goal.overflow_cast-sum
 overflow_cast-sum c = rw (to_z-of_z {w = w32} {z = c.args.reading} c.ranges.reading) (record { sfits = omega (arith, c.ranges.reading.sfits) })
@@ -49,13 +41,13 @@ pub put_row-requires : goal.put_row-requires
 put_row-requires c = omega (arith, small (goal.at.put_row-requires c).Else-not-codes_fit)
 
 pub slice_bounds-late-end : goal.slice_bounds-late-end
-slice_bounds-late-end c = omega (arith, small (goal.at.slice_bounds-late-end c).Else-not-codes_fit, room (goal.at.slice_bounds-late-end c).After-put_row)
+slice_bounds-late-end c = let room : 11 ≤ length c.put_row.new.cells = search rules in omega (arith, small (goal.at.slice_bounds-late-end c).Else-not-codes_fit, room)
 
 pub slice_bounds-join_rows-end : goal.slice_bounds-join_rows-end
-slice_bounds-join_rows-end c = sym (length-take-le (width (length c.args.codes.now)) c.put_row.new.cells (omega (arith, small (goal.at.slice_bounds-join_rows-end c).Else-not-codes_fit, room (goal.at.slice_bounds-join_rows-end c).After-put_row)))
+slice_bounds-join_rows-end c = let room : 11 ≤ length c.put_row.new.cells = search rules in sym (length-take-le (width (length c.args.codes.now)) c.put_row.new.cells (omega (arith, small (goal.at.slice_bounds-join_rows-end c).Else-not-codes_fit, room)))
 
 pub join_rows-requires : goal.join_rows-requires
 join_rows-requires c = (c.requires.0, stored (goal.at.join_rows-requires c).After-put_row, search rules)
 
 pub returns : goal.returns
-returns c = answered_as (added-filed c.requires.0 c.args.codes.now c.args.reading c.ranges.reading.sfits (fit (goal.at.returns c).Else-not-codes_fit) _ c.put_row.new.cells (room (goal.at.returns c).After-put_row) (widened c.args.reading c.ranges.reading) c.put_row.ensures) c.join_rows.ensures
+returns c = answered_as (added-filed c.requires.0 c.args.codes.now c.args.reading c.ranges.reading.sfits (sym c.if-not-codes_fit.false ∙ c.codes_fit.ensures) _ c.put_row.new.cells (search rules) (widened c.args.reading c.ranges.reading) c.put_row.ensures) c.join_rows.ensures

@@ -15,12 +15,11 @@ use borrow.Author.Rules.{rules}
 use Rattle.call_add.proofs.add_sized.Goals as goal
 
 pub add_row-requires : goal.add_row-requires
-add_row-requires c = let s = c.before.before.before.before.before.before.before.before.before.before.before.before.before in (subst (λ (zs : List ℕ). Store zs s.args.n s.args.rows.now) (sym c.read_words.ensures) s.requires.1, search rules)
+add_row-requires c = (subst (λ (zs : List ℕ). Store zs c.args.n c.args.rows.now) (sym c.read_words.ensures) c.requires.1, search rules)
 
 pub returns : goal.returns
 returns c =
-    let s = c.before.before.before.before.before.before.before.before.before.before.before.before.before.before.before.before.before.before in
-    let a = s.args in
+    let a = c.args in
     let zs = words_at a.archive.now (length a.sizes.now) 8 in
     answered_as (ap (λ (d : ℕ). added zs (rows_of d a.n a.rows.now) a.codes.now a.reading) (sym (length_words_at a.archive.now (length a.sizes.now) 8))
-    ∙ ap₂ (λ (zs : List ℕ) (z : ℤ). added zs (rows_of (length zs) a.n a.rows.now) a.codes.now z) (sym c.read_words.ensures) (sym (same-reading s.ranges.reading))) c.add_row.ensures
+    ∙ ap₂ (λ (zs : List ℕ) (z : ℤ). added zs (rows_of (length zs) a.n a.rows.now) a.codes.now z) (sym c.read_words.ensures) (sym (same-reading c.ranges.reading))) c.add_row.ensures

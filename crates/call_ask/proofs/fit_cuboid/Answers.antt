@@ -5,7 +5,7 @@ use borrow.Author.Rules.{rules}
 use Rattle.call_ask.proofs.fit_cuboid.Goals as goal
 
 pub returns-then-out-needed : goal.returns-then-out-needed
-returns-then-out-needed c = fitted_short refl c.write_cuboid-needed.ensures c.out-1.given c.if-out-needed.true
+returns-then-out-needed c = fitted_short refl c.write_cuboid-needed.ensures (search rules) c.if-out-needed.true
 
 pub returns : goal.returns
-returns c = fitted_done refl c.write_cuboid-needed.ensures c.out-1.given c.if-out-needed.false
+returns c = fitted_done refl c.write_cuboid-needed.ensures (search rules) c.if-out-needed.false

@@ -6,25 +6,21 @@ use Rattle.call_ask.proofs.Opened.{OpenedIn, opened, opened_small}
 use Rattle.call_ask.proofs.Outcomes.{list_stopped, list-bytes}
 use borrow.Author.Rules.{rules}
 use Rattle.call_ask.proofs.list_read.Goals as goal
-use Rattle.call_ask.proofs.list_read.Goals.{After-shared_slice_known-1, Start, ready}
-
-rows_in_lem : (c : goal.After-shared_slice_known-1) → (let a = c.args in OpenedIn a.s.now a.dims a.bases a.cells a.rows.now)
-rows_in_lem c = opened (bytes_of c.args.s.now (λ i. omega (arith, c.type_inv.s i))) c.requires
 
 pub sets_of-requires : goal.sets_of-requires
-sets_of-requires c = (rows_in_lem (goal.at.sets_of-requires c).After-shared_slice_known-1).ready.dims
+sets_of-requires c = (opened (bytes_of c.args.s.now (λ i. omega (arith, c.type_inv.s i))) c.requires).ready.dims
 
 pub returns-then-sets_of-set : goal.returns-then-sets_of-set
-returns-then-sets_of-set c = stopped c.args.out.now (list_stopped (rows_in_lem (goal.at.returns-then-sets_of-set c).After-shared_slice_known-1) (omega (arith, c.if-sets_of-set.true, c.sets_of.ensures)))
+returns-then-sets_of-set c = stopped c.args.out.now (list_stopped (opened (bytes_of c.args.s.now (λ i. omega (arith, c.type_inv.s i))) c.requires) (omega (arith, c.if-sets_of-set.true, c.sets_of.ensures)))
 
 pub overflow_mul-size : goal.overflow_mul-size
-overflow_mul-size c = omega (arith, opened_small (rows_in_lem (goal.at.overflow_mul-size c).After-shared_slice_known-1))
+overflow_mul-size c = omega (arith, opened_small (opened (bytes_of c.args.s.now (λ i. omega (arith, c.type_inv.s i))) c.requires))
 
 pub slice_bounds-fit_cuboid-end : goal.slice_bounds-fit_cuboid-end
-slice_bounds-fit_cuboid-end c = (rows_in_lem (goal.at.slice_bounds-fit_cuboid-end c).Start).ready.size
+slice_bounds-fit_cuboid-end c = (opened (bytes_of c.args.s.now (λ i. omega (arith, c.type_inv.s i))) c.requires).ready.size
 
 pub fit_cuboid-requires : goal.fit_cuboid-requires
-fit_cuboid-requires c = (rows_in_lem (goal.at.fit_cuboid-requires c).Start).ready
+fit_cuboid-requires c = (opened (bytes_of c.args.s.now (λ i. omega (arith, c.type_inv.s i))) c.requires).ready
 
 pub returns : goal.returns
-returns c = answered_as (list-bytes (rows_in_lem (goal.at.returns c).Start) (omega (arith, c.if-sets_of-set.false, c.sets_of.ensures))) c.fit_cuboid.ensures
+returns c = answered_as (list-bytes (opened (bytes_of c.args.s.now (λ i. omega (arith, c.type_inv.s i))) c.requires) (omega (arith, c.if-sets_of-set.false, c.sets_of.ensures))) c.fit_cuboid.ensures

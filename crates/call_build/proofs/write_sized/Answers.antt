@@ -12,11 +12,11 @@ use Rattle.call_answers.specs.Answers.{bytes}
 use Rattle.call_answers.proofs.Answers.{answered_as}
 use borrow.Author.Rules.{rules}
 use Rattle.call_build.proofs.write_sized.Goals as goal
-use Rattle.call_build.proofs.write_sized.Goals.{After-read_words-arg-1}
+use Rattle.call_build.proofs.write_sized.Goals.{After-read_words}
 
 -- the buffer, filled
-abbrev sizes : tie.After-read-words → List ℕ
-sizes c = c.read-words.new.1.1.0
+abbrev sizes : goal.After-read_words → List ℕ
+sizes c = c.read_words.new.out
 
 long : (c : goal.After-read_words) → length c.args.sizes.now ≡ length (sizes c)
 long c = sym (ap length c.read_words.ensures ∙ length_words_at c.args.s.now (length c.args.sizes.now) _)
@@ -31,13 +31,12 @@ same-archive c = let a = c.args in
 pub fit_archive-requires : goal.fit_archive-requires
 fit_archive-requires c =
     let a = c.args in
-    let p = c.requires in
-    (
-      subst (λ (d : ℕ). Ready d a.n a.rows.now) (long (goal.at.fit_archive-requires c).After-read_words-arg-1) p.sizes_in_bounds.1,
-      subst (λ (d : ℕ). Limits (sizes (goal.at.fit_archive-requires c).After-read_words-arg-1) (rows_of d a.n a.rows.now)) (long (goal.at.fit_archive-requires c).After-read_words-arg-1)
+    let p = c.requires in (
+      subst (λ (d : ℕ). Ready d a.n a.rows.now) (long (goal.at.fit_archive-requires c).After-read_words) p.sizes_in_bounds.1,
+      subst (λ (d : ℕ). Limits (sizes (goal.at.fit_archive-requires c).After-read_words) (rows_of d a.n a.rows.now)) (long (goal.at.fit_archive-requires c).After-read_words)
           (subst (λ (zs : List ℕ). Limits zs (rows_of (length a.sizes.now) a.n a.rows.now)) (sym c.read_words.ensures) p.limits),
       p.sizes_in_bounds.2,
     )
 
 pub returns : goal.returns
-returns c = answered_as (same-archive (goal.at.returns c).After-read_words-arg-1) c.fit_archive.ensures
+returns c = answered_as (same-archive (goal.at.returns c).After-read_words) c.fit_archive.ensures

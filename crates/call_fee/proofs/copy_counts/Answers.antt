@@ -21,7 +21,7 @@ loop-i-preserved c =
     let a = c.args in
     let l = c.loop-i in
     let h = c.loop-i-test.true in
-    (search rules, length-set l.counts l.i _ ∙ l.invariant.1, counts-more a.dims a.n l.i a.rows.now l.counts h (slice-write-counts c) c.total_at-total.ensures l.invariant.2)
+    (search rules, length-set l.counts l.i _ ∙ l.invariant.1, counts-more a.dims a.n l.i a.rows.now l.counts h (omega (arith, c.loop-i-test.true, c.loop-i.invariant.1, c.requires.1)) c.total_at-total.ensures l.invariant.2)
 
 pub shape_of-counts : goal.shape_of-counts
 shape_of-counts c = c.loop-i.invariant.1

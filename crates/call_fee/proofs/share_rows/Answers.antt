@@ -18,7 +18,7 @@ use Rattle.call_fee.proofs.share_rows.Goals as goal
 use Rattle.call_fee.proofs.share_rows.Goals.{After-cell_counts-count}
 
 -- the counts are in the front of the array
-front : (c : goal.After-cell_counts-count) → c.cell_counts-count.result ≤ length c.cell_counts-count.new.1.1.1.1.0
+front : (c : goal.After-cell_counts-count) → c.cell_counts-count.result ≤ length c.cell_counts-count.new.tallies
 front c = search rules
 
 pub cell_counts-count-requires : goal.cell_counts-count-requires
@@ -37,9 +37,9 @@ fit_fee-requires c =
     let p = c.requires in
     let e = c.cell_counts-count.ensures in
     let rows = rows_of a.dims a.n a.rows.now in
-    let t : sum (take c.cell_counts-count.result c.cell_counts-count.new.1.1.1.1.0) ≡ _ = ap sum e.0 ∙ weights-total a.dims rows p.0.table (sets_of a.dims p.1) in (
+    let t : sum (take c.cell_counts-count.result c.cell_counts-count.new.tallies) ≡ _ = ap sum e.0 ∙ weights-total a.dims rows p.0.table (sets_of a.dims p.1) in (
       p.2,
-      omega (arith, slice-aggregate-fit-fee c, e.1, p.0.few),
+      omega (arith, length-take-le c.cell_counts-count.result c.cell_counts-count.new.tallies (front (goal.at.fit_fee-requires c).After-cell_counts-count), e.1, p.0.few),
       omega (arith, t, p.3),
       omega (arith, t, p.0.summable.few),
     )

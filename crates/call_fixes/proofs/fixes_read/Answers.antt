@@ -17,17 +17,7 @@ use Rattle.call_keys.proofs.Bare.{bare-key}
 use Rattle.call_keys.proofs.Outcomes.{laid, shared_in}
 use borrow.Author.Rules.{rules}
 use Rattle.call_fixes.proofs.fixes_read.Goals as goal
-use Rattle.call_fixes.proofs.fixes_read.Goals.{After-rows_fix, After-sets_of, After-shared_slice_known-1, Else-sets_of-set, Start, ready, sets}
-
-rows_in_lem : (c : goal.After-shared_slice_known-1) → (let a = c.args in OpenedIn a.s.now a.dims a.bases a.cells a.rows.now)
-rows_in_lem c = opened (bytes_of c.args.s.now (λ i. omega (arith, c.type_inv.s i))) c.requires.0
-
-sharing : (c : goal.After-shared_slice_known-1) → (let a = c.args in Sharing a.dims a.bases (take (a.bases * width a.dims) a.rows.now) a.used.now)
-sharing c = let a = c.args in shared_in (rows_in_lem c) a.rows.now a.used.now refl c.requires.1
-
--- the set is one of the archive's
-known : (c : goal.Else-sets_of-set) → c.args.set < 2 ^ c.args.dims
-known c = omega (arith, c.if-sets_of-set.false, c.sets_of.ensures)
+use Rattle.call_fixes.proofs.fixes_read.Goals.{After-rows_fix}
 
 -- what the rows tell, of the dimension
 told : (c : goal.After-rows_fix) → (let a = c.args in
@@ -37,44 +27,44 @@ told c =
     c.rows_fix.ensures ∙ ap (λ (t : ℕ). fixes (plain a.dims) (cut a.dims a.bases (take (a.bases * width a.dims) a.rows.now)) a.set t) c.sets_of-fixed.ensures
 
 pub sets_of-requires : goal.sets_of-requires
-sets_of-requires c = (rows_in_lem (goal.at.sets_of-requires c).After-shared_slice_known-1).ready.dims
+sets_of-requires c = (opened (bytes_of c.args.s.now (λ i. omega (arith, c.type_inv.s i))) c.requires.0).ready.dims
 
 pub returns-then-sets_of-set : goal.returns-then-sets_of-set
-returns-then-sets_of-set c = fixes_no_set (rows_in_lem (goal.at.returns-then-sets_of-set c).After-shared_slice_known-1) c.args.dimension (omega (arith, c.if-sets_of-set.true, c.sets_of.ensures))
+returns-then-sets_of-set c = fixes_no_set (opened (bytes_of c.args.s.now (λ i. omega (arith, c.type_inv.s i))) c.requires.0) c.args.dimension (omega (arith, c.if-sets_of-set.true, c.sets_of.ensures))
 
 pub returns-then-dimension-eq0 : goal.returns-then-dimension-eq0
-returns-then-dimension-eq0 c = fixes_zero (rows_in_lem (goal.at.returns-then-dimension-eq0 c).After-shared_slice_known-1) (known (goal.at.returns-then-dimension-eq0 c).Else-sets_of-set) c.if-dimension-eq0.true
+returns-then-dimension-eq0 c = fixes_zero (opened (bytes_of c.args.s.now (λ i. omega (arith, c.type_inv.s i))) c.requires.0) (omega (arith, c.if-sets_of-set.false, c.sets_of.ensures)) c.if-dimension-eq0.true
 
 pub returns-then-dims-dimension : goal.returns-then-dims-dimension
-returns-then-dims-dimension c = fixes-high (rows_in_lem (goal.at.returns-then-dims-dimension c).After-shared_slice_known-1) (known (goal.at.returns-then-dims-dimension c).Else-sets_of-set) c.if-dims-dimension.true
+returns-then-dims-dimension c = fixes-high (opened (bytes_of c.args.s.now (λ i. omega (arith, c.type_inv.s i))) c.requires.0) (omega (arith, c.if-sets_of-set.false, c.sets_of.ensures)) c.if-dims-dimension.true
 
 pub is_bare-requires : goal.is_bare-requires
-is_bare-requires c = ((rows_in_lem (goal.at.is_bare-requires c).After-shared_slice_known-1).ready.dims, (sharing (goal.at.is_bare-requires c).After-shared_slice_known-1).sets, known (goal.at.is_bare-requires c).Else-sets_of-set)
+is_bare-requires c = ((opened (bytes_of c.args.s.now (λ i. omega (arith, c.type_inv.s i))) c.requires.0).ready.dims, (shared_in (opened (bytes_of c.args.s.now (λ i. omega (arith, c.type_inv.s i))) c.requires.0) c.args.rows.now c.args.used.now refl c.requires.1).sets, omega (arith, c.if-sets_of-set.false, c.sets_of.ensures))
 
 -- a key
 pub returns-then-is_bare : goal.returns-then-is_bare
 returns-then-is_bare c =
     let a = c.args in
-    let o = rows_in_lem (goal.at.returns-then-is_bare c).After-shared_slice_known-1 in
+    let o = opened (bytes_of c.args.s.now (λ i. omega (arith, c.type_inv.s i))) c.requires.0 in
     let l = laid o in
-    let key = sym (bare-key l (sharing (goal.at.returns-then-is_bare c).After-shared_slice_known-1) (sets_of a.dims (known (goal.at.returns-then-is_bare c).Else-sets_of-set))) ∙ sym c.is_bare.ensures ∙ c.if-is_bare.true in
-    fixes-told o (known (goal.at.returns-then-is_bare c).Else-sets_of-set) c.if-dimension-eq0.false c.if-dims-dimension.false {b = true}
+    let key = sym (bare-key l (shared_in (opened (bytes_of c.args.s.now (λ i. omega (arith, c.type_inv.s i))) c.requires.0) c.args.rows.now c.args.used.now refl c.requires.1) (sets_of a.dims (omega (arith, c.if-sets_of-set.false, c.sets_of.ensures)))) ∙ sym c.is_bare.ensures ∙ c.if-is_bare.true in
+    fixes-told o (omega (arith, c.if-sets_of-set.false, c.sets_of.ensures)) c.if-dimension-eq0.false c.if-dims-dimension.false {b = true}
     (sym ((key-fixes a.dims (cut a.dims a.bases (take (a.bases * width a.dims) a.rows.now)) l.base.valid a.set).0 key a.dimension (omega (arith, c.if-dimension-eq0.false)) c.if-dims-dimension.false))
 
 pub overflow_mul-size : goal.overflow_mul-size
-overflow_mul-size c = omega (arith, opened_small (rows_in_lem (goal.at.overflow_mul-size c).After-shared_slice_known-1))
+overflow_mul-size c = omega (arith, opened_small (opened (bytes_of c.args.s.now (λ i. omega (arith, c.type_inv.s i))) c.requires.0))
 
 pub sets_of-fixed-requires : goal.sets_of-fixed-requires
-sets_of-fixed-requires c = omega (arith, c.if-dims-dimension.false, (rows_in_lem (goal.at.sets_of-fixed-requires c).After-shared_slice_known-1).ready.dims)
+sets_of-fixed-requires c = omega (arith, c.if-dims-dimension.false, (opened (bytes_of c.args.s.now (λ i. omega (arith, c.type_inv.s i))) c.requires.0).ready.dims)
 
 pub slice_bounds-rows_fix-end : goal.slice_bounds-rows_fix-end
-slice_bounds-rows_fix-end c = (rows_in_lem (goal.at.slice_bounds-rows_fix-end c).Start).ready.size
+slice_bounds-rows_fix-end c = (opened (bytes_of c.args.s.now (λ i. omega (arith, c.type_inv.s i))) c.requires.0).ready.size
 
 pub rows_fix-requires : goal.rows_fix-requires
-rows_fix-requires c = laid (rows_in_lem (goal.at.rows_fix-requires c).Start)
+rows_fix-requires c = laid (opened (bytes_of c.args.s.now (λ i. omega (arith, c.type_inv.s i))) c.requires.0)
 
 pub returns-then-rows_fix : goal.returns-then-rows_fix
-returns-then-rows_fix c = fixes-told (rows_in_lem (goal.at.returns-then-rows_fix c).Start) (known (goal.at.returns-then-rows_fix c).After-sets_of) c.if-dimension-eq0.false c.if-dims-dimension.false {b = true} (sym c.if-rows_fix.true ∙ told (goal.at.returns-then-rows_fix c).After-rows_fix)
+returns-then-rows_fix c = fixes-told (opened (bytes_of c.args.s.now (λ i. omega (arith, c.type_inv.s i))) c.requires.0) (omega (arith, c.if-sets_of-set.false, c.sets_of.ensures)) c.if-dimension-eq0.false c.if-dims-dimension.false {b = true} (sym c.if-rows_fix.true ∙ told (goal.at.returns-then-rows_fix c).After-rows_fix)
 
 pub returns-else-rows_fix : goal.returns-else-rows_fix
-returns-else-rows_fix c = fixes-told (rows_in_lem (goal.at.returns-else-rows_fix c).Start) (known (goal.at.returns-else-rows_fix c).After-sets_of) c.if-dimension-eq0.false c.if-dims-dimension.false {b = false} (sym c.if-rows_fix.false ∙ told (goal.at.returns-else-rows_fix c).After-rows_fix)
+returns-else-rows_fix c = fixes-told (opened (bytes_of c.args.s.now (λ i. omega (arith, c.type_inv.s i))) c.requires.0) (omega (arith, c.if-sets_of-set.false, c.sets_of.ensures)) c.if-dimension-eq0.false c.if-dims-dimension.false {b = false} (sym c.if-rows_fix.false ∙ told (goal.at.returns-else-rows_fix c).After-rows_fix)

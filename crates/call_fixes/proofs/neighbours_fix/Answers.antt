@@ -31,12 +31,12 @@ pair_fixes-requires c =
     (x.size, indexed_below x (k - 1) (omega (arith, c.loop-k-test.true)), indexed_below x k c.loop-k-test.true)
 
 pub returns-then-not-pair_fixes : goal.returns-then-not-pair_fixes
-returns-then-not-pair_fixes c = sym (fixed_off c.order_rows.ensures c.args.fixed c.loop-k.invariant.0 c.loop-k-test.true (sym c.pair_fixes.ensures ∙ not-true _ c.if-not-pair_fixes.true))
+returns-then-not-pair_fixes c = sym (fixed_off c.order_rows.ensures c.args.fixed c.loop-k.invariant.0 c.loop-k-test.true (sym c.pair_fixes.ensures ∙ c.if-not-pair_fixes.true))
 
 pub loop-k-preserved : goal.loop-k-preserved
 loop-k-preserved c =
     let l = c.loop-k in
-    (search rules, fixed_on c.order_rows.ensures c.args.fixed l.invariant.1 l.invariant.0 c.loop-k-test.true (sym c.pair_fixes.ensures ∙ not-false _ c.if-not-pair_fixes.false))
+    (search rules, fixed_on c.order_rows.ensures c.args.fixed l.invariant.1 l.invariant.0 c.loop-k-test.true (sym c.pair_fixes.ensures ∙ c.if-not-pair_fixes.false))
 
 pub returns : goal.returns
 returns c = sym (fixed_all c.order_rows.ensures c.args.fixed c.loop-k.invariant.1 c.loop-k-test.false)

@@ -16,10 +16,10 @@ compared c = let a = c.args in ap₂ (follows a.set a.fixed) (sym c.row_of-mine.
 pub returns-then-not-agrees : goal.returns-then-not-agrees
 returns-then-not-agrees c =
     let a = c.args in
-    sym (compared (goal.at.returns-then-not-agrees c).After-row_of-other ∙ follows-apart a.set a.fixed c.row_of-mine.result.now c.row_of-other.result.now (sym c.agrees.ensures ∙ not-true _ c.if-not-agrees.true))
+    sym (compared (goal.at.returns-then-not-agrees c).After-row_of-other ∙ follows-apart a.set a.fixed c.row_of-mine.result.now c.row_of-other.result.now (sym c.agrees.ensures ∙ c.if-not-agrees.true))
 
 pub returns : goal.returns
 returns c =
     let a = c.args in
     c.agrees-2.ensures
-    ∙ sym (compared (goal.at.returns c).After-row_of-other ∙ follows_as a.set a.fixed c.row_of-mine.result.now c.row_of-other.result.now (sym c.agrees.ensures ∙ not-false _ c.if-not-agrees.false))
+    ∙ sym (compared (goal.at.returns c).After-row_of-other ∙ follows_as a.set a.fixed c.row_of-mine.result.now c.row_of-other.result.now (sym c.agrees.ensures ∙ c.if-not-agrees.false))

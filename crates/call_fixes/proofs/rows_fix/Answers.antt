@@ -8,4 +8,4 @@ pub slice_bounds-neighbours_fix-end : goal.slice_bounds-neighbours_fix-end
 slice_bounds-neighbours_fix-end c = sym (length-take-le c.args.n _ c.requires.few)
 
 pub neighbours_fix-requires : goal.neighbours_fix-requires
-neighbours_fix-requires c = let p = c.requires in (p.size, sym (slice-aggregate-neighbours-fix c), p.few, p.base.valid)
+neighbours_fix-requires c = let p = c.requires in (p.size, length-take-le c.args.n _ p.few, p.few, p.base.valid)

@@ -9,22 +9,14 @@ use Rattle.call_answers.proofs.Answers.{stopped, answered_as}
 use Rattle.call_join.proofs.Uniting.{stores_small, stores_many, stores_pair, stored-over, stored_small, stored-limits, stored-ready, stored-filed}
 use borrow.Author.Rules.{rules}
 use Rattle.call_join.proofs.join_rows.Goals as goal
-use Rattle.call_join.proofs.join_rows.Goals.{After-merge_rows-k, Else-k-gt1024, Else-readings_in-gt1048576, size}
-
--- not too many readings
-few : (c : goal.Else-readings_in-gt1048576) → (let a = c.args in let d = length a.sizes.now in count_of (rows_of d a.n a.rows1.now) + count_of (rows_of d a.m a.rows2.now) ≤ 1048576)
-few c = omega (arith, c.if-readings_in-gt1048576.false, c.readings_in-2.ensures, c.readings_in.ensures)
-
--- the array has the length that it had
-room : (c : goal.After-merge_rows-k) → 11264 ≤ length c.merge_rows-k.new.1.1.1.1.1.0
-room c = search rules
+use Rattle.call_join.proofs.join_rows.Goals.{Else-k-gt1024}
 
 small : (c : goal.Else-k-gt1024) → c.merge_rows-k.result * width (length c.args.sizes.now) ≤ 11264
-small c = let p = c.requires in stored_small p.0 p.1 c.merge_rows-k.ensures (room (PLACE c After-merge_rows-k)) (few (PLACE c Else-readings_in-gt1048576)) c.if-k-gt1024.false
+small c = let p = c.requires in stored_small p.0 p.1 c.merge_rows-k.ensures (search rules) (omega (arith, c.if-readings_in-gt1048576.false, c.readings_in-2.ensures, c.readings_in.ensures)) c.if-k-gt1024.false
 
 -- the front of the array is ready
-ready : (c : goal.Else-k-gt1024) → (let k = c.merge_rows-k.result in let d = length c.args.sizes.now in Ready d k (take (k * width d) c.merge_rows-k.new.1.1.1.1.1.0))
-ready c = let p = c.requires in stored-ready p.0 p.1 c.merge_rows-k.ensures (room (PLACE c After-merge_rows-k)) (few (PLACE c Else-readings_in-gt1048576)) c.if-k-gt1024.false
+ready : (c : goal.Else-k-gt1024) → (let k = c.merge_rows-k.result in let d = length c.args.sizes.now in Ready d k (take (k * width d) c.merge_rows-k.new.rows))
+ready c = let p = c.requires in stored-ready p.0 p.1 c.merge_rows-k.ensures (search rules) (omega (arith, c.if-readings_in-gt1048576.false, c.readings_in-2.ensures, c.readings_in.ensures)) c.if-k-gt1024.false
 
 pub readings_in-requires : goal.readings_in-requires
 readings_in-requires c = let p = c.requires.0 in (p.ready.size, p.limits.counts)
@@ -39,16 +31,16 @@ pub returns-then-readings_in-gt1048576 : goal.returns-then-readings_in-gt1048576
 returns-then-readings_in-gt1048576 c = let p = c.requires in stopped c.args.out.now (stores_many p.0 p.1 (omega (arith, c.if-readings_in-gt1048576.true, c.readings_in-2.ensures, c.readings_in.ensures)))
 
 pub merge_rows-k-requires : goal.merge_rows-k-requires
-merge_rows-k-requires c = let p = c.requires in (stores_pair p.0 p.1 (few (goal.at.merge_rows-k-requires c).Else-readings_in-gt1048576), search rules)
+merge_rows-k-requires c = let p = c.requires in (stores_pair p.0 p.1 (omega (arith, c.if-readings_in-gt1048576.false, c.readings_in-2.ensures, c.readings_in.ensures)), search rules)
 
 pub returns-then-k-gt1024 : goal.returns-then-k-gt1024
 returns-then-k-gt1024 c = let p = c.requires in stopped c.args.out.now (stored-over p.0 p.1 c.merge_rows-k.ensures c.if-k-gt1024.true)
 
 pub overflow_mul-size : goal.overflow_mul-size
-overflow_mul-size c = omega (arith, small c)
+overflow_mul-size c = omega (arith, small (goal.at.overflow_mul-size c).Else-k-gt1024)
 
 pub slice_bounds-rows-end : goal.slice_bounds-rows-end
-slice_bounds-rows-end c = omega (arith, small (goal.at.slice_bounds-rows-end c).Else-k-gt1024, room (goal.at.slice_bounds-rows-end c).After-merge_rows-k)
+slice_bounds-rows-end c = let room : 11264 ≤ length c.merge_rows-k.new.rows = search rules in omega (arith, small (goal.at.slice_bounds-rows-end c).Else-k-gt1024, room)
 
 pub slice_bounds-fit_archive-end : goal.slice_bounds-fit_archive-end
 slice_bounds-fit_archive-end c = (ready (goal.at.slice_bounds-fit_archive-end c).Else-k-gt1024).size
@@ -56,9 +48,9 @@ slice_bounds-fit_archive-end c = (ready (goal.at.slice_bounds-fit_archive-end c)
 pub fit_archive-requires : goal.fit_archive-requires
 fit_archive-requires c =
     let p = c.requires in
-    (ready (goal.at.fit_archive-requires c).Else-k-gt1024, stored-limits p.0 p.1 c.merge_rows-k.ensures (room (goal.at.fit_archive-requires c).After-merge_rows-k) (few (goal.at.fit_archive-requires c).Else-readings_in-gt1048576) c.if-k-gt1024.false, p.2)
+    (ready (goal.at.fit_archive-requires c).Else-k-gt1024, stored-limits p.0 p.1 c.merge_rows-k.ensures (search rules) (omega (arith, c.if-readings_in-gt1048576.false, c.readings_in-2.ensures, c.readings_in.ensures)) c.if-k-gt1024.false, p.2)
 
 pub returns : goal.returns
 returns c =
     let p = c.requires in
-    answered_as (stored-filed p.0 p.1 c.merge_rows-k.ensures (room (goal.at.returns c).After-merge_rows-k) (few (goal.at.returns c).Else-readings_in-gt1048576) c.if-k-gt1024.false) c.fit_archive.ensures
+    answered_as (stored-filed p.0 p.1 c.merge_rows-k.ensures (search rules) (omega (arith, c.if-readings_in-gt1048576.false, c.readings_in-2.ensures, c.readings_in.ensures)) c.if-k-gt1024.false) c.fit_archive.ensures

@@ -15,13 +15,12 @@ use Rattle.call_join.proofs.same_sizes.Goals.{After-compare}
 -- what the comparison told settles the answer
 told : (c : goal.After-compare) → (let a = c.args in is_equal c.compare.result ≡ same (words_at a.first.now (length a.sizes.now) 8) (words_at a.second.now (length a.sizes.now) 8))
 told c =
-    let s = c.before.before.before.before.before.before.before.before.before.before.before.before.before.before.before in
-    let a = s.args in
+    let a = c.args in
     let x = c.read_words.ensures in
-    let y = c.read_words-2.ensures ∙ ap (λ (n : ℕ). words_at a.second.now n 8) s.requires.0.1 in
+    let y = c.read_words-2.ensures ∙ ap (λ (n : ℕ). words_at a.second.now n 8) c.requires.sizes_len_bound.1 in
     let n = ap length x ∙ length_words_at a.first.now (length a.sizes.now) 8 in
     let m = ap length y ∙ length_words_at a.second.now (length a.sizes.now) 8 in
-    sym (ap₂ same (sym x) (sym y) ∙ same-compared _ _ (omega (arith, n, s.requires.0.0)) (omega (arith, m, s.requires.0.0)) c.compare.ensures)
+    sym (ap₂ same (sym x) (sym y) ∙ same-compared _ _ (omega (arith, n, c.requires.sizes_len_bound.0)) (omega (arith, m, c.requires.sizes_len_bound.0)) c.compare.ensures)
 
 pub returns-in-Before : goal.returns-in-Before
 returns-in-Before c = (c.read_words.ensures, sym (ap is_equal c.in-Before.is) ∙ told (goal.at.returns-in-Before c).After-compare)

@@ -12,14 +12,14 @@ use borrow.Author.Rules.{rules}
 use Rattle.call_keys.proofs.fit_bare.Goals as goal
 use Rattle.call_keys.proofs.fit_bare.Goals.{After-list_bare-n}
 
-front : (c : goal.After-list_bare-n) → c.list_bare-n.result ≤ length c.list_bare-n.new.1.1.0
+front : (c : goal.After-list_bare-n) → c.list_bare-n.result ≤ length c.list_bare-n.new.list
 front c = search rules
 
 pub slice_bounds-fit_list-end : goal.slice_bounds-fit_list-end
 slice_bounds-fit_list-end c = sym (length-take-le _ _ (front (goal.at.slice_bounds-fit_list-end c).After-list_bare-n))
 
 pub fit_list-requires : goal.fit_list-requires
-fit_list-requires c = omega (arith, slice-aggregate-fit-list c, c.list_bare-n.ensures.1)
+fit_list-requires c = omega (arith, length-take-le c.list_bare-n.result c.list_bare-n.new.list (front (goal.at.fit_list-requires c).After-list_bare-n), c.list_bare-n.ensures.1)
 
 pub returns : goal.returns
 returns c = answered_as (ap (λ (l : List ℕ). bytes (list_bytes l)) (sym c.list_bare-n.ensures.0)) c.fit_list.ensures

@@ -8,18 +8,13 @@ use lib.ListN.{length, length-set}
 use lib.Seq.{length-take-le}
 use Rattle.call_keys.proofs.Listing.{Listing, listing_start, listing-few, listing-done, listing-off, listing-held, listing_no, listing-room, listing-more}
 use Rattle.call_keys.proofs.list_bare.Goals as goal
-use Rattle.call_keys.proofs.list_bare.Goals.{After-set_at-set}
-
--- the set is one of the archive's
-below : (c : goal.Else-all-set) → c.set_at-set.result < 2 ^ c.args.dims
-below c = omega (arith, c.if-all-set.false, c.sets_of-all.ensures)
+use Rattle.call_keys.proofs.list_bare.Goals.{Else-not-is_bare}
 
 -- there is room for one more
 room : (c : goal.Else-not-is_bare) → c.loop-k.n < 70
 room c =
-    let s = c.before.before.before.before.before.before.before.before.before.before.before.before in
     let l = c.loop-k in
-    listing-room s.args.dims s.args.used.now s.requires.0 s.requires.2 l.invariant.1 c.loop-k-test.true c.set_at-set.ensures (below (PLACE c After-set_at-set)) (sym c.holds_listed.ensures ∙ c.if-holds_listed.false) (sym c.is_bare.ensures ∙ not-false _ c.if-not-is_bare.false)
+    listing-room c.args.dims c.args.used.now c.requires.0 c.requires.2 l.invariant.1 c.loop-k-test.true c.set_at-set.ensures (omega (arith, c.if-all-set.false, c.sets_of-all.ensures)) (sym c.holds_listed.ensures ∙ c.if-holds_listed.false) (sym c.is_bare.ensures ∙ c.if-not-is_bare.false)
 
 pub overflow_cast-dims : goal.overflow_cast-dims
 overflow_cast-dims c = omega (arith, c.requires.0)
@@ -43,32 +38,29 @@ slice_bounds-holds_listed-end-in-loop-k c = sym (length-take-le _ _ c.loop-k.inv
 
 pub loop-k-preserved-then-holds_listed : goal.loop-k-preserved-then-holds_listed
 loop-k-preserved-then-holds_listed c =
-    let s = c.before.before.before.before.before.before.before.before.before.before in
     let l = c.loop-k in
-    (l.invariant.0, listing-held s.args.dims s.args.used.now s.requires.0 s.requires.2 l.invariant.1 c.loop-k-test.true c.set_at-set.ensures (below (goal.at.loop-k-preserved-then-holds_listed c).After-set_at-set) (sym c.holds_listed.ensures ∙ c.if-holds_listed.true))
+    (l.invariant.0, listing-held c.args.dims c.args.used.now c.requires.0 c.requires.2 l.invariant.1 c.loop-k-test.true c.set_at-set.ensures (omega (arith, c.if-all-set.false, c.sets_of-all.ensures)) (sym c.holds_listed.ensures ∙ c.if-holds_listed.true))
 
 pub is_bare-requires : goal.is_bare-requires
-is_bare-requires c = let p = c.requires in (p.0, p.1, below (goal.at.is_bare-requires c).After-set_at-set)
+is_bare-requires c = let p = c.requires in (p.0, p.1, omega (arith, c.if-all-set.false, c.sets_of-all.ensures))
 
 pub loop-k-preserved-then-not-is_bare : goal.loop-k-preserved-then-not-is_bare
 loop-k-preserved-then-not-is_bare c =
-    let s = c.before.before.before.before.before.before.before.before.before.before.before.before in
     let l = c.loop-k in
-    (l.invariant.0, listing_no s.args.dims s.args.used.now s.requires.0 s.requires.2 l.invariant.1 c.loop-k-test.true c.set_at-set.ensures (below (goal.at.loop-k-preserved-then-not-is_bare c).After-set_at-set) (sym c.is_bare.ensures ∙ not-true _ c.if-not-is_bare.true))
+    (l.invariant.0, listing_no c.args.dims c.args.used.now c.requires.0 c.requires.2 l.invariant.1 c.loop-k-test.true c.set_at-set.ensures (omega (arith, c.if-all-set.false, c.sets_of-all.ensures)) (sym c.is_bare.ensures ∙ c.if-not-is_bare.true))
 
 pub bounds-list-n : goal.bounds-list-n
-bounds-list-n c = omega (arith, room c, c.loop-k.invariant.0, c.requires.3)
+bounds-list-n c = omega (arith, room (goal.at.bounds-list-n c).Else-not-is_bare, c.loop-k.invariant.0, c.requires.3)
 
 pub overflow_add-n : goal.overflow_add-n
-overflow_add-n c = omega (arith, room c)
+overflow_add-n c = omega (arith, room (goal.at.overflow_add-n c).Else-not-is_bare)
 
 pub loop-k-preserved : goal.loop-k-preserved
 loop-k-preserved c =
-    let s = c.before.before.before.before.before.before.before.before.before.before.before.before in
     let l = c.loop-k in
     let z = length-set l.list l.n c.set_at-set.result in (
       z ∙ l.invariant.0,
-      listing-more s.args.dims s.args.used.now s.requires.0 s.requires.2 l.invariant.1 c.loop-k-test.true c.set_at-set.ensures (below (goal.at.loop-k-preserved c).After-set_at-set) (sym c.holds_listed.ensures ∙ c.if-holds_listed.false) (sym c.is_bare.ensures ∙ not-false _ c.if-not-is_bare.false) (omega (arith, room c, l.invariant.0, s.requires.3)) z,
+      listing-more c.args.dims c.args.used.now c.requires.0 c.requires.2 l.invariant.1 c.loop-k-test.true c.set_at-set.ensures (omega (arith, c.if-all-set.false, c.sets_of-all.ensures)) (sym c.holds_listed.ensures ∙ c.if-holds_listed.false) (sym c.is_bare.ensures ∙ c.if-not-is_bare.false) (omega (arith, room (goal.at.loop-k-preserved c).Else-not-is_bare, l.invariant.0, c.requires.3)) z,
     )
 
 pub returns : goal.returns

@@ -15,49 +15,41 @@ use Rattle.call_look.proofs.Asked.{look_stopped, look-long, look_told}
 use Rattle.call_look.proofs.Normals.{opened_long, normals-room, normals-held}
 use borrow.Author.Rules.{rules}
 use Rattle.call_look.proofs.look_read.Goals as goal
-use Rattle.call_look.proofs.look_read.Goals.{After-fits, After-shared_slice_known-1, Start, ready}
-
-rows_in_lem : (c : goal.After-shared_slice_known-1) → (let a = c.args in OpenedIn a.s.now a.dims a.bases a.cells a.rows.now)
-rows_in_lem c = opened (bytes_of c.args.s.now (λ i. omega (arith, c.type_inv.s i))) c.requires
-
--- the question fits
-asked : (c : goal.Else-not-fits) → true ≡ asks (words_at c.args.s.now c.args.dims 8) c.args.question.now
-asked c = sym (not-false _ c.if-not-fits.false) ∙ c.fits.ensures
 
 pub fits-requires : goal.fits-requires
-fits-requires c = opened_long (rows_in_lem (goal.at.fits-requires c).After-shared_slice_known-1)
+fits-requires c = opened_long (opened (bytes_of c.args.s.now (λ i. omega (arith, c.type_inv.s i))) c.requires)
 
 pub returns-then-not-fits : goal.returns-then-not-fits
-returns-then-not-fits c = look_stopped (rows_in_lem (goal.at.returns-then-not-fits c).After-shared_slice_known-1) c.args.question.now (sym (not-true _ c.if-not-fits.true) ∙ c.fits.ensures)
+returns-then-not-fits c = look_stopped (opened (bytes_of c.args.s.now (λ i. omega (arith, c.type_inv.s i))) c.requires) c.args.question.now (sym c.if-not-fits.true ∙ c.fits.ensures)
 
 pub overflow_mul-size : goal.overflow_mul-size
-overflow_mul-size c = omega (arith, opened_small (rows_in_lem (goal.at.overflow_mul-size c).After-shared_slice_known-1))
+overflow_mul-size c = omega (arith, opened_small (opened (bytes_of c.args.s.now (λ i. omega (arith, c.type_inv.s i))) c.requires))
 
 pub overflow_sub-at : goal.overflow_sub-at
-overflow_sub-at c = omega (arith, normals-room (rows_in_lem (goal.at.overflow_sub-at c).After-shared_slice_known-1))
+overflow_sub-at c = omega (arith, normals-room (opened (bytes_of c.args.s.now (λ i. omega (arith, c.type_inv.s i))) c.requires))
 
 pub overflow_mul-at-2 : goal.overflow_mul-at-2
 overflow_mul-at-2 c =
     let h : c.args.cells ≤ 4294967295 = omega (arith, c.ranges.cells) in
-    let k : 4 * c.args.dims + 12 ≤ 44 = omega (arith, (rows_in_lem (goal.at.overflow_mul-at-2 c).After-shared_slice_known-1).ready.dims) in
+    let k : 4 * c.args.dims + 12 ≤ 44 = omega (arith, (opened (bytes_of c.args.s.now (λ i. omega (arith, c.type_inv.s i))) c.requires).ready.dims) in
     let m = mul-le-mul h k in
     omega (arith, m)
 
 pub overflow_sub-at-2 : goal.overflow_sub-at-2
-overflow_sub-at-2 c = omega (arith, normals-room (rows_in_lem (goal.at.overflow_sub-at-2 c).After-shared_slice_known-1))
+overflow_sub-at-2 c = omega (arith, normals-room (opened (bytes_of c.args.s.now (λ i. omega (arith, c.type_inv.s i))) c.requires))
 
 pub slice_bounds-answer-end : goal.slice_bounds-answer-end
-slice_bounds-answer-end c = (rows_in_lem (goal.at.slice_bounds-answer-end c).Start).ready.size
+slice_bounds-answer-end c = (opened (bytes_of c.args.s.now (λ i. omega (arith, c.type_inv.s i))) c.requires).ready.size
 
 pub answer-requires : goal.answer-requires
 answer-requires c =
-    let o = rows_in_lem (goal.at.answer-requires c).Start in
-    record { ready = (o.ready, look-long o c.args.question.now (asked (goal.at.answer-requires c).After-fits)); normals_at = normals-held o }
+    let o = opened (bytes_of c.args.s.now (λ i. omega (arith, c.type_inv.s i))) c.requires in
+    record { ready = (o.ready, look-long o c.args.question.now (sym c.if-not-fits.false ∙ c.fits.ensures)); normals_at = normals-held o }
 
 pub returns-in-NoRecord : goal.returns-in-NoRecord
-returns-in-NoRecord c = look_told (rows_in_lem (goal.at.returns-in-NoRecord c).Start) c.args.question.now (asked (goal.at.returns-in-NoRecord c).After-fits) (sym c.in-NoRecord.is ∙ c.answer.ensures)
+returns-in-NoRecord c = look_told (opened (bytes_of c.args.s.now (λ i. omega (arith, c.type_inv.s i))) c.requires) c.args.question.now (sym c.if-not-fits.false ∙ c.fits.ensures) (sym c.in-NoRecord.is ∙ c.answer.ensures)
 
 pub returns-in-Cell : goal.returns-in-Cell
 returns-in-Cell c =
-    rw (to_z-of_z {w = w64} {z = c.in-Cell.sum} (record { sfits = c.known_told-1.given.0.1 }))
-    (look_told (rows_in_lem (goal.at.returns-in-Cell c).Start) c.args.question.now (asked (goal.at.returns-in-Cell c).After-fits) (sym c.in-Cell.is ∙ c.answer.ensures))
+    rw (to_z-of_z {w = w64} {z = c.in-Cell.sum} (search rules))
+    (look_told (opened (bytes_of c.args.s.now (λ i. omega (arith, c.type_inv.s i))) c.requires) c.args.question.now (sym c.if-not-fits.false ∙ c.fits.ensures) (sym c.in-Cell.is ∙ c.answer.ensures))

@@ -15,50 +15,43 @@ use Rattle.call_window.specs.Windows.{asks_window, unnumbered_found}
 use Rattle.call_window.proofs.Asked.{no_dimension, high-dimension, no_code, no_question, other-code, looked_through}
 use borrow.Author.Rules.{rules}
 use Rattle.call_window.proofs.window_read.Goals as goal
-use Rattle.call_window.proofs.window_read.Goals.{After-look_read, After-shared_slice_known-3-1, Else-not-fits}
-
-opens : (c : goal.After-shared_slice_known-3-1) → (let a = c.args in OpenedIn a.archive.now a.dims a.bases a.cells a.rows.now)
-opens c = opened (bytes_of c.args.archive.now (λ i. omega (arith, c.type_inv.archive i))) c.requires
-
--- the question fits
-fits : (c : goal.Else-not-fits) → true ≡ asks (words_at c.args.archive.now c.args.dims 8) c.args.question.now
-fits c = sym (not-false _ c.if-not-fits.false) ∙ c.fits.ensures
+use Rattle.call_window.proofs.window_read.Goals.{After-look_read}
 
 -- the window's own question is looked up
-through : (c : goal.After-look_read) → (let a = c.args in unnumbered_found c.look_read.result ≡ asks_window a.archive.now a.dimension a.code a.question.now)
-through c = let a = c.args in looked_through (opens (PLACE c After-shared_slice_known-3-1)) a.dimension a.code a.question.now c.if-dimension-eq0.false c.if-dims-dimension.false c.word_at.ensures c.if-word_at-code.false (fits (PLACE c Else-not-fits)) c.if-question-i.false c.look_read.ensures
+through : (c : goal.After-look_read) → (let a = c.args in OpenedIn a.archive.now a.dims a.bases a.cells a.rows.now → unnumbered_found c.look_read.result ≡ asks_window a.archive.now a.dimension a.code a.question.now)
+through c o = let a = c.args in looked_through o a.dimension a.code a.question.now c.if-dimension-eq0.false c.if-dims-dimension.false c.word_at.ensures c.if-word_at-code.false (sym c.if-not-fits.false ∙ c.fits.ensures) c.if-question-i.false c.look_read.ensures
 
 pub returns-then-dimension-eq0 : goal.returns-then-dimension-eq0
-returns-then-dimension-eq0 c = let a = c.args in no_dimension (opens (goal.at.returns-then-dimension-eq0 c).After-shared_slice_known-3-1) a.dimension a.code a.question.now c.if-dimension-eq0.true
+returns-then-dimension-eq0 c = let a = c.args in no_dimension (opened (bytes_of c.args.archive.now (λ i. omega (arith, c.type_inv.archive i))) c.requires) a.dimension a.code a.question.now c.if-dimension-eq0.true
 
 pub returns-then-dims-dimension : goal.returns-then-dims-dimension
-returns-then-dims-dimension c = let a = c.args in high-dimension (opens (goal.at.returns-then-dims-dimension c).After-shared_slice_known-3-1) a.dimension a.code a.question.now c.if-dims-dimension.true
+returns-then-dims-dimension c = let a = c.args in high-dimension (opened (bytes_of c.args.archive.now (λ i. omega (arith, c.type_inv.archive i))) c.requires) a.dimension a.code a.question.now c.if-dims-dimension.true
 
 pub word_at-requires : goal.word_at-requires
-word_at-requires c = omega (arith, opened_long (opens (goal.at.word_at-requires c).After-shared_slice_known-3-1), c.if-dims-dimension.false, c.if-dimension-eq0.false)
+word_at-requires c = omega (arith, opened_long (opened (bytes_of c.args.archive.now (λ i. omega (arith, c.type_inv.archive i))) c.requires), c.if-dims-dimension.false, c.if-dimension-eq0.false)
 
 pub returns-then-word_at-code : goal.returns-then-word_at-code
-returns-then-word_at-code c = let a = c.args in no_code (opens (goal.at.returns-then-word_at-code c).After-shared_slice_known-3-1) a.dimension a.code a.question.now c.if-dimension-eq0.false c.if-dims-dimension.false c.word_at.ensures c.if-word_at-code.true
+returns-then-word_at-code c = let a = c.args in no_code (opened (bytes_of c.args.archive.now (λ i. omega (arith, c.type_inv.archive i))) c.requires) a.dimension a.code a.question.now c.if-dimension-eq0.false c.if-dims-dimension.false c.word_at.ensures c.if-word_at-code.true
 
 pub fits-requires : goal.fits-requires
-fits-requires c = opened_long (opens (goal.at.fits-requires c).After-shared_slice_known-3-1)
+fits-requires c = opened_long (opened (bytes_of c.args.archive.now (λ i. omega (arith, c.type_inv.archive i))) c.requires)
 
 pub returns-then-not-fits : goal.returns-then-not-fits
-returns-then-not-fits c = let a = c.args in no_question (opens (goal.at.returns-then-not-fits c).After-shared_slice_known-3-1) a.dimension a.code a.question.now c.if-dimension-eq0.false c.if-dims-dimension.false c.word_at.ensures c.if-word_at-code.false (sym (not-true _ c.if-not-fits.true) ∙ c.fits.ensures)
+returns-then-not-fits c = let a = c.args in no_question (opened (bytes_of c.args.archive.now (λ i. omega (arith, c.type_inv.archive i))) c.requires) a.dimension a.code a.question.now c.if-dimension-eq0.false c.if-dims-dimension.false c.word_at.ensures c.if-word_at-code.false (sym c.if-not-fits.true ∙ c.fits.ensures)
 
 pub bounds-question-i : goal.bounds-question-i
-bounds-question-i c = omega (arith, look-long (opens (goal.at.bounds-question-i c).After-shared_slice_known-3-1) c.args.question.now (fits (goal.at.bounds-question-i c).Else-not-fits), c.if-dims-dimension.false, c.if-dimension-eq0.false)
+bounds-question-i c = omega (arith, look-long (opened (bytes_of c.args.archive.now (λ i. omega (arith, c.type_inv.archive i))) c.requires) c.args.question.now (sym c.if-not-fits.false ∙ c.fits.ensures), c.if-dims-dimension.false, c.if-dimension-eq0.false)
 
 pub returns-then-question-i : goal.returns-then-question-i
-returns-then-question-i c = let a = c.args in other-code (opens (goal.at.returns-then-question-i c).After-shared_slice_known-3-1) a.dimension a.code a.question.now c.if-dimension-eq0.false c.if-dims-dimension.false c.word_at.ensures c.if-word_at-code.false (fits (goal.at.returns-then-question-i c).Else-not-fits) c.if-question-i.true
+returns-then-question-i c = let a = c.args in other-code (opened (bytes_of c.args.archive.now (λ i. omega (arith, c.type_inv.archive i))) c.requires) a.dimension a.code a.question.now c.if-dimension-eq0.false c.if-dims-dimension.false c.word_at.ensures c.if-word_at-code.false (sym c.if-not-fits.false ∙ c.fits.ensures) c.if-question-i.true
 
 pub returns-in-Cell : goal.returns-in-Cell
 returns-in-Cell c =
-    rw (to_z-of_z {w = w64} {z = c.in-Cell.sum} (record { sfits = c.known_told-1.given.0.1 }))
-    (sym (ap unnumbered_found c.in-Cell.is) ∙ through (goal.at.returns-in-Cell c).After-look_read)
+    rw (to_z-of_z {w = w64} {z = c.in-Cell.sum} (search rules))
+    (sym (ap unnumbered_found c.in-Cell.is) ∙ through (goal.at.returns-in-Cell c).After-look_read (opened (bytes_of c.args.archive.now (λ i. omega (arith, c.type_inv.archive i))) c.requires))
 
 pub returns-in-NoRecord : goal.returns-in-NoRecord
-returns-in-NoRecord c = sym (ap unnumbered_found c.in-NoRecord.is) ∙ through (goal.at.returns-in-NoRecord c).After-look_read
+returns-in-NoRecord c = sym (ap unnumbered_found c.in-NoRecord.is) ∙ through (goal.at.returns-in-NoRecord c).After-look_read (opened (bytes_of c.args.archive.now (λ i. omega (arith, c.type_inv.archive i))) c.requires)
 
 pub returns-in-Stop : goal.returns-in-Stop
-returns-in-Stop c = sym (ap unnumbered_found c.in-Stop.is) ∙ through (goal.at.returns-in-Stop c).After-look_read
+returns-in-Stop c = sym (ap unnumbered_found c.in-Stop.is) ∙ through (goal.at.returns-in-Stop c).After-look_read (opened (bytes_of c.args.archive.now (λ i. omega (arith, c.type_inv.archive i))) c.requires)

@@ -10,19 +10,17 @@ pub returns-in-Cell : goal.returns-in-Cell
 returns-in-Cell c =
     let a = c.args in
     let e = sym c.look_up.ensures ∙ c.in-Cell.is in
-    let z = to_z-of_z {w = w64} {z = c.in-Cell.s} (record { sfits = c.known_told-1.given.0.1 }) in let the_answer = (
-      sym (ap found_number e),
-      (rw z (sym (ap (λ f. sum_left f a.sum.now) e)), (sym (ap (λ f. count_left f a.count.now) e), sym (ap (λ f. entry_left f a.entry.now) e))),
-    ) in record { value = the_answer.0; sum_after = the_answer.1.0; count_after = the_answer.1.1 }
+    let z = to_z-of_z {w = w64} {z = c.in-Cell.s} (search rules) in
+    record { value = sym (ap found_number e); sum_after = rw z (sym (ap (λ f. sum_left f a.sum.now) e)); count_after = (sym (ap (λ f. count_left f a.count.now) e), sym (ap (λ f. entry_left f a.entry.now) e)) }
 
 pub returns-in-NoRecord : goal.returns-in-NoRecord
 returns-in-NoRecord c =
     let a = c.args in
     let e = sym c.look_up.ensures ∙ c.in-NoRecord.is in
-let the_answer = (sym (ap found_number e), (sym (ap (λ f. sum_left f a.sum.now) e), (sym (ap (λ f. count_left f a.count.now) e), sym (ap (λ f. entry_left f a.entry.now) e)))) in record { value = the_answer.0; sum_after = the_answer.1.0; count_after = the_answer.1.1 }
+    record { value = sym (ap found_number e); sum_after = sym (ap (λ f. sum_left f a.sum.now) e); count_after = (sym (ap (λ f. count_left f a.count.now) e), sym (ap (λ f. entry_left f a.entry.now) e)) }
 
 pub returns-in-Stop : goal.returns-in-Stop
 returns-in-Stop c =
     let a = c.args in
     let e = sym c.look_up.ensures ∙ c.in-Stop.is in
-let the_answer = (sym (ap found_number e), (sym (ap (λ f. sum_left f a.sum.now) e), (sym (ap (λ f. count_left f a.count.now) e), sym (ap (λ f. entry_left f a.entry.now) e)))) in record { value = the_answer.0; sum_after = the_answer.1.0; count_after = the_answer.1.1 }
+    record { value = sym (ap found_number e); sum_after = sym (ap (λ f. sum_left f a.sum.now) e); count_after = (sym (ap (λ f. count_left f a.count.now) e), sym (ap (λ f. entry_left f a.entry.now) e)) }

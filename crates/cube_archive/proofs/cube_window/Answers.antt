@@ -10,7 +10,7 @@ pub returns-in-Cell : goal.returns-in-Cell
 returns-in-Cell c =
     let a = c.args in
     let e = sym c.window.ensures ∙ c.in-Cell.is in
-    let z = to_z-of_z {w = w64} {z = c.in-Cell.s} (record { sfits = c.known_told-1.given.0.1 }) in
+    let z = to_z-of_z {w = w64} {z = c.in-Cell.s} (search rules) in
     record { value = sym (ap seen_number e); sum_after = (rw z (sym (ap (λ f. seen_sum_left f a.sum.now) e)), sym (ap (λ f. seen_count_left f a.count.now) e)) }
 
 pub returns-in-NoRecord : goal.returns-in-NoRecord
