@@ -3,13 +3,13 @@ use mathlib.Core.Path.{◌≡◌, ap}
 use Prim.Native.Nat.{◌+◌, ◌-◌, ◌*◌, ◌^◌, ◌≤◌}
 use native.Mathlib.Omega.{arith}
 use lib.ListN.{length}
-use Rattle.lists.proofs.Tests.{cases}
 use Rattle.rows.specs.Rows.{rows_of}
 use Rattle.archive_cells.proofs.Turns.{turns, turns_length, turns_skipped, turns_over}
 use Rattle.call_cuboids.specs.Cuboids.{cuboid_bytes, expansion_bytes}
 use Rattle.call_cuboids.proofs.Lengths.{turns_start}
 use borrow.Author.Rules.{rules}
 use Rattle.call_expansion.proofs.expansion_len.Goals as goal
+use Rattle.call_expansion.proofs.expansion_len.Goals.{then-set-all, else-set-all}
 
 pub overflow_cast-dims : goal.overflow_cast-dims
 overflow_cast-dims c = omega (arith, c.requires.ready.dims)
@@ -30,17 +30,18 @@ loop-k-preserved c =
     let at = c.set_at-set.ensures in
     let all = c.sets_of-all.ensures in
     let k = c.loop-k-test.true in
-    cases c.if-set-all.branch
-    (λ w. (
-      omega (arith, k),
-      omega (arith, w.1.ensures.1, w.2, l.invariant.1),
-      omega (arith, w.1.ensures.0, w.2, l.invariant.2, turns_length f (2 ^ a.dims) k at (omega (arith, w.0.taken, all))),
-    ))
-    (λ w. (
-      omega (arith, k),
-      omega (arith, w.1, l.invariant.1),
-      omega (arith, w.1, l.invariant.2, turns_skipped f (2 ^ a.dims) k at (omega (arith, w.0.left, all))),
-    ))
+    elim c.if-set-all.branch [
+      then-set-all w ↦ (
+        omega (arith, k),
+        omega (arith, w.cuboid_len-len.ensures.upper_bound, w.len-is, l.invariant.1),
+        omega (arith, w.cuboid_len-len.ensures.value, w.len-is, l.invariant.2, turns_length f (2 ^ a.dims) k at (omega (arith, w.if-set-all.true, all))),
+      )
+    | else-set-all w ↦ (
+        omega (arith, k),
+        omega (arith, w.len-is, l.invariant.1),
+        omega (arith, w.len-is, l.invariant.2, turns_skipped f (2 ^ a.dims) k at (omega (arith, w.if-set-all.false, all))),
+      )
+    ]
 
 pub returns : goal.returns
 returns c =
