@@ -7,8 +7,9 @@ use Rattle.text_decimals.specs.Decimals.{decimal}
 use Rattle.text_decimals.proofs.Digits.{word_digits}
 use Rattle.program_texts.proofs.Printed.{refused_is}
 use Rattle.program_texts.proofs.put_refused.Goals as goal
+use Rattle.program_texts.proofs.put_refused.Goals.{Start}
 
-few : (c : goal.Start) → length (decimal c.args.stop) ≤ 10
+few : (c : Start) → length (decimal c.args.stop) ≤ 10
 few c = word_digits c.args.stop c.ranges.stop.fits
 
 pub returns : goal.returns
