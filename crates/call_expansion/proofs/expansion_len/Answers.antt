@@ -31,12 +31,12 @@ loop-k-preserved c =
     let all = c.sets_of-all.ensures in
     let k = c.loop-k-test.true in
     elim c.if-set-all.branch [
-      then-set-all w ↦ (
+      | then-set-all w ↦ (
         omega (arith, k),
         omega (arith, w.cuboid_len-len.ensures.upper_bound, w.len-is, l.invariant.1),
         omega (arith, w.cuboid_len-len.ensures.value, w.len-is, l.invariant.2, turns_length f (2 ^ a.dims) k at (omega (arith, w.if-set-all.true, all))),
       )
-    | else-set-all w ↦ (
+      | else-set-all w ↦ (
         omega (arith, k),
         omega (arith, w.len-is, l.invariant.1),
         omega (arith, w.len-is, l.invariant.2, turns_skipped f (2 ^ a.dims) k at (omega (arith, w.if-set-all.false, all))),

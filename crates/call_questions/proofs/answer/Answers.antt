@@ -16,7 +16,7 @@ use Rattle.call_questions.specs.Questions.{looked, rowless, First}
 use Rattle.call_questions.proofs.Asked.{Entry, asked, asked-room, asked-none, asked-row, asked-normal}
 use borrow.Author.Rules.{rules, sfits_of}
 use Rattle.call_questions.proofs.answer.Goals as goal
-use Rattle.call_questions.proofs.answer.Goals.{After-is_single, Else-i-n, answers, fits, within}
+use Rattle.call_questions.proofs.answer.Goals.{After-find_cell-k, After-is_single, Else-i-n}
 
 -- the first row that falls in the cell is a row
 inside : (c : goal.Else-i-n) → c.first_row-i.result < c.args.n
@@ -37,9 +37,11 @@ entry : (c : goal.After-find_cell-k)
     let k = c.find_cell-k.result in
     Entry a.s.now (a.at + k * (4 * a.dims + 12)) a.dims (a.n + k) (asked c.requires.ready.0 a.cell.now))
 entry c =
+    let a = c.args in
     let f = c.first_row-i in
-    asked-normal c.requires.ready.0 c.args.cell.now f.result (inside (PLACE c Else-i-n)) f.ensures c.requires.normals_at c.requires.ready.1 c.find_cell-k.ensures
-    (sym (alone (PLACE c After-is_single)) ∙ c.if-is_single.false)
+    let inside : f.result < a.n = omega (arith, c.if-i-n.false, f.ensures.within, cut-length a.dims a.n a.rows.now) in
+    asked-normal c.requires.ready.0 a.cell.now f.result inside f.ensures c.requires.normals_at c.requires.ready.1 c.find_cell-k.ensures
+    (sym (rw c.set_of.ensures at c.is_single.ensures) ∙ c.if-is_single.false)
 
 pub returns-then-i-n : goal.returns-then-i-n
 returns-then-i-n c =

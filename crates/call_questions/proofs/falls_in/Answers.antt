@@ -2,19 +2,19 @@
 use mathlib.Core.Path.{◌≡◌, sym, ◌∙◌}
 use Prim.Native.Nat.{◌≤◌, ◌-◌}
 use borrow.Author.Rules.{rules}
-use borrow.Author.Tests.{not-true, not-false}
+use borrow.Author.Tests.{eq-eqb, ne_eqb}
 use lib.ListN.{length, get_or, drop}
-use Rattle.lists.proofs.Tests.{cases}
 use Rattle.cube.specs.Codes.{falls}
 use Rattle.call_questions.proofs.Pairs.{pairs_done, pairs_skip, pairs_stop, falls_pairs, meets-all, meets-code, meets_not}
 use Rattle.call_questions.proofs.falls_in.Goals as goal
+use Rattle.call_questions.proofs.falls_in.Goals.{else-code-ne65535-via-then-code-ne65535+else-code-mine, else-code-ne65535-via-else-code-ne65535}
 
 pub returns-then-code-mine : goal.returns-then-code-mine
 returns-then-code-mine c =
     let a = c.args in
     sym (sym c.loop-d.invariant.1
     ∙ pairs_stop falls_pairs a.cell.now a.mine.now c.loop-d.d (search rules) (search rules)
-    (meets_not _ _ c.if-code-ne65535.true (not-true _ c.if-code-mine.true)))
+    (meets_not _ _ c.if-code-ne65535.true (ne_eqb _ _ c.if-code-mine.true)))
 
 pub loop-d-preserved : goal.loop-d-preserved
 loop-d-preserved c =
@@ -23,7 +23,10 @@ loop-d-preserved c =
     let d = c.loop-d.d in (
       search rules,
       pairs_skip falls_pairs cell mine d (search rules) (search rules)
-          (cases c.else-code-ne65535.branch (λ w. meets-code (get_or cell d 0) (get_or mine d 0) (not-false _ w.2.left)) (λ w. meets-all _ _ w.left))
+          (elim c.else-code-ne65535.branch [
+            | else-code-ne65535-via-then-code-ne65535+else-code-mine w ↦ meets-code (get_or cell d 0) (get_or mine d 0) (eq-eqb (get_or cell d 0) (get_or mine d 0) w.if-code-mine.false)
+            | else-code-ne65535-via-else-code-ne65535 w ↦ meets-all (get_or cell d 0) (get_or mine d 0) w.if-code-ne65535.false
+          ])
           ∙ c.loop-d.invariant.1,
     )
 

@@ -3,15 +3,14 @@ use mathlib.Core.Path.{◌≡◌, sym, ◌∙◌}
 use Prim.Native.Nat.{◌≤◌, ◌-◌}
 use native.Mathlib.Omega.{arith}
 use borrow.Author.Rules.{rules}
-use borrow.Author.Tests.{not-true, not-false}
+use borrow.Author.Tests.{eq-eqb, ne_eqb}
 use lib.ListN.{get_or, drop}
-use Rattle.lists.proofs.Tests.{cases}
 use Rattle.fields.specs.Words.{words_at}
 use Rattle.fields.specs.WordsLaws.{length_words_at, get_d_words_at}
 use Rattle.call_questions.specs.Questions.{asks}
 use Rattle.call_questions.proofs.Pairs.{pairs_done, pairs_skip, pairs_stop, asks_pairs, asks-length, allows_below, allows_all, allows_not}
 use Rattle.call_questions.proofs.fits.Goals as goal
-use Rattle.call_questions.proofs.fits.Goals.{After-word_at-size}
+use Rattle.call_questions.proofs.fits.Goals.{After-word_at-size, else-code-size-via-then-code-size+else-code-ne65535, else-code-size-via-else-code-size}
 
 -- what was read is the size
 size : (c : goal.After-word_at-size)
@@ -34,7 +33,7 @@ returns-then-code-ne65535 c =
     let d = c.loop-d.d in
     sym (sym c.loop-d.invariant.1
     ∙ pairs_stop asks_pairs zs question d (rw length_words_at (search rules)) (search rules)
-    (allows_not (get_or zs d 0) (get_or question d 0) (omega (arith, size (goal.at.returns-then-code-ne65535 c).After-word_at-size, c.if-code-size.true)) (not-true _ c.if-code-ne65535.true)))
+    (allows_not (get_or zs d 0) (get_or question d 0) (omega (arith, size (goal.at.returns-then-code-ne65535 c).After-word_at-size, c.if-code-size.true)) (ne_eqb _ _ c.if-code-ne65535.true)))
 
 pub loop-d-preserved : goal.loop-d-preserved
 loop-d-preserved c =
@@ -44,9 +43,10 @@ loop-d-preserved c =
     let d = c.loop-d.d in (
       search rules,
       pairs_skip asks_pairs zs question d (rw length_words_at (search rules)) (search rules)
-          (cases c.else-code-size.branch
-          (λ w. allows_all (get_or zs d 0) (get_or question d 0) (not-false _ w.1.left))
-          (λ w. allows_below (get_or zs d 0) (get_or question d 0) (omega (arith, size (goal.at.loop-d-preserved c).After-word_at-size, w.left))))
+          (elim c.else-code-size.branch [
+            | else-code-size-via-then-code-size+else-code-ne65535 w ↦ allows_all (get_or zs d 0) (get_or question d 0) (eq-eqb (get_or question d 0) 65535 w.if-code-ne65535.false)
+            | else-code-size-via-else-code-size w ↦ allows_below (get_or zs d 0) (get_or question d 0) (omega (arith, size (goal.at.loop-d-preserved c).After-word_at-size, w.if-code-size.false))
+          ])
           ∙ c.loop-d.invariant.1,
     )
 
