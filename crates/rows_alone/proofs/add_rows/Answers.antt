@@ -1,9 +1,7 @@
 -- `rows_alone::add_rows` meets its contract: the rows before place i are in the set of rows.
-use mathlib.Core.Path.{◌≡◌, refl}
-use Prim.Native.Nat.{◌-◌, ◌≤◌}
+use mathlib.Core.Path.{refl}
 use native.Mathlib.Omega.{arith}
-use lib.ListN.{length}
-use Rattle.rows_alone.proofs.Words.{Adding, adding_more, adding_done}
+use Rattle.rows_alone.proofs.Words.{adding_more, adding_done}
 use borrow.Author.Rules.{rules}
 use Rattle.rows_alone.proofs.add_rows.Goals as goal
 

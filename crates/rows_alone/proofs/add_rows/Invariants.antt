@@ -1,9 +1,7 @@
-use mathlib.Core.Path.{◌≡◌, refl}
+use mathlib.Core.Path.{◌≡◌}
 use Prim.Native.Nat.{◌-◌, ◌≤◌}
-use native.Mathlib.Omega.{arith}
 use lib.ListN.{length}
-use Rattle.rows_alone.proofs.Words.{Adding, adding_more, adding_done}
-use borrow.Author.Rules.{rules}
+use Rattle.rows_alone.proofs.Words.{Adding}
 use Rattle.rows_alone.proofs.add_rows.Given as goal
 
 abbrev pub invariant-loop-i : goal.invariant-loop-i

@@ -1,16 +1,8 @@
-use mathlib.Core.Path.{◌≡◌, sym, ap, ap₂, ◌∙◌}
-use mathlib.Core.List.{List}
-use mathlib.Core.Bool.{true, ◌||◌}
-use Prim.Native.Nat.{ℕ, ◌-◌, ◌^◌, ◌≤◌}
-use native.Mathlib.Omega.{arith}
+use mathlib.Core.Path.{◌≡◌}
+use Prim.Native.Nat.{ℕ, ◌-◌, ◌≤◌}
 use lib.ListN.{length}
-use borrow.Author.Tests.{not-true, not-false}
-use Rattle.lattice.specs.Sets.{holds}
-use Rattle.lattice.proofs.Less.{less_within}
 use Rattle.rows_bits.specs.Rowsets.{has}
-use Rattle.rows_alone.specs.Alone.{words_of, passes}
-use Rattle.rows_alone.proofs.Words.{words-length, cleared_none, passes-start, passes-off, passes_on}
-use borrow.Author.Rules.{rules}
+use Rattle.rows_alone.specs.Alone.{passes}
 use Rattle.rows_alone.proofs.pass_rows.Given as goal
 
 abbrev pub invariant-loop-d : goal.invariant-loop-d

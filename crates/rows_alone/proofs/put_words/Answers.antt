@@ -1,7 +1,5 @@
 -- `rows_alone::put_words` meets its contract: those before place i are written.
-use Prim.Native.Nat.{◌-◌}
-use Rattle.rows_alone.proofs.Words.{Storing, storing_start, storing_more, storing_done}
-use borrow.Author.Rules.{rules}
+use Rattle.rows_alone.proofs.Words.{storing_start, storing_more, storing_done}
 use Rattle.rows_alone.proofs.put_words.Goals as goal
 
 pub loop-i-init : goal.loop-i-init

@@ -1,6 +1,5 @@
 use Prim.Native.Nat.{◌-◌}
-use Rattle.rows_alone.proofs.Words.{Storing, storing_start, storing_more, storing_done}
-use borrow.Author.Rules.{rules}
+use Rattle.rows_alone.proofs.Words.{Storing}
 use Rattle.rows_alone.proofs.put_words.Given as goal
 
 abbrev pub invariant-loop-i : goal.invariant-loop-i

@@ -1,15 +1,14 @@
 -- `rows_complete::complete_slots` meets its contract: before the set at place k the slots of the sets that had a turn have all groups, and the full set comes last.
 use mathlib.Core.Path.{◌≡◌, refl, subst}
-use Prim.Native.Nat.{ℕ, ◌+◌, ◌-◌, ◌^◌, ◌<◌}
+use Prim.Native.Nat.{◌+◌, ◌-◌, ◌^◌, ◌<◌}
 use native.Mathlib.Omega.{arith}
 use lib.Pow.{pow_pos, pow_mono}
-use lib.ListN.{length}
 use Rattle.lattice.specs.Sets.{full}
-use Rattle.rows_crowds.specs.Crowds.{Passing, AllHold}
+use Rattle.rows_crowds.specs.Crowds.{AllHold}
 use Rattle.rows_crowds.proofs.Shorter.{shorter_less}
 use Rattle.rows_crowds.proofs.Filling.{passing_none}
 use Rattle.rows_crowds.proofs.Turns.{filling_shorter, filling_done}
-use Rattle.rows_complete.proofs.Completing.{Completing, whole-filled, completing_start, completing_skip, completing_more, all_more}
+use Rattle.rows_complete.proofs.Completing.{whole-filled, completing_start, completing_skip, completing_more, all_more}
 use borrow.Author.Rules.{rules}
 use Rattle.rows_complete.proofs.complete_slots.Goals as goal
 use Rattle.rows_complete.proofs.complete_slots.Goals.{After-sets_of-all, Else-all-set}

@@ -1,15 +1,8 @@
-use mathlib.Core.Path.{◌≡◌, refl, subst}
-use Prim.Native.Nat.{ℕ, ◌+◌, ◌-◌, ◌^◌, ◌<◌}
-use native.Mathlib.Omega.{arith}
-use lib.Pow.{pow_pos, pow_mono}
+use mathlib.Core.Path.{◌≡◌}
+use Prim.Native.Nat.{ℕ, ◌-◌}
 use lib.ListN.{length}
-use Rattle.lattice.specs.Sets.{full}
-use Rattle.rows_crowds.specs.Crowds.{Passing, AllHold}
-use Rattle.rows_crowds.proofs.Shorter.{shorter_less}
-use Rattle.rows_crowds.proofs.Filling.{passing_none}
-use Rattle.rows_crowds.proofs.Turns.{filling_shorter, filling_done}
-use Rattle.rows_complete.proofs.Completing.{Completing, whole-filled, completing_start, completing_skip, completing_more, all_more}
-use borrow.Author.Rules.{rules}
+use Rattle.rows_crowds.specs.Crowds.{Passing}
+use Rattle.rows_complete.proofs.Completing.{Completing}
 use Rattle.rows_complete.proofs.complete_slots.Given as goal
 
 abbrev pub invariant-loop-k : goal.invariant-loop-k

@@ -1,10 +1,9 @@
 -- `rows_condense::condense_rows` meets its contract: before the set at place k the slots of the sets that had a turn are filled, the rows that are single on these are told, the
 -- lists are ours for these, and so many shared cells have been counted as these have.
-use mathlib.Core.Path.{◌≡◌, refl, sym, ap, ap₂, ◌∙◌}
-use Prim.Native.Nat.{ℕ, zero, suc, ◌+◌, ◌-◌, ◌≤◌, ◌<◌}
+use mathlib.Core.Path.{refl, sym, ap, ap₂, ◌∙◌}
+use Prim.Native.Nat.{ℕ, zero, suc, ◌+◌, ◌≤◌, ◌<◌}
 use native.Mathlib.Omega.{arith}
 use lib.Pow.{pow_pos, pow_mono}
-use lib.ListN.{length}
 use Rattle.lattice.specs.Sets.{full}
 use Rattle.lattice.proofs.Sets.{full-lt}
 use Rattle.cube.specs.Codes.{plain}
@@ -12,8 +11,8 @@ use Rattle.rows.specs.Rows.{cut}
 use Rattle.rows.proofs.Rows.{cut-length}
 use Rattle.rows_ready.specs.Blank.{blanks}
 use Rattle.rows_ready.proofs.Blank.{normals-count}
-use Rattle.rows_crowds.proofs.Turns.{Filling, filling_start, filling_skip, filling_shorter, filling_more, filling_done}
-use Rattle.rows_condense.proofs.Listing.{Listing, Given, listing_start, listing_skip, listing_lower, listing_fit, listing-more, listing-few, listing-done}
+use Rattle.rows_crowds.proofs.Turns.{filling_start, filling_skip, filling_shorter, filling_more, filling_done}
+use Rattle.rows_condense.proofs.Listing.{Given, listing_start, listing_skip, listing_lower, listing_fit, listing-more, listing-few, listing-done}
 use borrow.Author.Rules.{rules}
 use Rattle.rows_condense.proofs.condense_rows.Goals as goal
 use Rattle.rows_condense.proofs.condense_rows.Goals.{After-sets_of-all, Else-all-set}

@@ -1,18 +1,9 @@
-use mathlib.Core.Path.{◌≡◌, refl, sym, ap, ap₂, ◌∙◌}
-use Prim.Native.Nat.{ℕ, zero, suc, ◌+◌, ◌-◌, ◌≤◌, ◌<◌}
-use native.Mathlib.Omega.{arith}
-use lib.Pow.{pow_pos, pow_mono}
+use mathlib.Core.Path.{◌≡◌}
+use Prim.Native.Nat.{◌-◌}
 use lib.ListN.{length}
 use Rattle.lattice.specs.Sets.{full}
-use Rattle.lattice.proofs.Sets.{full-lt}
-use Rattle.cube.specs.Codes.{plain}
-use Rattle.rows.specs.Rows.{cut}
-use Rattle.rows.proofs.Rows.{cut-length}
-use Rattle.rows_ready.specs.Blank.{blanks}
-use Rattle.rows_ready.proofs.Blank.{normals-count}
-use Rattle.rows_crowds.proofs.Turns.{Filling, filling_start, filling_skip, filling_shorter, filling_more, filling_done}
-use Rattle.rows_condense.proofs.Listing.{Listing, Given, listing_start, listing_skip, listing_lower, listing_fit, listing-more, listing-few, listing-done}
-use borrow.Author.Rules.{rules}
+use Rattle.rows_crowds.proofs.Turns.{Filling}
+use Rattle.rows_condense.proofs.Listing.{Listing}
 use Rattle.rows_condense.proofs.condense_rows.Given as goal
 
 abbrev pub invariant-loop-k : goal.invariant-loop-k

@@ -6,8 +6,7 @@ use mathlib.Core.List.{List}
 use Prim.Native.Nat.{ℕ}
 use native.Mathlib.Omega.{arith}
 use lib.Dec.{eqb}
-use lib.ListN.{length, get_or, take}
-use lib.Seq.{length-take-le}
+use lib.ListN.{length, get_or}
 use Rattle.lists.specs.Lists.{some, keep}
 use Rattle.lists.proofs.Members.{at_in, keep_in}
 use Rattle.rows.specs.Rows.{cut}
@@ -22,7 +21,6 @@ use Rattle.rows_crowds.proofs.Left.{left_in}
 use Rattle.rows_lists.specs.Lists.{lists_of, Fit, noted}
 use Rattle.rows_alone.specs.Alone.{is_new}
 use Rattle.rows_condense.proofs.Alone.{lower_passing, lower_new, lower_told}
-use borrow.Author.Rules.{rules}
 use Rattle.rows_condense.proofs.list_set.Goals as goal
 use Rattle.rows_condense.proofs.list_set.Goals.{After-slot_of-slot}
 

@@ -1,9 +1,5 @@
 -- `rows_crowds::count_groups` meets its contract: the groups that are counted, and those that end from place i on, are all groups.
-use mathlib.Core.Path.{◌≡◌}
-use Prim.Native.Nat.{◌+◌, ◌-◌, ◌*◌, ◌≤◌}
 use native.Mathlib.Omega.{arith}
-use lib.ListN.{length, drop}
-use Rattle.rows_crowds.specs.Crowds.{ends}
 use Rattle.rows_crowds.proofs.Filling.{ends_next, ends-done}
 use borrow.Author.Rules.{rules}
 use Rattle.rows_crowds.proofs.count_groups.Goals as goal

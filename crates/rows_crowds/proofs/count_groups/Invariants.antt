@@ -1,10 +1,7 @@
 use mathlib.Core.Path.{◌≡◌}
 use Prim.Native.Nat.{◌+◌, ◌-◌, ◌*◌, ◌≤◌}
-use native.Mathlib.Omega.{arith}
 use lib.ListN.{length, drop}
 use Rattle.rows_crowds.specs.Crowds.{ends}
-use Rattle.rows_crowds.proofs.Filling.{ends_next, ends-done}
-use borrow.Author.Rules.{rules}
 use Rattle.rows_crowds.proofs.count_groups.Given as goal
 
 abbrev pub invariant-loop-i : goal.invariant-loop-i

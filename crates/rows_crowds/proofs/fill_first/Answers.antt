@@ -5,7 +5,6 @@ use lib.ListN.{length}
 use lib.Seq.{length-take-le}
 use Rattle.rows_crowds.specs.Crowds.{left_out}
 use Rattle.rows_crowds.proofs.Filling.{filled}
-use borrow.Author.Rules.{rules}
 use Rattle.rows_crowds.proofs.fill_first.Goals as goal
 
 pub slice_bounds-first_slot-end-2 : goal.slice_bounds-first_slot-end-2

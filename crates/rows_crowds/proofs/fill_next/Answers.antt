@@ -2,7 +2,7 @@
 use mathlib.Core.Path.{◌≡◌, refl, sym, ap, subst, ◌∙◌}
 use mathlib.Core.List.{List, ◌++◌, map}
 use mathlib.Core.Bool.{Bool}
-use Prim.Native.Nat.{ℕ, ◌+◌, ◌-◌, ◌*◌, ◌<◌}
+use Prim.Native.Nat.{ℕ, ◌+◌, ◌-◌, ◌*◌}
 use native.Mathlib.Omega.{arith}
 use borrow.Rule.Slice.PartMut.{mid_len}
 use lib.ListN.{length, get_or, take, drop}
@@ -12,11 +12,10 @@ use Rattle.lists.specs.Lists.{◌∈◌}
 use Rattle.rows_bits.specs.Rowsets.{stays}
 use Rattle.rows_slots.specs.Slots.{row_in, out, mark_in}
 use Rattle.rows_columns.specs.Columns.{part}
-use Rattle.rows_crowds.specs.Crowds.{place, shorter, Holds}
+use Rattle.rows_crowds.specs.Crowds.{Holds}
 use Rattle.rows_crowds.proofs.Shorter.{shorter_zeros, shorter_power, shorter-place}
 use Rattle.rows_crowds.proofs.Column.{turn_small, turn-column}
 use Rattle.rows_crowds.proofs.Filling.{below_all, Next, next-few, next-slot, next-rising, next-names, next_kept, next-left, filled}
-use borrow.Author.Rules.{rules}
 use Rattle.rows_crowds.proofs.fill_next.Goals as goal
 use Rattle.rows_crowds.proofs.fill_next.Goals.{After-column_of-rising}
 

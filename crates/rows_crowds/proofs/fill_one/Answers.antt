@@ -1,16 +1,14 @@
 -- `rows_crowds::fill_one` meets its contract: the column alone tells the rows apart, and its order has them group after group.
 use mathlib.Core.Path.{◌≡◌, refl, ap, ◌∙◌}
-use Prim.Native.Nat.{◌+◌, ◌-◌, ◌*◌, ◌<◌}
+use Prim.Native.Nat.{◌+◌, ◌-◌, ◌*◌}
 use native.Mathlib.Omega.{arith}
 use borrow.Rule.Slice.PartMut.{mid_len}
 use lib.ListN.{length}
 use Rattle.rows_order.proofs.Arranged.{arranged-length}
 use Rattle.rows_slots.specs.Slots.{code_in}
-use Rattle.rows_crowds.specs.Crowds.{place}
 use Rattle.rows_crowds.proofs.Shorter.{shorter_zeros, shorter-place}
 use Rattle.rows_crowds.proofs.Column.{Turn, turn-column, turn-rising, one-names, one_kept, one_left}
 use Rattle.rows_crowds.proofs.Filling.{below_all, filled}
-use borrow.Author.Rules.{rules}
 use Rattle.rows_crowds.proofs.fill_one.Goals as goal
 use Rattle.rows_crowds.proofs.fill_one.Goals.{After-column_of-order}
 

@@ -4,7 +4,6 @@ use Prim.Native.Nat.{◌≤◌}
 use native.Mathlib.Omega.{arith}
 use Rattle.lists.proofs.Members.{keep_all}
 use Rattle.rows_bits.specs.Rowsets.{stays}
-use borrow.Author.Rules.{rules}
 use Rattle.rows_crowds.proofs.fill_set.Goals as goal
 
 pub returns-then-set-eq0 : goal.returns-then-set-eq0

@@ -1,9 +1,7 @@
 -- `rows_lists::clear_lists` meets its contract: the lists of the rows before a row are empty.
-use mathlib.Core.Path.{◌≡◌, refl, ◌∙◌}
-use Prim.Native.Nat.{◌-◌, ◌≤◌}
+use mathlib.Core.Path.{refl, ◌∙◌}
 use native.Mathlib.Omega.{arith}
-use lib.ListN.{length, length-set}
-use Rattle.rows_lists.specs.Lists.{Empty}
+use lib.ListN.{length-set}
 use Rattle.rows_lists.proofs.Lists.{empty-more}
 use borrow.Author.Rules.{rules}
 use Rattle.rows_lists.proofs.clear_lists.Goals as goal

@@ -1,10 +1,7 @@
-use mathlib.Core.Path.{◌≡◌, refl, ◌∙◌}
+use mathlib.Core.Path.{◌≡◌}
 use Prim.Native.Nat.{◌-◌, ◌≤◌}
-use native.Mathlib.Omega.{arith}
-use lib.ListN.{length, length-set}
+use lib.ListN.{length}
 use Rattle.rows_lists.specs.Lists.{Empty}
-use Rattle.rows_lists.proofs.Lists.{empty-more}
-use borrow.Author.Rules.{rules}
 use Rattle.rows_lists.proofs.clear_lists.Given as goal
 
 abbrev pub invariant-loop-row : goal.invariant-loop-row

@@ -2,7 +2,6 @@
 use native.Mathlib.Omega.{arith}
 use lib.ListN.{length-set}
 use Rattle.rows_lists.proofs.Lists.{lists_put, short_put}
-use borrow.Author.Rules.{rules}
 use Rattle.rows_lists.proofs.note_at.Goals as goal
 
 pub bounds-lists-at-3 : goal.bounds-lists-at-3

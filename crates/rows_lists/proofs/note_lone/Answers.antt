@@ -1,9 +1,9 @@
 -- `rows_lists::note_lone` meets its contract: with the set noted for the rows from place i on the lists are what they should be.
-use mathlib.Core.Path.{◌≡◌, refl}
-use Prim.Native.Nat.{◌-◌, ◌*◌, ◌≤◌, ◌<◌}
+use mathlib.Core.Path.{refl}
+use Prim.Native.Nat.{◌*◌, ◌≤◌, ◌<◌}
 use native.Mathlib.Omega.{arith}
-use lib.ListN.{length, get_or, drop}
-use Rattle.rows_lists.specs.Lists.{lists_of, Short, noted}
+use lib.ListN.{length, get_or}
+use Rattle.rows_lists.specs.Lists.{lists_of}
 use Rattle.rows_lists.proofs.Lists.{lists_length, list_length}
 use Rattle.rows_lists.proofs.Noted.{noting_more, noting_room, noting_done}
 use borrow.Author.Rules.{rules}

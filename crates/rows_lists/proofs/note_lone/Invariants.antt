@@ -1,11 +1,7 @@
-use mathlib.Core.Path.{◌≡◌, refl}
-use Prim.Native.Nat.{◌-◌, ◌*◌, ◌≤◌, ◌<◌}
-use native.Mathlib.Omega.{arith}
-use lib.ListN.{length, get_or, drop}
+use mathlib.Core.Path.{◌≡◌}
+use Prim.Native.Nat.{◌-◌, ◌≤◌}
+use lib.ListN.{length, drop}
 use Rattle.rows_lists.specs.Lists.{lists_of, Short, noted}
-use Rattle.rows_lists.proofs.Lists.{lists_length, list_length}
-use Rattle.rows_lists.proofs.Noted.{noting_more, noting_room, noting_done}
-use borrow.Author.Rules.{rules}
 use Rattle.rows_lists.proofs.note_lone.Given as goal
 
 abbrev pub invariant-loop-i : goal.invariant-loop-i

@@ -1,7 +1,6 @@
 -- `rows_ready::blanks` meets its contract: with a row there is none.
 use mathlib.Core.Path.{◌≡◌, refl}
 use Prim.Native.Nat.{ℕ, zero, suc}
-use borrow.Author.Rules.{rules}
 use Rattle.rows_ready.specs.Blank.{blanks}
 use Rattle.rows_ready.proofs.blanks.Goals as goal
 

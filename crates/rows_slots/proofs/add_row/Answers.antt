@@ -1,5 +1,4 @@
 -- `rows_slots::add_row` meets its contract.
-use borrow.Author.Rules.{rules}
 use Rattle.rows_slots.proofs.add_row.Goals as goal
 
 pub plus-requires : goal.plus-requires

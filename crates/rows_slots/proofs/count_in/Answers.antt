@@ -1,6 +1,5 @@
 -- `rows_slots::count_in` meets its contract.
 use mathlib.Core.Path.{refl}
-use borrow.Author.Rules.{rules}
 use Rattle.rows_slots.proofs.count_in.Goals as goal
 
 pub returns-then-counts : goal.returns-then-counts

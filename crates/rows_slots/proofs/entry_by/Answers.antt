@@ -5,7 +5,6 @@ use Prim.Native.Nat.{ℕ, ◌+◌, ◌*◌, ◌≤◌}
 use native.Mathlib.Omega.{arith}
 use mir.Val.{bool_byte}
 use Rattle.rows_slots.specs.Slots.{marked}
-use borrow.Author.Rules.{rules}
 use Rattle.rows_slots.proofs.entry_by.Goals as goal
 
 mark-most : (t : Bool) → 1024 * bool_byte t ≤ 1024

@@ -1,6 +1,5 @@
 -- `rows_slots::entry_of` meets its contract.
 use mathlib.Core.Path.{refl}
-use borrow.Author.Rules.{rules}
 use Rattle.rows_slots.proofs.entry_of.Goals as goal
 
 pub returns-then-last : goal.returns-then-last

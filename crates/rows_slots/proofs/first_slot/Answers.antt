@@ -6,7 +6,6 @@ use Rattle.rows_deals.specs.Deals.{Names}
 use Rattle.rows_order.proofs.Numbers.{numbered}
 use Rattle.rows_slots.specs.Slots.{code_in, slot_from, lone_from}
 use Rattle.rows_slots.proofs.Whole.{slot-none, lone-none}
-use borrow.Author.Rules.{rules}
 use Rattle.rows_slots.proofs.first_slot.Goals as goal
 
 pub pack_groups-requires : goal.pack_groups-requires

@@ -1,6 +1,6 @@
 -- `rows_slots::pack_all` meets its contract: the entries of the rows before place i are written.
 use mathlib.Core.Path.{◌≡◌, refl, subst, ◌∙◌}
-use Prim.Native.Nat.{◌+◌, ◌-◌, ◌≤◌}
+use Prim.Native.Nat.{◌+◌, ◌-◌}
 use native.Mathlib.Omega.{arith}
 use lib.ListN.{length, length-set, drop_of_length-le}
 use Rattle.rows_slots.specs.Slots.{code_in}

@@ -1,10 +1,8 @@
-use mathlib.Core.Path.{◌≡◌, refl, subst, ◌∙◌}
-use Prim.Native.Nat.{◌+◌, ◌-◌, ◌≤◌}
-use native.Mathlib.Omega.{arith}
-use lib.ListN.{length, length-set, drop_of_length-le}
+use mathlib.Core.Path.{◌≡◌}
+use Prim.Native.Nat.{◌-◌, ◌≤◌}
+use lib.ListN.{length}
 use Rattle.rows_slots.specs.Slots.{code_in}
-use Rattle.rows_slots.proofs.Steps.{Listing, closes-next, closes_end, listing-more, listing-done}
-use borrow.Author.Rules.{rules}
+use Rattle.rows_slots.proofs.Steps.{Listing}
 use Rattle.rows_slots.proofs.pack_all.Given as goal
 
 abbrev pub invariant-loop-i : goal.invariant-loop-i

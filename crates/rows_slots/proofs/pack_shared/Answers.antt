@@ -1,7 +1,7 @@
 -- `rows_slots::pack_shared` meets its contract: the entries of the rows before place i that share their code are written, and the others of these rows are left out.
 use mathlib.Core.Path.{◌≡◌, refl, ap, subst, ◌∙◌}
 use mathlib.Core.Bool.{Bool, true, not}
-use Prim.Native.Nat.{◌+◌, ◌-◌, ◌≤◌}
+use Prim.Native.Nat.{◌+◌, ◌-◌}
 use native.Mathlib.Omega.{arith}
 use lib.ListN.{length, get_or, set, length-set, drop_of_length-le}
 use Rattle.rows_slots.specs.Slots.{code_in, staying}

@@ -1,11 +1,8 @@
-use mathlib.Core.Path.{◌≡◌, refl, ap, subst, ◌∙◌}
-use mathlib.Core.Bool.{Bool, true, not}
-use Prim.Native.Nat.{◌+◌, ◌-◌, ◌≤◌}
-use native.Mathlib.Omega.{arith}
-use lib.ListN.{length, get_or, set, length-set, drop_of_length-le}
-use Rattle.rows_slots.specs.Slots.{code_in, staying}
-use Rattle.rows_slots.proofs.Steps.{closes-next, closes_end, Packing, packing_none, packing_more, packing_slot, packing_left}
-use borrow.Author.Rules.{rules}
+use mathlib.Core.Path.{◌≡◌}
+use Prim.Native.Nat.{◌-◌, ◌≤◌}
+use lib.ListN.{length}
+use Rattle.rows_slots.specs.Slots.{code_in}
+use Rattle.rows_slots.proofs.Steps.{Packing}
 use Rattle.rows_slots.proofs.pack_shared.Given as goal
 
 abbrev pub invariant-loop-i : goal.invariant-loop-i
