@@ -12,6 +12,24 @@ use Rattle.program_texts.proofs.put_refused.Goals.{Start}
 few : (c : Start) → length (decimal c.args.stop) ≤ 10
 few c = word_digits c.args.stop c.ranges.stop.fits
 
+pub put_decimal-done-requires : goal.put_decimal-done-requires
+put_decimal-done-requires c = search (rules, few (goal.at.put_decimal-done-requires c).Start)
+
+pub overflow_add-done : goal.overflow_add-done
+overflow_add-done c = search (rules, few (goal.at.overflow_add-done c).Start)
+
+pub slice_bounds-put_character-count : goal.slice_bounds-put_character-count
+slice_bounds-put_character-count c = search (rules, few (goal.at.slice_bounds-put_character-count c).Start)
+
+pub slice_bounds-put_character-start : goal.slice_bounds-put_character-start
+slice_bounds-put_character-start c = search (rules, few (goal.at.slice_bounds-put_character-start c).Start)
+
+pub put_character-requires : goal.put_character-requires
+put_character-requires c = search (rules, few (goal.at.put_character-requires c).Start)
+
+pub overflow_add-result : goal.overflow_add-result
+overflow_add-result c = search (rules, few (goal.at.overflow_add-result c).Start)
+
 pub returns : goal.returns
 returns c =
     rw (refused_is c.args.stop)
