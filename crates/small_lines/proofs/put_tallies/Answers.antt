@@ -1,9 +1,8 @@
 -- `small_lines::put_tallies` meets its contract. The invariant: the tallies from n entries on are left to write.
-use Prim.Native.Nat.{◌+◌, ◌-◌, ◌≤◌}
+use Prim.Native.Nat.{◌+◌, ◌≤◌}
 use native.Mathlib.Omega.{arith}
-use lib.ListN.{length, get_or, drop}
-use Rattle.archive_cells.specs.Writing.{Writing}
-use Rattle.small_lines.specs.Lines.{pair_text, text_from}
+use lib.ListN.{length, get_or}
+use Rattle.small_lines.specs.Lines.{pair_text}
 use Rattle.small_lines.proofs.Texts.{texts_none, texts_skip, texts_room, texts_more, texts_done}
 use borrow.Author.Rules.{rules}
 use Rattle.small_lines.proofs.put_tallies.Goals as goal

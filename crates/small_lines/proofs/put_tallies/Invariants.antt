@@ -1,10 +1,7 @@
-use Prim.Native.Nat.{◌+◌, ◌-◌, ◌≤◌}
-use native.Mathlib.Omega.{arith}
-use lib.ListN.{length, get_or, drop}
+use Prim.Native.Nat.{◌-◌, ◌≤◌}
+use lib.ListN.{length, drop}
 use Rattle.archive_cells.specs.Writing.{Writing}
-use Rattle.small_lines.specs.Lines.{pair_text, text_from}
-use Rattle.small_lines.proofs.Texts.{texts_none, texts_skip, texts_room, texts_more, texts_done}
-use borrow.Author.Rules.{rules}
+use Rattle.small_lines.specs.Lines.{text_from}
 use Rattle.small_lines.proofs.put_tallies.Given as goal
 
 abbrev pub invariant-loop-n : goal.invariant-loop-n

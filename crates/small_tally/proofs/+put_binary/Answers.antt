@@ -1,5 +1,4 @@
 -- `small_tally::put_binary` meets its contract: the call writes all digits but the last, and there is room for the last one.
-use mathlib.Core.Path.{◌≡◌}
 use mathlib.Core.List.{List}
 use Prim.Native.Nat.{ℕ, ◌-◌, ◌/◌, ◌%◌, ◌≤◌, ◌<◌}
 use native.Mathlib.Omega.{arith}

@@ -4,7 +4,6 @@ use native.Mathlib.Omega.{arith}
 use lib.Seq.{length-take-le}
 use Rattle.fields.specs.WrittenLaws.{wrote_within}
 use Rattle.small_tally.proofs.Entries.{rows-room, made-rows, made-entries}
-use borrow.Author.Rules.{rules}
 use Rattle.small_tally.proofs.entries_of.Goals as goal
 
 pub put_table-size-requires : goal.put_table-size-requires

@@ -1,10 +1,8 @@
 -- `small_tally::put_table` meets its contract. The invariant: the rows from bit j on are left to write.
-use Prim.Native.Nat.{◌+◌, ◌-◌, ◌≤◌}
+use Prim.Native.Nat.{◌+◌, ◌≤◌}
 use lib.ListN.{length}
-use Rattle.archive_cells.specs.Writing.{Writing}
 use Rattle.rows.specs.Rows.{width}
-use Rattle.small_tally.specs.Flat.{flat_rows}
-use Rattle.small_tally.proofs.Flat.{row-length, rows_from, rows_none, rows_skip, rows-room, rows_more, rows-done}
+use Rattle.small_tally.proofs.Flat.{row-length, rows_none, rows_skip, rows-room, rows_more, rows-done}
 use borrow.Author.Rules.{rules}
 use Rattle.small_tally.proofs.put_table.Goals as goal
 use Rattle.small_tally.proofs.put_table.Goals.{Else-odd-ne1}

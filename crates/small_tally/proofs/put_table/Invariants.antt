@@ -1,10 +1,7 @@
-use Prim.Native.Nat.{◌+◌, ◌-◌, ◌≤◌}
-use lib.ListN.{length}
+use Prim.Native.Nat.{◌-◌, ◌≤◌}
 use Rattle.archive_cells.specs.Writing.{Writing}
-use Rattle.rows.specs.Rows.{width}
 use Rattle.small_tally.specs.Flat.{flat_rows}
-use Rattle.small_tally.proofs.Flat.{row-length, rows_from, rows_none, rows_skip, rows-room, rows_more, rows-done}
-use borrow.Author.Rules.{rules}
+use Rattle.small_tally.proofs.Flat.{rows_from}
 use Rattle.small_tally.proofs.put_table.Given as goal
 
 abbrev pub invariant-loop-j : goal.invariant-loop-j

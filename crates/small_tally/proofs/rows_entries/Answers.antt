@@ -3,7 +3,6 @@ use mathlib.Core.Path.{ap}
 use Prim.Native.Nat.{ℕ, ◌+◌}
 use native.Mathlib.Omega.{arith}
 use Rattle.small_tally.proofs.Entries.{normals_fit}
-use borrow.Author.Rules.{rules}
 use Rattle.small_tally.proofs.rows_entries.Goals as goal
 
 pub condense_rows-normals-requires : goal.condense_rows-normals-requires

@@ -1,10 +1,10 @@
 -- `small_tally::tally_tables` meets its contract: before table t the tallies are those of the tables before it.
-use mathlib.Core.Path.{◌≡◌, ◌∙◌, ap}
-use Prim.Native.Nat.{ℕ, ◌-◌, ◌^◌, ◌≤◌, ◌<◌}
+use mathlib.Core.Path.{◌∙◌, ap}
+use Prim.Native.Nat.{ℕ, ◌^◌, ◌≤◌, ◌<◌}
 use native.Mathlib.Omega.{arith}
 use lib.Pow.{pow_mono}
 use lib.ListN.{length, get_or}
-use Rattle.small_tally.proofs.Tallies.{Tallied, tallied_none, tallied_place, tallied_few, tallied_more, tallied_all}
+use Rattle.small_tally.proofs.Tallies.{tallied_none, tallied_place, tallied_few, tallied_more, tallied_all}
 use borrow.Author.Rules.{rules}
 use Rattle.small_tally.proofs.tally_tables.Goals as goal
 use Rattle.small_tally.proofs.tally_tables.Goals.{After-entries_of-n}

@@ -1,10 +1,6 @@
-use mathlib.Core.Path.{◌≡◌, ◌∙◌, ap}
-use Prim.Native.Nat.{ℕ, ◌-◌, ◌^◌, ◌≤◌, ◌<◌}
-use native.Mathlib.Omega.{arith}
-use lib.Pow.{pow_mono}
-use lib.ListN.{length, get_or}
-use Rattle.small_tally.proofs.Tallies.{Tallied, tallied_none, tallied_place, tallied_few, tallied_more, tallied_all}
-use borrow.Author.Rules.{rules}
+use mathlib.Core.Path.{◌≡◌}
+use Prim.Native.Nat.{◌-◌, ◌^◌, ◌≤◌}
+use Rattle.small_tally.proofs.Tallies.{Tallied}
 use Rattle.small_tally.proofs.tally_tables.Given as goal
 
 abbrev pub invariant-loop-t : goal.invariant-loop-t
