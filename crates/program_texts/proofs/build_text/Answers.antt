@@ -1,6 +1,5 @@
 -- `program_texts::build_text` meets its contract: what the builder prints is too long's line, the archive's bytes, or a stop's line over an output that the call left alone.
 use mathlib.Core.Path.{sym}
-use borrow.Author.Rules.{rules}
 use Rattle.archive_cells.specs.WritingLaws.{wrote_as}
 use Rattle.program_texts.proofs.Printed.{builder_long, builder-refused, builder-wrote}
 use Rattle.program_texts.proofs.build_text.Goals as goal

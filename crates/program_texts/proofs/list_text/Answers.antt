@@ -1,7 +1,6 @@
 -- `program_texts::list_text` meets its contract: what the lister prints is too long's line, a stop's line, or the text of an accepted archive, for which there is room.
 use mathlib.Core.Path.{sym, ◌∙◌}
 use native.Mathlib.Omega.{arith}
-use borrow.Author.Rules.{rules}
 use Rattle.fields_walk.proofs.Limits.{bytes_of}
 use Rattle.archive_cells.specs.WritingLaws.{wrote_as}
 use Rattle.text_listing.proofs.Places.{listing-few}

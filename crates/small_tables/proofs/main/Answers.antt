@@ -4,7 +4,6 @@ use native.Mathlib.Omega.{arith}
 use lib.Seq.{length-take-le}
 use Rattle.fields.specs.WrittenLaws.{wrote_within}
 use Rattle.small_tally.proofs.Examples.{report-size}
-use borrow.Author.Rules.{rules}
 use Rattle.small_tables.proofs.main.Goals as goal
 
 pub put_report-done-requires : goal.put_report-done-requires
