@@ -4,7 +4,7 @@ use crate::code::{to_word, Code};
 use crate::entries::Entries;
 use crate::fields::Fields;
 use crate::head::Head;
-use crate::raw::{self, Counts, Found, Seen};
+use crate::raw::{self, Counts, Found};
 use crate::room;
 use crate::stop::Stop;
 
@@ -196,7 +196,7 @@ impl Archive {
     ///
     /// Each cell has the sums and counts of both. Which comes first does not matter; one without rows leaves the other's bytes.
     ///
-    /// Stop 17 if the dimensions or sizes differ, 18 if the result has over 1,024 base rows or a total count over 1,048,576.
+    /// Stop 17 if the dimensions or sizes differ, 18 if there are over 1,024 base rows or a total count over 1,048,576.
     ///
     /// ```
     /// use cube_archive::{Archive, Found, Stop, Table};
@@ -222,63 +222,6 @@ impl Archive {
     pub fn join(&self, other: &Archive) -> Result<Archive, Stop> {
         let room = room::join(self.head.dims, self.head.rows, other.head.rows);
         Ok(Archive::accepted(written(room, |out| raw::join(&self.bytes, &other.bytes, out))?))
-    }
-
-    /// This archive with one record added: the archive of its base rows with the record folded in.
-    ///
-    /// Just the cells in which the record falls gain it, each by the reading and by one in count; every other cell keeps its values.
-    ///
-    /// Stop 13 if there are other than D codes, or one that is not below its size; 18 if the result has over 1,024 base rows or a total
-    /// count over 1,048,576.
-    ///
-    /// ```
-    /// use cube_archive::{Archive, Stop, Table};
-    ///
-    /// let mut table = Table::new(&[7, 6])?;
-    /// table.push(&[0, 1], 50)?;
-    /// let closed = Archive::build(&table.to_bytes())?;
-    /// let late = closed.add(&[2, 1], -8)?;
-    /// let amount = |archive: &Archive, cell: &[Option<u16>]| Ok::<_, Stop>(archive.look_up(cell)?.map(|found| (found.sum, found.count)));
-    /// assert_eq!(amount(&late, &[None, Some(1)])?, Some((42, 2)));
-    /// assert_eq!(amount(&late, &[Some(2), None])?, Some((-8, 1)));
-    /// assert_eq!(amount(&late, &[Some(0), None])?, amount(&closed, &[Some(0), None])?);
-    /// table.push(&[2, 1], -8)?;
-    /// assert_eq!(late, Archive::build(&table.to_bytes())?, "as built afresh");
-    /// assert_eq!(closed.add(&[2, 6], 1), Err(Stop::Question));
-    /// # Ok::<(), Box<dyn std::error::Error>>(())
-    /// ```
-    pub fn add(&self, codes: &[u16], reading: i32) -> Result<Archive, Stop> {
-        let codes: Vec<u32> = codes.iter().map(|&code| code.into()).collect();
-        let room = room::add(self.head.dims, self.head.rows);
-        Ok(Archive::accepted(written(room, |out| raw::add(&self.bytes, &codes, reading, out))?))
-    }
-
-    /// The sum and count of a cell through the window of a dimension, counted from 1, and a code, or `None` for 'no record'. The question,
-    /// which is as that of [`Archive::look_up`], must have the window's code at its dimension.
-    ///
-    /// Archives of the same sizes that agree on the base rows in the window give every question the same answer. How long the call takes
-    /// may depend on every row.
-    ///
-    /// Stop 16 if the dimension is not 1 to D, then 13 if the code is not below its size, then 13 for the question, then 20 if the
-    /// question has another code there.
-    ///
-    /// ```
-    /// use cube_archive::{Archive, Seen, Stop, Table};
-    ///
-    /// let mut table = Table::new(&[3, 2])?;
-    /// for (codes, reading) in [([0, 0], 5), ([0, 1], 6), ([1, 1], 70)] {
-    ///     table.push(&codes, reading)?;
-    /// }
-    /// let shared = Archive::build(&table.to_bytes())?;
-    /// assert_eq!(shared.window(1, 0, &[Some(0), None]), Ok(Some(Seen { sum: 11, count: 2 })));
-    /// assert_eq!(shared.window(1, 2, &[Some(2), None]), Ok(None), "no record");
-    /// assert_eq!(shared.window(1, 0, &[Some(1), None]), Err(Stop::Window), "another chip");
-    /// assert_eq!(shared.window(1, 0, &[None, Some(1)]), Err(Stop::Window), "all chips");
-    /// # Ok::<(), Box<dyn std::error::Error>>(())
-    /// ```
-    pub fn window(&self, dimension: u32, code: u16, question: &[Code]) -> Result<Option<Seen>, Stop> {
-        let question: Vec<u32> = question.iter().copied().map(to_word).collect();
-        raw::window(&self.bytes, dimension, code.into(), &question)
     }
 
     /// The cuboids of these sets, which the bytes list one behind the other.

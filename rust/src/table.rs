@@ -2,7 +2,7 @@
 use std::fmt;
 
 /// The most rows of a table.
-pub(crate) const ROWS: usize = 1_024;
+const ROWS: usize = 1_024;
 
 /// Records with their codes' sizes, from which the bytes of a table are made.
 ///

@@ -1,6 +1,5 @@
 //! The words behind a command, and its options.
 use crate::failure::{Failure, Outcome};
-use crate::opened::number;
 use std::ffi::{OsStr, OsString};
 use std::path::PathBuf;
 
@@ -15,14 +14,14 @@ pub struct Args {
 }
 
 impl Args {
-    /// The words and options of a command that has these options; each has `-o`. A number below zero is a word.
+    /// The words and options of a command that has these options; each has `-o`.
     pub fn parse(words: &[OsString], options: &[&str]) -> Outcome<Args> {
         let mut args = Args::default();
         let mut rest = words.iter();
         while let Some(word) = rest.next() {
             match word.to_str() {
                 Some("--") => args.words.extend(rest.by_ref().cloned()),
-                Some(option) if option.len() > 1 && option.starts_with('-') && number(&option[1..]).is_none() => {
+                Some(option) if option.len() > 1 && option.starts_with('-') => {
                     if option != "-o" && !options.contains(&option) {
                         return Err(Failure::Usage(format!("there is no option {option} here")));
                     }
@@ -60,14 +59,6 @@ impl Args {
         let files: Vec<&OsStr> = self.words.iter().map(OsString::as_os_str).collect();
         let count = files.len();
         files.try_into().map_err(|_| Failure::Usage(format!("expected {N} file{}, found {count}", if N == 1 { "" } else { "s" })))
-    }
-
-    /// So many words or more, each of them a file.
-    pub fn files_from(&self, least: usize) -> Outcome<Vec<&OsStr>> {
-        match self.words.len() {
-            count if count < least => Err(Failure::Usage(format!("expected {least} files or more, found {count}"))),
-            _ => Ok(self.words.iter().map(OsString::as_os_str).collect()),
-        }
     }
 }
 

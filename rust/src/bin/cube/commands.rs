@@ -1,5 +1,4 @@
 //! The commands, each in a file of its own, and what `cube help` says of them.
-mod add;
 mod build;
 mod cell;
 mod check;
@@ -12,7 +11,6 @@ mod keys;
 mod list;
 mod report;
 mod totals;
-mod window;
 
 use crate::args::Args;
 use crate::failure::Outcome;
@@ -31,7 +29,7 @@ pub struct Command {
     pub run: fn(&Args) -> Outcome<()>,
 }
 
-const COMMANDS: [&Command; 14] = [
+const COMMANDS: [&Command; 12] = [
     &build::COMMAND,
     &check::COMMAND,
     &cell::COMMAND,
@@ -41,8 +39,6 @@ const COMMANDS: [&Command; 14] = [
     &keys::COMMAND,
     &fixes::COMMAND,
     &join::COMMAND,
-    &add::COMMAND,
-    &window::COMMAND,
     &totals::COMMAND,
     &fee::COMMAND,
     &report::COMMAND,

@@ -8,7 +8,6 @@ mod input;
 mod legend;
 mod opened;
 mod output;
-mod progress;
 mod report;
 
 use args::Args;
