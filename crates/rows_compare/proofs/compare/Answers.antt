@@ -5,7 +5,6 @@ use borrow.Author.Rules.{rules}
 use Rattle.rows_compare.proofs.Agree.{alike-out}
 use Rattle.rows_compare.proofs.Compared.{further_none, alike_in, compared_skip, compared_less, compared-more, compared-done}
 use Rattle.rows_compare.proofs.compare.Goals as goal
-use Rattle.rows_compare.proofs.compare.Goals.{then-rest-eq1+else-x-y+else-y-x, else-rest-eq1}
 
 pub loop-d-init : goal.loop-d-init
 loop-d-init c = (omega arith, further_none _)
@@ -14,19 +13,19 @@ pub returns-then-x-y : goal.returns-then-x-y
 returns-then-x-y c =
     sym (sym c.loop-d.invariant.1
     ∙ compared_less c.loop-d.rest c.args.mine.now c.args.other.now c.loop-d.d (search rules) (search rules)
-    c.if-rest-eq1.true c.if-x-y.true)
+    (omega arith) c.if-x-y.true)
 
 pub returns-then-y-x : goal.returns-then-y-x
 returns-then-y-x c =
     sym (sym c.loop-d.invariant.1
     ∙ compared-more c.loop-d.rest c.args.mine.now c.args.other.now c.loop-d.d (search rules) (search rules)
-    c.if-rest-eq1.true c.if-y-x.true)
+    (omega arith) c.if-y-x.true)
 
 pub loop-d-preserved : goal.loop-d-preserved
 loop-d-preserved c = (
   search rules,
   compared_skip c.loop-d.rest c.args.mine.now c.args.other.now c.loop-d.d (search rules) (search rules)
-      (elim c.if-rest-eq1.branch [ then-rest-eq1+else-x-y+else-y-x w ↦ alike_in _ _ _ w.if-rest-eq1.true (omega arith) | else-rest-eq1 w ↦ alike-out _ _ _ w.if-rest-eq1.false ])
+      (grind (arith, alike_in, alike-out))
       ∙ c.loop-d.invariant.1,
 )
 

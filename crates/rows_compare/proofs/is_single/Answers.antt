@@ -2,7 +2,10 @@
 -- The dimension loop: what is left of two rows agrees on the rest of the set just where they agree on the set; `continue 'rows` steps i, so i is among its variables.
 use mathlib.Core.Path.{refl, sym, ap, ◌∙◌}
 use mathlib.Core.List.{[]}
-use Prim.Native.Nat.{◌<◌}
+use mathlib.Core.Path.{◌≡◌}
+use native.Mathlib.Omega.{arith}
+use Prim.Native.Nat.{◌<◌, ◌%◌}
+use Rattle.rows_compare.proofs.Compared.{alike_in}
 use borrow.Author.Rules.{rules}
 use borrow.Author.Tests.{eq-eqb, ne_eqb}
 use lib.ListN.{length}
@@ -14,7 +17,7 @@ use Rattle.rows_compare.proofs.Agree.{alike-out, agree_skip, agree-stop, agree-d
 use Rattle.lists.proofs.Places.{distinct-at}
 use Rattle.rows_compare.proofs.Singles.{single-own, single_skip, single-stop, single-done}
 use Rattle.rows_compare.proofs.is_single.Goals as goal
-use Rattle.rows_compare.proofs.is_single.Goals.{In-rows, else-rest-eq1-via-then-rest-eq1+else-mine-d, else-rest-eq1-via-else-rest-eq1}
+use Rattle.rows_compare.proofs.is_single.Goals.{In-rows}
 
 -- the place in hand is that of a row
 within : (c : goal.In-rows)
@@ -43,8 +46,9 @@ pub rows-preserved : goal.rows-preserved
 rows-preserved c =
     let a = c.args in
     let mine = c.row_of-mine.result.now in
+    let one : c.loop-d.rest % 2 ≡ 1 = omega arith in
     let stop = agree-stop c.loop-d.rest mine c.row_of-other.result.now c.loop-d.d (search rules) (search rules)
-    (rw c.if-rest-eq1.true (ne_eqb _ _ c.if-mine-d.true)) in (
+    (rw one (ne_eqb _ _ c.if-mine-d.true)) in (
       c.rows.invariant.0,
       search rules,
       rw c.loop-d.invariant.0
@@ -58,7 +62,7 @@ loop-d-preserved c =
       search rules,
       search rules,
       agree_skip l.rest _ _ l.d (search rules) (search rules)
-          (elim c.else-rest-eq1.branch [ else-rest-eq1-via-then-rest-eq1+else-mine-d w ↦ rw w.if-rest-eq1.true (eq-eqb _ _ w.if-mine-d.false) | else-rest-eq1-via-else-rest-eq1 w ↦ alike-out _ _ _ w.if-rest-eq1.false ]) ∙ l.invariant.2,
+          (grind (arith, alike_in, alike-out)) ∙ l.invariant.2,
     )
 
 pub returns-after-rows : goal.returns-after-rows

@@ -17,7 +17,7 @@ returns-then-set-eq0 c =
 pub fill_one-requires : goal.fill_one-requires
 fill_one-requires c =
     let p = c.requires in
-    record { n_bound = p.n_bound; in_bounds = (p.in_bounds.0, p.in_bounds.1, p.in_bounds.4); dims_bound = (p.dims_bound.0, p.dims_bound.1, omega (arith, c.if-set-eq0.false), p.dims_bound.2, p.dims_bound.3, sym c.size_of_set.ensures ∙ c.if-size_of_set-eq1.true, c.if-n-ne1.true) }
+    record { n_bound = p.n_bound; in_bounds = (p.in_bounds.0, p.in_bounds.1, p.in_bounds.4); dims_bound = (p.dims_bound.0, p.dims_bound.1, omega arith, p.dims_bound.2, p.dims_bound.3, omega (arith, c.size_of_set.ensures), c.if-n-ne1.true) }
 
 pub fill_next-requires : goal.fill_next-requires
 fill_next-requires c =
