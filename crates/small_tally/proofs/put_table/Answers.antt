@@ -5,13 +5,7 @@ use Rattle.rows.specs.Rows.{width}
 use Rattle.small_tally.proofs.Flat.{row-length, rows_none, rows_skip, rows-room, rows_more, rows-done}
 use borrow.Author.Rules.{rules}
 use Rattle.small_tally.proofs.put_table.Goals as goal
-use Rattle.small_tally.proofs.put_table.Goals.{Else-odd-ne1}
-
-room : (c : goal.Else-odd-ne1) → c.loop-j.at + width c.args.dims ≤ length c.loop-j.out
-room c =
-    let a = c.args in
-    let l = c.loop-j in
-    rows-room a.dims a.t _ l.rest l.j l.invariant.1 c.loop-j-test.true c.if-odd-ne1.false c.requires.1
+use native.Mathlib.Omega.{arith}
 
 pub loop-j-init : goal.loop-j-init
 loop-j-init c = let a = c.args in (search rules, rows_none a.dims a.t _ a.out.now c.sets_of-j-end.ensures)
@@ -20,30 +14,30 @@ pub loop-j-preserved-then-odd-ne1 : goal.loop-j-preserved-then-odd-ne1
 loop-j-preserved-then-odd-ne1 c =
     let a = c.args in
     let l = c.loop-j in
-    (search rules, rows_skip a.dims a.t _ l.rest l.j l.invariant.1 c.loop-j-test.true c.if-odd-ne1.true)
+    (search rules, rows_skip a.dims a.t _ l.rest l.j l.invariant.1 c.loop-j-test.true (omega arith))
 
 pub offset_bounds-out-at : goal.offset_bounds-out-at
-offset_bounds-out-at c = search (rules, room c)
+offset_bounds-out-at c = search (rules, rows-room c.args.dims c.args.t _ c.loop-j.rest c.loop-j.j c.loop-j.invariant.1 c.loop-j-test.true (omega arith) c.requires.1)
 
 pub slice_bounds-put_row-count : goal.slice_bounds-put_row-count
-slice_bounds-put_row-count c = search (rules, room c)
+slice_bounds-put_row-count c = search (rules, rows-room c.args.dims c.args.t _ c.loop-j.rest c.loop-j.j c.loop-j.invariant.1 c.loop-j-test.true (omega arith) c.requires.1)
 
 pub slice_bounds-put_row-start : goal.slice_bounds-put_row-start
-slice_bounds-put_row-start c = search (rules, room c)
+slice_bounds-put_row-start c = search (rules, rows-room c.args.dims c.args.t _ c.loop-j.rest c.loop-j.j c.loop-j.invariant.1 c.loop-j-test.true (omega arith) c.requires.1)
 
 pub put_row-at-requires : goal.put_row-at-requires
-put_row-at-requires c = search (rules, room (goal.at.put_row-at-requires c).Else-odd-ne1)
+put_row-at-requires c = search (rules, rows-room c.args.dims c.args.t _ c.loop-j.rest c.loop-j.j c.loop-j.invariant.1 c.loop-j-test.true (omega arith) c.requires.1)
 
 pub overflow_add-at : goal.overflow_add-at
 overflow_add-at c =
     let l = c.loop-j in
-    search (rules, room (goal.at.overflow_add-at c).Else-odd-ne1, row-length c.args.dims l.j)
+    search (rules, rows-room c.args.dims c.args.t _ c.loop-j.rest c.loop-j.j c.loop-j.invariant.1 c.loop-j-test.true (omega arith) c.requires.1, row-length c.args.dims l.j)
 
 pub loop-j-preserved : goal.loop-j-preserved
 loop-j-preserved c =
     let a = c.args in
     let l = c.loop-j in
-    (search rules, rows_more a.dims a.t _ l.rest l.j l.invariant.1 c.loop-j-test.true c.if-odd-ne1.false c.put_row-at.ensures)
+    (search rules, rows_more a.dims a.t _ l.rest l.j l.invariant.1 c.loop-j-test.true (omega arith) c.put_row-at.ensures)
 
 pub shape_of-out : goal.shape_of-out
 shape_of-out c = c.loop-j.invariant.1.wrote.same
