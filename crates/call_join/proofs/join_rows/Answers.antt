@@ -12,11 +12,11 @@ use Rattle.call_join.proofs.join_rows.Goals as goal
 use Rattle.call_join.proofs.join_rows.Goals.{Else-k-gt1024}
 
 small : (c : goal.Else-k-gt1024) → c.merge_rows-k.result * width (length c.args.sizes.now) ≤ 11264
-small c = let p = c.requires in stored_small p.0 p.1 c.merge_rows-k.ensures (search rules) (omega (arith, c.if-readings_in-gt1048576.false, c.readings_in-2.ensures, c.readings_in.ensures)) c.if-k-gt1024.false
+small c = let p = c.requires in stored_small p.0 p.1 c.merge_rows-k.ensures (search rules) (omega (arith, c.readings_in-2.ensures, c.readings_in.ensures)) c.if-k-gt1024.false
 
 -- the front of the array is ready
 ready : (c : goal.Else-k-gt1024) → (let k = c.merge_rows-k.result in let d = length c.args.sizes.now in Ready d k (take (k * width d) c.merge_rows-k.new.rows))
-ready c = let p = c.requires in stored-ready p.0 p.1 c.merge_rows-k.ensures (search rules) (omega (arith, c.if-readings_in-gt1048576.false, c.readings_in-2.ensures, c.readings_in.ensures)) c.if-k-gt1024.false
+ready c = let p = c.requires in stored-ready p.0 p.1 c.merge_rows-k.ensures (search rules) (omega (arith, c.readings_in-2.ensures, c.readings_in.ensures)) c.if-k-gt1024.false
 
 pub readings_in-requires : goal.readings_in-requires
 readings_in-requires c = let p = c.requires.0 in (p.ready.size, p.limits.counts)
@@ -28,10 +28,10 @@ pub overflow_add-readings_in : goal.overflow_add-readings_in
 overflow_add-readings_in c = let p = c.requires in omega (arith, stores_small p.0 p.1, c.readings_in-2.ensures, c.readings_in.ensures)
 
 pub returns-then-readings_in-gt1048576 : goal.returns-then-readings_in-gt1048576
-returns-then-readings_in-gt1048576 c = let p = c.requires in stopped c.args.out.now (stores_many p.0 p.1 (omega (arith, c.if-readings_in-gt1048576.true, c.readings_in-2.ensures, c.readings_in.ensures)))
+returns-then-readings_in-gt1048576 c = let p = c.requires in stopped c.args.out.now (stores_many p.0 p.1 (omega (arith, c.readings_in-2.ensures, c.readings_in.ensures)))
 
 pub merge_rows-k-requires : goal.merge_rows-k-requires
-merge_rows-k-requires c = let p = c.requires in (stores_pair p.0 p.1 (omega (arith, c.if-readings_in-gt1048576.false, c.readings_in-2.ensures, c.readings_in.ensures)), search rules)
+merge_rows-k-requires c = let p = c.requires in (stores_pair p.0 p.1 (omega (arith, c.readings_in-2.ensures, c.readings_in.ensures)), search rules)
 
 pub returns-then-k-gt1024 : goal.returns-then-k-gt1024
 returns-then-k-gt1024 c = let p = c.requires in stopped c.args.out.now (stored-over p.0 p.1 c.merge_rows-k.ensures c.if-k-gt1024.true)
@@ -48,9 +48,9 @@ slice_bounds-fit_archive-end c = (ready (goal.at.slice_bounds-fit_archive-end c)
 pub fit_archive-requires : goal.fit_archive-requires
 fit_archive-requires c =
     let p = c.requires in
-    (ready (goal.at.fit_archive-requires c).Else-k-gt1024, stored-limits p.0 p.1 c.merge_rows-k.ensures (search rules) (omega (arith, c.if-readings_in-gt1048576.false, c.readings_in-2.ensures, c.readings_in.ensures)) c.if-k-gt1024.false, p.2)
+    (ready (goal.at.fit_archive-requires c).Else-k-gt1024, stored-limits p.0 p.1 c.merge_rows-k.ensures (search rules) (omega (arith, c.readings_in-2.ensures, c.readings_in.ensures)) c.if-k-gt1024.false, p.2)
 
 pub returns : goal.returns
 returns c =
     let p = c.requires in
-    answered_as (stored-filed p.0 p.1 c.merge_rows-k.ensures (search rules) (omega (arith, c.if-readings_in-gt1048576.false, c.readings_in-2.ensures, c.readings_in.ensures)) c.if-k-gt1024.false) c.fit_archive.ensures
+    answered_as (stored-filed p.0 p.1 c.merge_rows-k.ensures (search rules) (omega (arith, c.readings_in-2.ensures, c.readings_in.ensures)) c.if-k-gt1024.false) c.fit_archive.ensures

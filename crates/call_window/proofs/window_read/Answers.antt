@@ -19,7 +19,7 @@ use Rattle.call_window.proofs.window_read.Goals.{After-look_read}
 
 -- the window's own question is looked up
 through : (c : goal.After-look_read) → (let a = c.args in OpenedIn a.archive.now a.dims a.bases a.cells a.rows.now → unnumbered_found c.look_read.result ≡ asks_window a.archive.now a.dimension a.code a.question.now)
-through c o = let a = c.args in looked_through o a.dimension a.code a.question.now c.if-dimension-eq0.false c.if-dims-dimension.false c.word_at.ensures c.if-word_at-code.false (sym c.if-not-fits.false ∙ c.fits.ensures) c.if-question-i.false c.look_read.ensures
+through c o = let a = c.args in looked_through o a.dimension a.code a.question.now (omega arith) c.if-dims-dimension.false c.word_at.ensures c.if-word_at-code.false (sym c.if-not-fits.false ∙ c.fits.ensures) c.if-question-i.false c.look_read.ensures
 
 pub returns-then-dimension-eq0 : goal.returns-then-dimension-eq0
 returns-then-dimension-eq0 c = let a = c.args in no_dimension (opened (bytes_of c.args.archive.now (λ i. omega (arith, c.type_inv.archive i))) c.requires) a.dimension a.code a.question.now c.if-dimension-eq0.true
@@ -28,22 +28,22 @@ pub returns-then-dims-dimension : goal.returns-then-dims-dimension
 returns-then-dims-dimension c = let a = c.args in high-dimension (opened (bytes_of c.args.archive.now (λ i. omega (arith, c.type_inv.archive i))) c.requires) a.dimension a.code a.question.now c.if-dims-dimension.true
 
 pub word_at-requires : goal.word_at-requires
-word_at-requires c = omega (arith, opened_long (opened (bytes_of c.args.archive.now (λ i. omega (arith, c.type_inv.archive i))) c.requires), c.if-dims-dimension.false, c.if-dimension-eq0.false)
+word_at-requires c = omega (arith, opened_long (opened (bytes_of c.args.archive.now (λ i. omega (arith, c.type_inv.archive i))) c.requires), c.if-dims-dimension.false)
 
 pub returns-then-word_at-code : goal.returns-then-word_at-code
-returns-then-word_at-code c = let a = c.args in no_code (opened (bytes_of c.args.archive.now (λ i. omega (arith, c.type_inv.archive i))) c.requires) a.dimension a.code a.question.now c.if-dimension-eq0.false c.if-dims-dimension.false c.word_at.ensures c.if-word_at-code.true
+returns-then-word_at-code c = let a = c.args in no_code (opened (bytes_of c.args.archive.now (λ i. omega (arith, c.type_inv.archive i))) c.requires) a.dimension a.code a.question.now (omega arith) c.if-dims-dimension.false c.word_at.ensures c.if-word_at-code.true
 
 pub fits-requires : goal.fits-requires
 fits-requires c = opened_long (opened (bytes_of c.args.archive.now (λ i. omega (arith, c.type_inv.archive i))) c.requires)
 
 pub returns-then-not-fits : goal.returns-then-not-fits
-returns-then-not-fits c = let a = c.args in no_question (opened (bytes_of c.args.archive.now (λ i. omega (arith, c.type_inv.archive i))) c.requires) a.dimension a.code a.question.now c.if-dimension-eq0.false c.if-dims-dimension.false c.word_at.ensures c.if-word_at-code.false (sym c.if-not-fits.true ∙ c.fits.ensures)
+returns-then-not-fits c = let a = c.args in no_question (opened (bytes_of c.args.archive.now (λ i. omega (arith, c.type_inv.archive i))) c.requires) a.dimension a.code a.question.now (omega arith) c.if-dims-dimension.false c.word_at.ensures c.if-word_at-code.false (sym c.if-not-fits.true ∙ c.fits.ensures)
 
 pub bounds-question-i : goal.bounds-question-i
-bounds-question-i c = omega (arith, look-long (opened (bytes_of c.args.archive.now (λ i. omega (arith, c.type_inv.archive i))) c.requires) c.args.question.now (sym c.if-not-fits.false ∙ c.fits.ensures), c.if-dims-dimension.false, c.if-dimension-eq0.false)
+bounds-question-i c = omega (arith, look-long (opened (bytes_of c.args.archive.now (λ i. omega (arith, c.type_inv.archive i))) c.requires) c.args.question.now (sym c.if-not-fits.false ∙ c.fits.ensures), c.if-dims-dimension.false)
 
 pub returns-then-question-i : goal.returns-then-question-i
-returns-then-question-i c = let a = c.args in other-code (opened (bytes_of c.args.archive.now (λ i. omega (arith, c.type_inv.archive i))) c.requires) a.dimension a.code a.question.now c.if-dimension-eq0.false c.if-dims-dimension.false c.word_at.ensures c.if-word_at-code.false (sym c.if-not-fits.false ∙ c.fits.ensures) c.if-question-i.true
+returns-then-question-i c = let a = c.args in other-code (opened (bytes_of c.args.archive.now (λ i. omega (arith, c.type_inv.archive i))) c.requires) a.dimension a.code a.question.now (omega arith) c.if-dims-dimension.false c.word_at.ensures c.if-word_at-code.false (sym c.if-not-fits.false ∙ c.fits.ensures) c.if-question-i.true
 
 pub returns-in-Cell : goal.returns-in-Cell
 returns-in-Cell c =
