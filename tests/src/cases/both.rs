@@ -204,7 +204,7 @@ fn stop_11(c: &mut Cases, kind: &Kind) {
         c.stop(&format!("the size at {at} changed, the check word left"), b, 11);
     }
     kind.accepted(c, "the right check word", file, 2);
-    kind.accepted(c, "the check word of the widest sizes", kind.right(&[65_535; 8]), 8);
+    kind.accepted(c, "a check word beyond 2 to the power 32", kind.right(&[65_535; 8]), 8);
 }
 
 fn stop_11_of_other_sums(c: &mut Cases, kind: &Kind) {

@@ -1,0 +1,11 @@
+-- `program_pipes::run_builder` stays within its arrays: the builder prints no more than it is lent.
+use lib.Seq.{length-take-le}
+use mathlib.Core.Path.{sym}
+use Rattle.fields.specs.WrittenLaws.{wrote_within}
+use Rattle.program_pipes.proofs.run_builder.Goals as goal
+
+pub slice_bounds-out-end : goal.slice_bounds-out-end
+slice_bounds-out-end g c = wrote_within c.build_text-done.ensures
+
+pub slice_bounds-write_all-end : goal.slice_bounds-write_all-end
+slice_bounds-write_all-end g c = sym (length-take-le _ _ (wrote_within c.build_text-done.ensures))
