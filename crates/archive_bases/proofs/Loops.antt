@@ -5,8 +5,8 @@ use Prim.Native.Nat.{ℕ, ◌+◌, ◌-◌, ◌≤◌, ◌<◌}
 use lib.ListN.{length, drop}
 use borrow.Rule.Slice.PartMut.{mid_of, put_mid}
 use Rattle.fields.specs.Written.{Wrote}
-use Rattle.fields_walk.specs.declared.Walk.{Walk}
-use Rattle.fields_walk.specs.declared.Walk.TheVariants.{Stop, At}
+use Rattle.stops.specs.declared.Stop.{Stop}
+use Rattle.std.specs.Prelude.{Err, Ok}
 use Rattle.rows.specs.Rows.{rows_of}
 use Rattle.archive_entries.specs.Layout.{base_bytes}
 use Rattle.archive_cells.specs.Writing.{Writing}
@@ -52,11 +52,11 @@ module _ {d n : ℕ} {ws ls : List ℕ} (rows : Listed d n ws ls) (i : ℕ) wher
     following : i < n → Matching all (one ++ from (i + 1)) s start at
     following h = subst (λ (x : List ℕ). Matching all x s start at) (left h) w
 
-    pub match_more : {v : Walk} {k : ℕ} → i < n → v ≡ At k → Matched s at one v → Matching all (from (i + 1)) s start k
-    match_more h e m = matching_more one (from (i + 1)) (following h) (subst (Matched s at one) e m)
+    pub match_more : {k : ℕ} → i < n → Matched s at one (Ok k) → Matching all (from (i + 1)) s start k
+    match_more h = matching_more one (from (i + 1)) (following h)
 
-    pub match_off : {v : Walk} {k : ℕ} → i < n → v ≡ Stop k → Matched s at one v → Matched s start all (Stop k)
-    match_off h e m = matching_off one (from (i + 1)) (following h) (subst (Matched s at one) e m)
+    pub match_off : {e : Stop} → i < n → Matched s at one (Err e) → Matched s start all (Err e)
+    match_off h = matching_off one (from (i + 1)) (following h)
 
-    pub match_done : n ≤ i → Matched s start all (At at)
+    pub match_done : n ≤ i → Matched s start all (Ok at)
     match_done h = matching_done (subst (λ (x : List ℕ). Matching all x s start at) (none h) w)

@@ -9,7 +9,7 @@ ghost use Rattle.archive_entries.specs.Layout.{base_bytes, sets_in};
 ghost use Rattle.archive_compare.specs.Matched.{Matched};
 ghost use Rattle.archive_bases.specs.Listed.{Listed, our_base, our_bases};
 
-use fields_walk::Walk;
+use stops::Stop;
 
 // How many sets the base entries list.
 pub fn sets_in(rows: &[u32], n: usize, dims: usize, lists: &[u8]) -> usize
@@ -19,7 +19,7 @@ pub fn sets_in(rows: &[u32], n: usize, dims: usize, lists: &[u8]) -> usize
 {
     let mut all = 0;
     for i in 0..n {
-        all += lists[i * 71] as usize;
+        all += usize::from(lists[i * 71]);
     }
     all
 }
@@ -57,7 +57,7 @@ fn match_base(
     dims: usize,
     lists: &[u8],
     row: usize,
-) -> Walk
+) -> Result<usize, Stop>
     requires { Listed dims n rows.now lists.now × (row < n) × (at ≤ length s.now) }
     ensures { Matched s.now at (base_bytes (our_base dims (rows_of dims n rows.now) row)) result }
 {
@@ -74,16 +74,13 @@ pub fn match_bases(
     n: usize,
     dims: usize,
     lists: &[u8],
-) -> Walk
+) -> Result<usize, Stop>
     requires { Listed dims n rows.now lists.now × (start ≤ length s.now) }
     ensures { Matched s.now start (flat_map base_bytes (our_bases dims (rows_of dims n rows.now))) result }
 {
     let mut at = start;
     for row in 0..n {
-        match match_base(s, at, rows, n, dims, lists, row) {
-            Walk::Stop(stop) => return Walk::Stop(stop),
-            Walk::At(next) => at = next,
-        }
+        at = match_base(s, at, rows, n, dims, lists, row)?;
     }
-    Walk::At(at)
+    Ok(at)
 }

@@ -4,7 +4,8 @@ use mathlib.Core.List.{List, ◌++◌}
 use Prim.Native.Nat.{ℕ, ◌+◌, ◌≤◌, ◌<◌}
 use lib.ListN.{get_or}
 use Rattle.lattice.specs.Sets.{sets}
-use Rattle.fields_walk.specs.declared.Walk.TheVariants.{Stop, At}
+use Rattle.std.specs.Prelude.{Err, Ok}
+use Rattle.stops.specs.declared.Stop.{Stop}
 use Rattle.archive_cells.proofs.Turns.{turns, turns_next, turns_past, turns_none}
 use Rattle.archive_compare.specs.Matched.{Matching, Matched}
 use Rattle.archive_compare.specs.MatchedLaws.{matching_more, matching_off, matching_done}
@@ -18,11 +19,11 @@ module _ (f : ℕ → List ℕ) (m : ℕ) where
       following : s < m → Matching all (f s ++ turns f m (k + 1)) b at₀ at
       following p = subst (λ (x : List ℕ). Matching all x b at₀ at) (turns_next f m h e p) w
 
-      pub match_more : {j : ℕ} → s < m → Matched b at (f s) (At j) → Matching all (turns f m (k + 1)) b at₀ j
+      pub match_more : {j : ℕ} → s < m → Matched b at (f s) (Ok j) → Matching all (turns f m (k + 1)) b at₀ j
       match_more p = matching_more (f s) (turns f m (k + 1)) (following p)
 
-      pub match_off : {n : ℕ} → s < m → Matched b at (f s) (Stop n) → Matched b at₀ all (Stop n)
+      pub match_off : {n : Stop} → s < m → Matched b at (f s) (Err n) → Matched b at₀ all (Err n)
       match_off p = matching_off (f s) (turns f m (k + 1)) (following p)
 
-  pub match_done : {all b : List ℕ} {at₀ at k : ℕ} → Matching all (turns f m k) b at₀ at → 256 ≤ k → Matched b at₀ all (At at)
+  pub match_done : {all b : List ℕ} {at₀ at k : ℕ} → Matching all (turns f m k) b at₀ at → 256 ≤ k → Matched b at₀ all (Ok at)
   match_done {all} {b} {at₀} {at} {k} w h = matching_done (subst (λ (x : List ℕ). Matching all x b at₀ at) (turns_none f m k h) w)

@@ -3,16 +3,16 @@
 --   Meets s at xs w               w says whether the bytes s have xs from a place on: the place behind them, or stop 12
 --   Matched s at xs w             the same as a record, which code's contracts name
 --   Matching all left s at₀ at    of the bytes `all`, all but `left` stand in s from at₀ on, and end at the place at
-use Rattle.std.specs.Prelude.{◌≡◌, true, false, List, ◌++◌, ℕ, ◌+◌, ◌≤◌, length, drop}
+use Rattle.std.specs.Prelude.{◌≡◌, true, false, List, ◌++◌, ℕ, ◌+◌, ◌≤◌, length, drop, Result, Ok, Err}
 use Rattle.fields.specs.Opening.{starts_with}
-use Rattle.fields_walk.specs.declared.Walk.{Walk}
-use Rattle.fields_walk.specs.declared.Walk.TheVariants.{Stop, At}
+use Rattle.stops.specs.declared.Stop.{Stop}
+use Rattle.stops.specs.Numbers.{number}
 
-abbrev pub Meets : List ℕ → ℕ → List ℕ → Walk → Type 0
-Meets s at xs (Stop n) = (n ≡ 12) × (starts_with (drop at s) xs ≡ false)
-Meets s at xs (At k) = (starts_with (drop at s) xs ≡ true) × (k ≡ at + length xs) × (k ≤ length s)
+abbrev pub Meets : List ℕ → ℕ → List ℕ → Result ℕ Stop → Type 0
+Meets s at xs (Err e) = (number e ≡ 12) × (starts_with (drop at s) xs ≡ false)
+Meets s at xs (Ok k) = (starts_with (drop at s) xs ≡ true) × (k ≡ at + length xs) × (k ≤ length s)
 
-pub record Matched (s : List ℕ) (at : ℕ) (xs : List ℕ) (w : Walk) : Type 0 where
+pub record Matched (s : List ℕ) (at : ℕ) (xs : List ℕ) (w : Result ℕ Stop) : Type 0 where
   pub meets : Meets s at xs w
 
 pub record Matching (all left s : List ℕ) (at₀ at : ℕ) : Type 0 where

@@ -5,7 +5,8 @@ use Prim.Native.Nat.{ℕ, ◌+◌, ◌*◌, ◌≤◌}
 use native.Mathlib.Omega.{arith}
 use lib.ListN.{length, drop}
 use Rattle.fields.specs.Words.{word_at}
-use Rattle.fields_walk.specs.declared.Walk.{Walk}
+use Rattle.std.specs.Prelude.{Result}
+use Rattle.stops.specs.declared.Stop.{Stop}
 use Rattle.fields_walk.specs.Parsed.{stop, got, many}
 use Rattle.fields_walk.specs.Fields.{room, word}
 use Rattle.fields_walk.specs.Walked.{Walked}
@@ -29,7 +30,7 @@ module _ (s : List ℕ) (d at : ℕ) where
   unfolding cells
   cells-off e = then_off (λ n. many n (cell d)) (word-off (drop at s) e)
 
-  pub cells_on : {n : ℕ} {rest : List ℕ} {u : Unit {0}} {r : Walk} → room 4 (drop at s) ≡ got u rest → n ≡ word_at s at → Walked s (room (n * (4 * d + 12)) rest) r
+  pub cells_on : {n : ℕ} {rest : List ℕ} {u : Unit {0}} {r : Result ℕ Stop} → room 4 (drop at s) ≡ got u rest → n ≡ word_at s at → Walked s (room (n * (4 * d + 12)) rest) r
       → Walked s (cells d (drop at s)) r
   unfolding cells
   cells_on {n} {rest} e f h =

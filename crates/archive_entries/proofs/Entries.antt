@@ -5,8 +5,9 @@ use Prim.Native.Nat.{ℕ, zero, suc, ◌+◌, ◌-◌, ◌*◌, ◌≤◌, ◌<�
 use native.Mathlib.Omega.{arith}
 use lib.ListN.{length, drop}
 use Rattle.fields.specs.Words.{word_at, words_at}
-use Rattle.fields_walk.specs.declared.Walk.{Walk}
-use Rattle.fields_walk.specs.declared.Walk.TheVariants.{At}
+use Rattle.std.specs.Prelude.{Result}
+use Rattle.stops.specs.declared.Stop.{Stop}
+use Rattle.std.specs.Prelude.{Ok}
 use Rattle.fields_walk.specs.Parsed.{Parsed, stop, got, and_then, consed}
 use Rattle.fields_walk.specs.Fields.{field}
 use Rattle.fields_walk.specs.Walked.{Says, Walked}
@@ -43,7 +44,7 @@ module _ (zs before : List ℕ) (total : ℕ) (l : List ℕ) where
     pub entry-ended : {n : ℕ} → amount total m ≡ stop n → entry zs before total l ≡ stop n
     entry-ended f = entry-codes ∙ then_off (listed x) f
 
-    pub entry_on : {t : Total} {k s : List ℕ} {r : Walk} → amount total m ≡ got t k → Walked s (list k) r → Walked s (entry zs before total l) r
+    pub entry_on : {t : Total} {k s : List ℕ} {r : Result ℕ Stop} → amount total m ≡ got t k → Walked s (list k) r → Walked s (entry zs before total l) r
     entry_on {t} f h = walked_as (entry-codes ∙ then_on (listed x) f) (walked-map (made x t) h)
 
 -- ---- the loop over entries
@@ -66,7 +67,7 @@ module _ {s : List ℕ} (zs before : List ℕ) (total at i n : ℕ) {whole : Par
   pub entries-off : {k : ℕ} → i < n → entry zs before total (drop at s) ≡ stop k → whole ≡ stop k
   entries-off h e = step-off v more (left h) e
 
-  pub entries-done : n ≤ i → at ≤ length s → Says s whole (At at)
+  pub entries-done : n ≤ i → at ≤ length s → Says s whole (Ok at)
   unfolding entries
   entries-done h l = let e : n - i ≡ 0 = omega arith in step-done v (ap (λ (k : ℕ). entries zs k before total (drop at s)) e) l
 

@@ -1,4 +1,5 @@
 -- What is known of an archive whose fields are right: D, the base count, and the base entries behind them.
+use Rattle.std.specs.Prelude.{Ok, Err}
 use mathlib.Core.Path.{◌≡◌, refl, sym, ap, ◌∙◌, subst}
 use mathlib.Core.Bool.{true, false, false≢true}
 use mathlib.Core.List.{List, []}
@@ -9,7 +10,7 @@ use Rattle.fields_walk.specs.Parsed.{Parsed, stop, got}
 use Rattle.fields_walk.specs.Fields.{header, close}
 use Rattle.fields_walk.proofs.Steps.{through}
 use Rattle.rows.specs.Rows.{rows_of}
-use Rattle.archive_entries.specs.declared.ArchiveRead.TheVariants as Answer
+use Rattle.archive_entries.specs.declared.Shape.{Shape}
 use Rattle.archive_entries.specs.Layout.{CUBE, Based, Held}
 use Rattle.archive_entries.specs.Reading.{entries, bases, cells, walk_archive, rows_in, archive_answer, Stored}
 use Rattle.fields_walk.proofs.Places.{header_read}
@@ -29,9 +30,11 @@ pub record Accepted (s : List ℕ) (d n : ℕ) : Type 0 where
   pub read : entries held.sizes n [] 0 (drop (12 + 4 * d) s) ≡ got held.bases end
 
 -- the answer's numbers are those of what was read
-told : (p : Parsed Held) {d n m : ℕ} → archive_answer p ≡ Answer.Entries d n m → (a : Held) × (rest : List ℕ) × (p ≡ got a rest) × (length a.sizes ≡ d) × (length a.bases ≡ n)
+told : (p : Parsed Held) {shape : Shape} → archive_answer p ≡ Ok shape → (a : Held) × (rest : List ℕ) × (p ≡ got a rest) × (length a.sizes ≡ shape.dims) × (length a.bases ≡ shape.bases)
 told (stop k) e = let z : false ≡ true = cc in absurd (false≢true z)
-told (got a rest) e = (a, rest, refl, cc, cc)
+told (got a rest) {shape} e =
+    let q : record { dims = length a.sizes; bases = length a.bases; cells = length a.cells } ≡ shape = cc in
+    (a, rest, refl, ap (λ (z : Shape). z.dims) q, ap (λ (z : Shape). z.bases) q)
 
 from : (s : List ℕ) (a : Held) {l end rest : List ℕ} → walk_archive s ≡ got a rest → header CUBE s ≡ got a.sizes l → bases a.sizes l ≡ got a.bases end
     → Accepted s (length a.sizes) (length a.bases)
@@ -67,17 +70,17 @@ parts s {a} {rest} w =
     let q : u.0 ≡ a.bases = ap (λ b. b.bases) e in
     (t.1, u.1, t.2 ∙ ap (λ (y : List ℕ). got y t.1) p, ap (λ (y : List ℕ). bases y t.1) (sym p) ∙ u.2 ∙ ap (λ (y : List Based). got y u.1) q)
 
-pub accepted : (s : List ℕ) (d n : ℕ) {m : ℕ} → archive_answer (walk_archive s) ≡ Answer.Entries d n m → Accepted s d n
-accepted s d n e =
+pub accepted : (s : List ℕ) (shape : Shape) → archive_answer (walk_archive s) ≡ Ok shape → Accepted s shape.dims shape.bases
+accepted s shape e =
     let t = told (walk_archive s) e in
     let p = parts s t.2 in
-    subst (Accepted s d) t.4 (subst (λ (k : ℕ). Accepted s k (length t.0.bases)) t.3 (from s t.0 t.2 p.2 p.3))
+    subst (Accepted s shape.dims) t.4 (subst (λ (k : ℕ). Accepted s k (length t.0.bases)) t.3 (from s t.0 t.2 p.2 p.3))
 
 -- rows that are the archive's are stored
 pub accepted_stored : (s : List ℕ) (d n : ℕ) (a : Accepted s d n) (ws : List ℕ) → rows_of d n ws ≡ rows_in a.held → Stored (walk_archive s) ws
 accepted_stored s d n a ws e = rw (a.walked, a.dims, a.count) e
 
 -- nothing is asked of the words where the walk stopped
-pub stopped_stored : (p : Parsed Held) {n : ℕ} (ws : List ℕ) → archive_answer p ≡ Answer.Stop n → Stored p ws
+pub stopped_stored : (p : Parsed Held) {n : ℕ} (ws : List ℕ) → archive_answer p ≡ Err n → Stored p ws
 stopped_stored (stop n) ws e = tt
 stopped_stored (got a rest) ws e = let z : false ≡ true = cc in absurd (false≢true z)

@@ -10,8 +10,9 @@ use borrow.Author.Tests.{lt-leb}
 use Rattle.lists.specs.Order.{earlier}
 use Rattle.fields.specs.Words.{word_at, words_at}
 use Rattle.fields_sums.specs.Twos.{sum_at}
-use Rattle.fields_walk.specs.declared.Walk.{Walk}
-use Rattle.fields_walk.specs.declared.Walk.TheVariants.{At}
+use Rattle.std.specs.Prelude.{Result}
+use Rattle.stops.specs.declared.Stop.{Stop}
+use Rattle.std.specs.Prelude.{Ok}
 use Rattle.fields_walk.specs.Parsed.{Parsed, stop, got, and_then, stop_unless, many}
 use Rattle.fields_walk.specs.Fields.{room, word, sum, field, codes}
 use Rattle.fields_walk.specs.Walked.{Says, Walked}
@@ -42,12 +43,12 @@ module _ (s zs before : List ℕ) (at : ℕ) where
   unfolding rising
   rising-off e = then_off later e
 
-  module _ (h : at ≤ length s) {k : ℕ} (g : Says s (codes zs (drop at s)) (At k)) where
+  module _ (h : at ≤ length s) {k : ℕ} (g : Says s (codes zs (drop at s)) (Ok k)) where
     rising_is : rising zs before (drop at s) ≡ later (words_at s (length zs) at) (drop k s)
     unfolding rising
     rising_is = then_on later g.1 ∙ ap (λ (x : List ℕ). later x (drop k s)) ((finds_codes s zs at).found _ _ h g.1).2
 
-    pub rising_on : earlier before (words_at s (length zs) at) ≡ true → Says s (rising zs before (drop at s)) (At k)
+    pub rising_on : earlier before (words_at s (length zs) at) ≡ true → Says s (rising zs before (drop at s)) (Ok k)
     rising_on e = (words_at s (length zs) at, rising_is ∙ rw e, g.2)
 
     pub rising_not : earlier before (words_at s (length zs) at) ≡ false → rising zs before (drop at s) ≡ stop 7
@@ -66,7 +67,7 @@ module _ (s : List ℕ) (total at : ℕ) where
   unfolding amount
   amount-off e = then_off counted (sum-off (drop at s) e)
 
-  module _ {p : ℕ} (f : Says s (room 8 (drop at s)) (At p)) where
+  module _ {p : ℕ} (f : Says s (room 8 (drop at s)) (Ok p)) where
     amount-sum : amount total (drop at s) ≡ counted (sum_at s at) (drop p s)
     unfolding amount
     amount-sum = then_on counted (sum_on (drop at s) f.1) ∙ ap (λ (z : ℤ). counted z (drop p s)) (sum-at-place s at)
@@ -74,7 +75,7 @@ module _ (s : List ℕ) (total at : ℕ) where
     pub amount-ended : {n : ℕ} → room 4 (drop p s) ≡ stop n → amount total (drop at s) ≡ stop n
     amount-ended e = amount-sum ∙ then_off (tested (sum_at s at)) (word-off (drop p s) e)
 
-    module _ {k : ℕ} (g : Says s (room 4 (drop p s)) (At k)) where
+    module _ {k : ℕ} (g : Says s (room 4 (drop p s)) (Ok k)) where
       amount-is : amount total (drop at s) ≡ tested (sum_at s at) (word_at s p) (drop k s)
       amount-is = amount-sum ∙ then_on (tested (sum_at s at)) (word_on (drop p s) g.1) ∙ ap (λ (n : ℕ). tested (sum_at s at) n (drop k s)) (word-at-place s p)
 
@@ -90,7 +91,7 @@ module _ (s : List ℕ) (total at : ℕ) where
       unfolding fair
       amount_unmade h = amount-is ∙ simp (h, and-false)
 
-      pub amount_on : 1 ≤ word_at s p → total + word_at s p ≤ most → can_make (word_at s p) (sum_at s at) ≡ true → Says s (amount total (drop at s)) (At k)
+      pub amount_on : 1 ≤ word_at s p → total + word_at s p ≤ most → can_make (word_at s p) (sum_at s at) ≡ true → Says s (amount total (drop at s)) (Ok k)
       amount_on h i e = (record { sum = sum_at s at; count = word_at s p }, amount-is ∙ rw (fair_of total (sum_at s at) (word_at s p) h e i), g.2)
 
 -- ---- the list
@@ -101,7 +102,7 @@ module _ (s : List ℕ) (at : ℕ) where
   list-off e = then_off (λ n. many n word) e
 
   -- set numbers are so many bytes of any value
-  pub list_on : {v w : ℕ} {rest : List ℕ} {r : Walk} → field 0 71 9 (drop at s) ≡ got v rest → w ≡ 4 * v → Walked s (room w rest) r → Walked s (list (drop at s)) r
+  pub list_on : {v w : ℕ} {rest : List ℕ} {r : Result ℕ Stop} → field 0 71 9 (drop at s) ≡ got v rest → w ≡ 4 * v → Walked s (room w rest) r → Walked s (list (drop at s)) r
   unfolding list
   list_on {v} {w} e f h =
       let m : w ≡ v * 4 = omega arith in

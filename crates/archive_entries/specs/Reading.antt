@@ -8,12 +8,11 @@
 --   bases zs            the base count (5) and the base entries
 --   cell d, cells d     a normal entry, and the normal count with the normal entries: fields of any value
 --   walk_archive s       what the fields of s hold, or the first of the stops 1 to 11
---   ArchiveRead         what the walk over an archive answers: the enum of src/lib.rt
---   archive_answer p     the answer's number and values for what was read: the stop's number, or D, the base count and the normal count
+--   archive_answer p     what the code answers for what was read: D, the base count and the normal count, or the stop's number
 --   Stored p ws         the words ws have the base rows that were read
 --   judged s a rest     stop 12, unless s is the archive that the sizes and base rows of a require
 --   read_archive s       the sizes and base rows of s, or the first stop: 12 if the entries are not what the base rows require
-use Rattle.std.specs.Prelude.{◌≡◌, Bool, ◌&&◌, List, [], map, ℕ, zero, suc, ◌+◌, leb, ℤ, length}
+use Rattle.std.specs.Prelude.{◌≡◌, Bool, ◌&&◌, List, [], map, ℕ, zero, suc, ◌+◌, leb, ℤ, length, Result, Ok, Err}
 use Rattle.lists.specs.Order.{earlier, same}
 use Rattle.fields_walk.specs.Parsed.{Parsed, stop, got, and_then, stop_unless, consed, many}
 use Rattle.fields_walk.specs.Fields.{word, sum, field, codes, header, close}
@@ -21,8 +20,7 @@ use Rattle.cube.specs.declared.Total.{Total}
 use Rattle.cube.specs.Measure.{Row}
 use Rattle.cube.specs.Bounds.{most, can_make}
 use Rattle.rows.specs.Rows.{rows_of}
-use Rattle.archive_entries.specs.declared.ArchiveRead.{ArchiveRead}
-use Rattle.archive_entries.specs.declared.ArchiveRead.TheVariants as Answer
+use Rattle.archive_entries.specs.declared.Shape.{Shape}
 use Rattle.archive_entries.specs.Layout.{CUBE, Based, Held, archive_bytes}
 
 unfoldable pub rising : List ℕ → List ℕ → List ℕ → Parsed (List ℕ)
@@ -67,9 +65,9 @@ walk_archive s =
 abbrev pub rows_in : Held → List (Row Total)
 rows_in a = map (λ b. b.row) a.bases
 
-abbrev pub archive_answer : Parsed Held → ArchiveRead
-archive_answer (stop n) = Answer.Stop n
-archive_answer (got a rest) = Answer.Entries (length a.sizes) (length a.bases) (length a.cells)
+abbrev pub archive_answer : Parsed Held → Result Shape ℕ
+archive_answer (stop n) = Err n
+archive_answer (got a rest) = Ok (record { dims = length a.sizes; bases = length a.bases; cells = length a.cells })
 
 abbrev pub Stored : Parsed Held → List ℕ → Type 0
 Stored (stop n) ws = Unit {0}

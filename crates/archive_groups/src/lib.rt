@@ -12,9 +12,9 @@ ghost use Rattle.archive_compare.specs.Matched.{Matched};
 ghost use Rattle.archive_groups.specs.Masks.{masked, Mask};
 ghost use Rattle.archive_groups.specs.Groups.{Groupable, group_bytes};
 
-use fields_walk::Walk;
+use stops::Stop;
 
-// The mask of a set: ALL in the place of each dimension that it lacks.
+// The mask of a set: ALL in the place of each dimension that it lacks. A loop, for what `array::from_fn` ensures does not tell that its closure keeps the set.
 fn mask_of(set: u32) -> [u32; 8]
     ensures { Mask set result }
 {
@@ -65,8 +65,7 @@ pub fn put_groups(
     let missing = mask_of(set);
     let mut at = 0;
     let mut total = cube::Total { sum: 0, count: 0 };
-    for i in 0..slot.len() {
-        let e = slot[i];
+    for &e in slot {
         let row = rows_slots::row_in(e) as usize;
         total = rows_slots::add_row(rows, n, dims, row, total);
         if rows_slots::end_in(e) == 0 {
@@ -95,27 +94,33 @@ fn shown_is(s: &[u8], start: usize, mine: &[u32], missing: &[u32; 8]) -> bool
 }
 
 // Whether the bytes s have the codes of a row under a mask, with a total, from a place on.
-fn match_group(s: &[u8], start: usize, mine: &[u32], missing: &[u32; 8], total: cube::Total) -> Walk
+fn match_group(
+    s: &[u8],
+    start: usize,
+    mine: &[u32],
+    missing: &[u32; 8],
+    total: cube::Total,
+) -> Result<usize, Stop>
     requires { (length mine.now ≤ 8) × (start ≤ length s.now) }
     ensures { Matched s.now start (cell_bytes (record { codes = masked missing.now mine.now; total = total })) result }
 {
     let size = 4 * mine.len();
     if s.len() - start < size + 12 {
-        return Walk::Stop(12);
+        return Err(Stop::Entries);
     }
     if !shown_is(s, start, mine, missing) {
-        return Walk::Stop(12);
+        return Err(Stop::Entries);
     }
     let at = start + size;
     let sum = total.sum;
     if !fields_sums::sum_is(s, at, sum) {
-        return Walk::Stop(12);
+        return Err(Stop::Entries);
     }
     let next = at + 8;
     if !fields::word_is(s, next, total.count) {
-        return Walk::Stop(12);
+        return Err(Stop::Entries);
     }
-    Walk::At(next + 4)
+    Ok(next + 4)
 }
 
 // Whether the bytes s have the cells of the groups of a slot from a place on.
@@ -127,26 +132,22 @@ pub fn match_groups(
     dims: usize,
     set: u32,
     slot: &[u16],
-) -> Walk
+) -> Result<usize, Stop>
     requires { Groupable dims n rows.now slot.now × (start ≤ length s.now) }
     ensures { Matched s.now start (group_bytes (row_total dims n rows.now) (key set (cut dims n rows.now)) slot.now) result }
 {
     let missing = mask_of(set);
     let mut at = start;
     let mut total = cube::Total { sum: 0, count: 0 };
-    for i in 0..slot.len() {
-        let e = slot[i];
+    for &e in slot {
         let row = rows_slots::row_in(e) as usize;
         total = rows_slots::add_row(rows, n, dims, row, total);
         if rows_slots::end_in(e) == 0 {
             continue;
         }
         let mine = rows::row_of(rows, n, dims, row);
-        match match_group(s, at, mine, &missing, total) {
-            Walk::Stop(stop) => return Walk::Stop(stop),
-            Walk::At(next) => at = next,
-        }
+        at = match_group(s, at, mine, &missing, total)?;
         total = cube::Total { sum: 0, count: 0 };
     }
-    Walk::At(at)
+    Ok(at)
 }

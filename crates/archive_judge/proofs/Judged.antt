@@ -30,7 +30,8 @@ use Rattle.rows.proofs.Rows.{rows-codes}
 use Rattle.rows.proofs.Flat.{rows-length}
 use Rattle.archive_entries.specs.Layout.{CUBE, Held, section, base_bytes, cell_bytes, layout, required, archive_bytes, Limits}
 use Rattle.archive_entries.specs.Reading.{walk_archive}
-use Rattle.fields_walk.specs.declared.Walk.TheVariants.{Stop, At}
+use Rattle.std.specs.Prelude.{Err, Ok}
+use Rattle.stops.specs.declared.Stop.{Stop}
 use Rattle.fields_walk.proofs.Places.{header_read}
 use Rattle.archive_entries.proofs.Fields.{parts}
 use Rattle.archive_entries.proofs.Walkable.{walk_forth}
@@ -116,7 +117,7 @@ module _ {s : List ℕ} {d n : ℕ} {ws : List ℕ} (b : Bytes s) (r : Read s d 
   right : same s (archive_bytes zs table) ≡ true → s ≡ checked (header_bytes CUBE zs ++ due)
   right e = same-eq s (archive_bytes zs table) e ∙ should
 
-  pub other_of : {k : ℕ} → Matched s (8 + 4 * d) due (Stop k) → false ≡ same s (archive_bytes zs table)
+  pub other_of : {e : Stop} → Matched s (8 + 4 * d) due (Err e) → false ≡ same s (archive_bytes zs table)
   other_of m = sym (refuted (λ e. false≢true (sym m.meets.1
       ∙ ap (λ (x : List ℕ). starts_with x due) (behind zs due dims (right e)) ∙ starts_append due (check zs due dims (right e)))))
 
@@ -128,7 +129,7 @@ module _ {s : List ℕ} {d n : ℕ} {ws : List ℕ} (b : Bytes s) (r : Read s d 
       let f : s ≡ archive_bytes zs table = is ∙ ap (λ (x : List ℕ). checked (header_bytes CUBE zs ++ x)) e ∙ sym should in
       subst (λ (x : List ℕ). same s x ≡ true) f (same_refl s)
 
-  pub judged_of : {k : ℕ} → Matched s (8 + 4 * d) due (At k) → eqb (length s - k) 4 ≡ same s (archive_bytes zs table)
+  pub judged_of : {k : ℕ} → Matched s (8 + 4 * d) due (Ok k) → eqb (length s - k) 4 ≡ same s (archive_bytes zs table)
   judged_of {k} m = cases (truth (eqb (length s - k) 4))
       (λ e. e ∙ sym (right_of m.meets.0 (omega (arith, m.meets.1, m.meets.2, eqb-true (length s - k) 4 e))))
       (λ e. e ∙ sym (refuted (λ f. eqb-false (length s - k) 4 e (omega (arith, long zs due dims (right f), m.meets.1)))))

@@ -13,7 +13,7 @@ ghost use Rattle.archive_bases.specs.Listed.{Listed};
 ghost use Rattle.archive_normals.specs.Grouped.{Grouped};
 ghost use Rattle.archive_judge.specs.Read.{Read, sections};
 
-use fields_walk::Walk;
+use stops::Stop;
 
 // Whether the bytes s have the sections that base rows require from a place on. Nine parameters: a place in bytes, and the rows with their lists and their slots.
 fn match_sections(
@@ -26,23 +26,14 @@ fn match_sections(
     store: &[u16],
     used: &[usize],
     cells: usize,
-) -> Walk
+) -> Result<usize, Stop>
     requires listed { Listed dims n rows.now lists.now × Grouped dims n rows.now store.now used.now × (start ≤ length s.now) }
     requires cells_value { cells ≡ length (normals (plain dims) (cut dims n rows.now)) }
     ensures { Matched s.now start (sections dims (rows_of dims n rows.now)) result }
 {
-    let at = match archive_compare::match_word(s, start, n as u32) {
-        Walk::Stop(stop) => return Walk::Stop(stop),
-        Walk::At(at) => at,
-    };
-    let end = match archive_bases::match_bases(s, at, rows, n, dims, lists) {
-        Walk::Stop(stop) => return Walk::Stop(stop),
-        Walk::At(end) => end,
-    };
-    let next = match archive_compare::match_word(s, end, cells as u32) {
-        Walk::Stop(stop) => return Walk::Stop(stop),
-        Walk::At(next) => next,
-    };
+    let at = archive_compare::match_word(s, start, n as u32)?;
+    let end = archive_bases::match_bases(s, at, rows, n, dims, lists)?;
+    let next = archive_compare::match_word(s, end, cells as u32)?;
     archive_normals::match_normals(s, next, rows, n, dims, store, used)
 }
 
@@ -63,8 +54,8 @@ fn judge(
     let cells = rows_condense::condense_rows(rows, n, dims, store, used, lists);
     let start = 8 + 4 * dims;
     match match_sections(s, start, rows, n, dims, lists, store, used, cells) {
-        Walk::Stop(_) => false,
-        Walk::At(end) => s.len() - end == 4,
+        Ok(end) => s.len() - end == 4,
+        Err(_) => false,
     }
 }
 

@@ -9,7 +9,7 @@ ghost use Rattle.archive_compare.specs.Matched.{Matched};
 ghost use Rattle.archive_normals.specs.Grouped.{Grouped};
 ghost use Rattle.archive_normals.specs.Normals.{shared_bytes, common_bytes, blank_bytes, normal_bytes};
 
-use fields_walk::Walk;
+use stops::Stop;
 
 // Writes the normal entries of a set.
 fn put_shared(
@@ -92,7 +92,7 @@ fn match_shared(
     set: u32,
     store: &[u16],
     used: &[usize],
-) -> Walk
+) -> Result<usize, Stop>
     requires { Grouped dims n rows.now store.now used.now × (set < full dims) × (at ≤ length s.now) }
     ensures { Matched s.now at (shared_bytes dims (rows_of dims n rows.now) set) result }
 {
@@ -109,7 +109,7 @@ fn match_common(
     dims: usize,
     store: &[u16],
     used: &[usize],
-) -> Walk
+) -> Result<usize, Stop>
     requires { Grouped dims n rows.now store.now used.now × (start ≤ length s.now) }
     ensures { Matched s.now start (common_bytes dims (rows_of dims n rows.now)) result }
 {
@@ -120,21 +120,18 @@ fn match_common(
         if all <= set {
             continue;
         }
-        match match_shared(s, at, rows, n, dims, set, store, used) {
-            Walk::Stop(stop) => return Walk::Stop(stop),
-            Walk::At(next) => at = next,
-        }
+        at = match_shared(s, at, rows, n, dims, set, store, used)?;
     }
-    Walk::At(at)
+    Ok(at)
 }
 
 // Whether the bytes s have the normal entry of an empty table from a place on, where there are no rows.
-fn match_blank(s: &[u8], at: usize, n: usize, dims: usize) -> Walk
+fn match_blank(s: &[u8], at: usize, n: usize, dims: usize) -> Result<usize, Stop>
     requires { (dims ≤ 8) × (at ≤ length s.now) }
     ensures { Matched s.now at (blank_bytes dims n) result }
 {
     if n != 0 {
-        return Walk::At(at);
+        return Ok(at);
     }
     archive_compare::match_blank(s, at, dims)
 }
@@ -148,13 +145,10 @@ pub fn match_normals(
     dims: usize,
     store: &[u16],
     used: &[usize],
-) -> Walk
+) -> Result<usize, Stop>
     requires { Grouped dims n rows.now store.now used.now × (start ≤ length s.now) }
     ensures { Matched s.now start (normal_bytes dims (rows_of dims n rows.now)) result }
 {
-    let next = match match_blank(s, start, n, dims) {
-        Walk::Stop(stop) => return Walk::Stop(stop),
-        Walk::At(next) => next,
-    };
+    let next = match_blank(s, start, n, dims)?;
     match_common(s, next, rows, n, dims, store, used)
 }

@@ -18,7 +18,8 @@ use Rattle.cube.specs.declared.Total.{Total}
 use Rattle.cube.specs.Measure.{Row}
 use Rattle.archive_entries.specs.Layout.{Held, archive_bytes}
 use Rattle.archive_entries.specs.Reading.{walk_archive, judged, read_archive, rows_in, archive_answer, Stored}
-use Rattle.archive_entries.specs.declared.ArchiveRead.TheVariants as Answer
+use Rattle.std.specs.Prelude.{Ok, Err}
+use Rattle.archive_entries.specs.declared.Shape.{Shape}
 use Rattle.archive_entries.proofs.Fields.{Accepted, accepted}
 use Rattle.archive_entries.proofs.Walkable.{walk_forth}
 use Rattle.rows_ready.proofs.Ready.{rows-front}
@@ -34,9 +35,15 @@ use Rattle.archive_judge.proofs.Judged.{sizes-at}
 stored-walked : (p : Parsed Held) {a : Held} {rest : List ℕ} (ws : List ℕ) → p ≡ got a rest → Stored p ws → rows_of (length a.sizes) (length a.bases) ws ≡ rows_in a
 stored-walked p ws e h = subst (λ (q : Parsed Held). Stored q ws) e h
 
-module _ {s : List ℕ} {d n m : ℕ} (b : Bytes s) (e : archive_answer (walk_archive s) ≡ Answer.Entries d n m) where
+module _ {s : List ℕ} {shape : Shape} (b : Bytes s) (e : archive_answer (walk_archive s) ≡ Ok shape) where
+  abbrev d : ℕ
+  d = shape.dims
+
+  abbrev n : ℕ
+  n = shape.bases
+
   abbrev walk : Accepted s d n
-  walk = accepted s d n e
+  walk = accepted s shape e
 
   walked : walk_archive s ≡ got walk.held []
   walked = walk.walked ∙ ap (got walk.held) (walk_forth s walk.held walk.rest b walk.walked).2
@@ -61,24 +68,24 @@ module _ {s : List ℕ} {d n m : ℕ} (b : Bytes s) (e : archive_answer (walk_ar
 
 -- ---- stop 12
 
-module _ {s : List ℕ} {d n m : ℕ} {ws : List ℕ} (e : archive_answer (walk_archive s) ≡ Answer.Entries d n m) (r : Read s d n ws) where
-  due : same s (archive_bytes (words_at s d 8) (rows_of d n ws)) ≡ same s (archive_bytes r.held.sizes (rows_in r.held))
+module _ {s : List ℕ} {shape : Shape} {ws : List ℕ} (e : archive_answer (walk_archive s) ≡ Ok shape) (r : Read s shape.dims shape.bases ws) where
+  due : same s (archive_bytes (words_at s shape.dims 8) (rows_of shape.dims shape.bases ws)) ≡ same s (archive_bytes r.held.sizes (rows_in r.held))
   due =
       ap₂ (λ (zs : List ℕ) (rows : List (Row Total)). same s (archive_bytes zs rows)) (sym (sizes-at s r.walked ∙ ap (λ (k : ℕ). words_at s k 8) r.dims)) r.rows
 
-  pub passed_required : true ≡ same s (archive_bytes (words_at s d 8) (rows_of d n ws)) → Answer.Entries d n m ≡ archive_answer (read_archive s)
+  pub passed_required : true ≡ same s (archive_bytes (words_at s shape.dims 8) (rows_of shape.dims shape.bases ws)) → Ok shape ≡ archive_answer (read_archive s)
   unfolding read_archive
   passed_required h = let g = sym (h ∙ due) in sym e ∙ rw (r.walked, g)
 
-  pub stopped_required : false ≡ same s (archive_bytes (words_at s d 8) (rows_of d n ws)) → Answer.Stop 12 ≡ archive_answer (read_archive s)
+  pub stopped_required : false ≡ same s (archive_bytes (words_at s shape.dims 8) (rows_of shape.dims shape.bases ws)) → Err 12 ≡ archive_answer (read_archive s)
   unfolding read_archive
   stopped_required h = let g = sym (h ∙ due) in rw (r.walked, g)
 
-pub stop-required : (s : List ℕ) {n : ℕ} → archive_answer (walk_archive s) ≡ Answer.Stop n → Answer.Stop n ≡ archive_answer (read_archive s)
+pub stop-required : (s : List ℕ) {n : ℕ} → archive_answer (walk_archive s) ≡ Err n → Err n ≡ archive_answer (read_archive s)
 unfolding read_archive
 stop-required s {n} e = go (walk_archive s) e
   where
-    go : (p : Parsed Held) → archive_answer p ≡ Answer.Stop n → Answer.Stop n ≡ archive_answer (and_then p (judged s))
+    go : (p : Parsed Held) → archive_answer p ≡ Err n → Err n ≡ archive_answer (and_then p (judged s))
     go (stop k) f = sym f
     go (got a rest) f = let z : false ≡ true = cc in absurd (false≢true z)
 
@@ -108,11 +115,12 @@ sharing_held {d} {n} {ws} {store = store} {used = used} a = record {
 }
 
 -- as an answer tells the archive's numbers
-pub shares-told : (p : Parsed Held) {d n m : ℕ} (ws used : List ℕ) → archive_answer p ≡ Answer.Entries d n m → Sharing d n (take (n * width d) ws) used → Shares p ws used
+pub shares-told : (p : Parsed Held) {shape : Shape} (ws used : List ℕ) → archive_answer p ≡ Ok shape → Sharing shape.dims shape.bases (take (shape.bases * width shape.dims) ws) used → Shares p ws used
 shares-told (stop k) ws used e h = tt
-shares-told (got a rest) {d} {n} ws used e h =
-    let f : length a.sizes ≡ d = cc e in
-    let g : length a.bases ≡ n = cc e in
+shares-told (got a rest) {shape} ws used e h =
+    let q : record { dims = length a.sizes; bases = length a.bases; cells = length a.cells } ≡ shape = cc in
+    let f = ap (λ (z : Shape). z.dims) q in
+    let g = ap (λ (z : Shape). z.bases) q in
     rw (f, g) h
 
 -- they stay when the archive is judged
@@ -125,10 +133,10 @@ shares-required s ws used h = go (walk_archive s) h
     go (got a rest) f = cases (truth (same s (archive_bytes a.sizes (rows_in a)))) (λ e. rw e f) (λ e. rw e tt)
 
 -- nothing is asked where the walk stopped
-pub shares-stop : (s : List ℕ) {n : ℕ} (ws used : List ℕ) → archive_answer (walk_archive s) ≡ Answer.Stop n → Shares (read_archive s) ws used
+pub shares-stop : (s : List ℕ) {n : ℕ} (ws used : List ℕ) → archive_answer (walk_archive s) ≡ Err n → Shares (read_archive s) ws used
 unfolding read_archive
 shares-stop s {n} ws used e = go (walk_archive s) e
   where
-    go : (p : Parsed Held) → archive_answer p ≡ Answer.Stop n → Shares (and_then p (judged s)) ws used
+    go : (p : Parsed Held) → archive_answer p ≡ Err n → Shares (and_then p (judged s)) ws used
     go (stop k) f = tt
     go (got a rest) f = let z : false ≡ true = cc in absurd (false≢true z)

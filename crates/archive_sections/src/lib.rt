@@ -7,7 +7,7 @@ ghost use Rattle.fields_walk.specs.Walked.{Walked};
 ghost use Rattle.archive_entries.specs.Layout.{CUBE};
 ghost use Rattle.archive_sections.specs.Sections.{word_there, bases_from, cells_from};
 
-use fields_walk::Walk;
+use stops::Stop;
 
 // The word at a place, 0 where the input ends before it.
 pub fn word_there(s: &[u8], at: usize) -> u32
@@ -23,28 +23,23 @@ pub fn word_there(s: &[u8], at: usize) -> u32
 }
 
 // The header from a place on.
-pub fn header_at(s: &[u8], at: usize) -> Walk
+pub fn header_at(s: &[u8], at: usize) -> Result<usize, Stop>
     ensures { Walked s.now (header CUBE (drop at s.now)) result }
 {
     if s.len() < at {
-        return Walk::Stop(1);
+        return Err(Stop::Opening);
     }
-    match fields_walk::check_header(&s[at..], &archive_entries::CUBE) {
-        Walk::Stop(n) => Walk::Stop(n),
-        Walk::At(width) => Walk::At(at + width),
-    }
+    let width = fields_walk::check_header(&s[at..], &archive_entries::CUBE)?;
+    Ok(at + width)
 }
 
 // The base count and the base entries at a place, with the sizes of the header.
-pub fn bases_at(s: &[u8], at: usize) -> Walk
+pub fn bases_at(s: &[u8], at: usize) -> Result<usize, Stop>
     ensures { Walked s.now (bases_from s.now at) result }
 {
-    match fields_walk::check_header(s, &archive_entries::CUBE) {
-        Walk::Stop(n) => return Walk::Stop(n),
-        Walk::At(_) => {}
-    }
+    fields_walk::check_header(s, &archive_entries::CUBE)?;
     if s.len() < at {
-        return Walk::Stop(2);
+        return Err(Stop::Cut);
     }
     let d = fields::word_at(s, 4) as usize;
     let mut sizes = [0u32; 8];
@@ -53,25 +48,22 @@ pub fn bases_at(s: &[u8], at: usize) -> Walk
 }
 
 // The normal count and the normal entries at a place, with the header's number of dimensions.
-pub fn cells_at(s: &[u8], at: usize) -> Walk
+pub fn cells_at(s: &[u8], at: usize) -> Result<usize, Stop>
     ensures { Walked s.now (cells_from s.now at) result }
 {
-    match fields_walk::check_header(s, &archive_entries::CUBE) {
-        Walk::Stop(n) => return Walk::Stop(n),
-        Walk::At(_) => {}
-    }
+    fields_walk::check_header(s, &archive_entries::CUBE)?;
     if s.len() < at {
-        return Walk::Stop(2);
+        return Err(Stop::Cut);
     }
     archive_entries::check_cells(s, fields::word_at(s, 4) as usize, at)
 }
 
 // The check word at a place, which ends the archive.
-pub fn close_at(s: &[u8], at: usize) -> Walk
+pub fn close_at(s: &[u8], at: usize) -> Result<usize, Stop>
     ensures { Walked s.now (close s.now (drop at s.now)) result }
 {
     if s.len() < at {
-        return Walk::Stop(2);
+        return Err(Stop::Cut);
     }
     fields_walk::check_close(s, at)
 }

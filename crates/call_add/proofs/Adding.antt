@@ -12,6 +12,8 @@ use lib.IntN.{ℤ}
 use lib.Signed.{mag}
 use lib.ListN.{length, take}
 use lib.Seq.{length-take-le}
+use Rattle.std.specs.Prelude.{Result, Err}
+use Rattle.stops.specs.declared.Stop.{Stop}
 use Rattle.cube.specs.declared.Total.{Total}
 use Rattle.cube.specs.Measure.{Row, sums}
 use Rattle.cube.specs.Codes.{cell}
@@ -22,9 +24,7 @@ use Rattle.rows_merge.specs.United.{united}
 use Rattle.fields.specs.Words.{words_at}
 use Rattle.fields_walk.proofs.Lengths.{length-below}
 use Rattle.archive_entries.specs.Reading.{read_archive, archive_answer}
-use Rattle.archive_entries.specs.declared.ArchiveRead.TheVariants as Read
 use Rattle.archive_judge.proofs.Judged.{limits-ready}
-use Rattle.call_answers.specs.declared.Written.{Written}
 use Rattle.call_answers.specs.Answers.{stop, Answered}
 use Rattle.call_answers.specs.Joins.{filed}
 use Rattle.call_answers.proofs.Opened.{Opened}
@@ -34,7 +34,7 @@ use Rattle.call_add.specs.Adds.{coded, record_of, added, adds}
 use Rattle.call_add.proofs.Codes.{coded-below}
 use Rattle.call_add.proofs.Records.{record_limits}
 
-pub adds-refused : (s x : List ℕ) (z : ℤ) {k : ℕ} → archive_answer (read_archive s) ≡ Read.Stop k → adds s x z ≡ stop k
+pub adds-refused : (s x : List ℕ) (z : ℤ) {k : ℕ} → archive_answer (read_archive s) ≡ Err k → adds s x z ≡ stop k
 unfolding adds
 adds-refused s x z e = rw (refused s e)
 
@@ -42,7 +42,7 @@ adds-refused s x z e = rw (refused s e)
 pub same-reading : {z : ℤ} → SFits w32 z → to_z w32 (of_z w32 z) ≡ z
 same-reading f = to_z-of_z {w = w32} f
 
-pub answered-adds : (s x : List ℕ) {z : ℤ} → SFits w32 z → {l m : List ℕ} {r : Written} → Answered (adds s x (to_z w32 (of_z w32 z))) l m r → Answered (adds s x z) l m r
+pub answered-adds : (s x : List ℕ) {z : ℤ} → SFits w32 z → {l m : List ℕ} {r : Result ℕ Stop} → Answered (adds s x (to_z w32 (of_z w32 z))) l m r → Answered (adds s x z) l m r
 answered-adds s x f {l} {m} {r} a = subst (λ (y : ℤ). Answered (adds s x y) l m r) (same-reading f) a
 
 -- an archive's sizes and rows, as they stand in its bytes and in a flat list

@@ -6,12 +6,13 @@ ghost use Rattle.std.specs.Prelude.{◌≡◌, ◌+◌, ◌*◌, ◌≤◌, leng
 ghost use Rattle.fields.specs.Words.{words_at};
 ghost use Rattle.rows.specs.Rows.{rows_of};
 ghost use Rattle.call_answers.specs.Answers.{Answered};
-ghost use Rattle.call_join.specs.Stores.{Store, Accepted};
+ghost use Rattle.call_ask.specs.Accepts.{Accepts};
+ghost use Rattle.call_join.specs.Stores.{Store};
 ghost use Rattle.call_add.specs.Adds.{coded, added, adds};
 
-use archive_entries::ArchiveRead;
-use call_answers::Written;
+use archive_entries::Shape;
 use cube::Total;
+use stops::Stop;
 
 // How many words a row of 8 codes has.
 const ROW: usize = 11;
@@ -43,14 +44,14 @@ fn add_row(
     reading: i32,
     store: &mut [u16],
     out: &mut [u8],
-) -> Written
+) -> Result<usize, Stop>
     requires { Store sizes.now n rows.now × (262144 ≤ length store.old) }
     ensures { Answered (added sizes.now (rows_of (length sizes.now) n rows.now) codes.now reading) out.old out.new result }
 {
     if !codes_fit(sizes, codes) {
-        return Written::Stop(13);
+        return Err(Stop::Question);
     }
-    let sum = reading as i64;
+    let sum = i64::from(reading);
     let mut late = [0u32; ROW];
     rows_runs::put_row(&mut late, 0, codes, 255, Total { sum, count: 1 });
     let size = codes.len() + rows::TOTAL_WORDS;
@@ -67,7 +68,7 @@ fn add_sized(
     reading: i32,
     store: &mut [u16],
     out: &mut [u8],
-) -> Written
+) -> Result<usize, Stop>
     requires { (8 + 4 * length sizes.old ≤ length archive.now) × Store (words_at archive.now (length sizes.old) 8) n rows.now × (262144 ≤ length store.old) }
     ensures { Answered (added (words_at archive.now (length sizes.old) 8) (rows_of (length sizes.old) n rows.now) codes.now reading) out.old out.new result }
 {
@@ -79,18 +80,17 @@ fn add_sized(
 fn add_read(
     archive: &[u8],
     rows: &[u32],
-    dims: u32,
-    bases: u32,
+    shape: Shape,
     codes: &[u32],
     reading: i32,
     store: &mut [u16],
     out: &mut [u8],
-) -> Written
-    requires { Accepted archive.now rows.now dims bases × (262144 ≤ length store.old) }
+) -> Result<usize, Stop>
+    requires { Accepts archive.now rows.now shape × (262144 ≤ length store.old) }
     ensures { Answered (adds archive.now codes.now reading) out.old out.new result }
 {
-    let d = dims as usize;
-    let n = bases as usize;
+    let d = shape.dims as usize;
+    let n = shape.bases as usize;
     let size = n * (d + rows::TOTAL_WORDS);
     let mut sizes = [0u32; 8];
     add_sized(
@@ -113,21 +113,15 @@ fn add_in(
     codes: &[u32],
     reading: i32,
     out: &mut [u8],
-) -> Written
+) -> Result<usize, Stop>
     ensures { Answered (adds archive.now codes.now reading) out.old out.new result }
 {
-    match archive_read::read_lent(archive, rows, store) {
-        ArchiveRead::Stop(n) => Written::Stop(n),
-        ArchiveRead::Entries {
-            dims,
-            bases,
-            cells: _,
-        } => add_read(archive, rows, dims, bases, codes, reading, store, out),
-    }
+    let shape = archive_read::read_lent(archive, rows, store)?;
+    add_read(archive, rows, shape, codes, reading, store, out)
 }
 
 // Adds one record to an archive: the archive of its base rows with this record folded in.
-pub fn add(archive: &[u8], codes: &[u32], reading: i32, out: &mut [u8]) -> Written
+pub fn add(archive: &[u8], codes: &[u32], reading: i32, out: &mut [u8]) -> Result<usize, Stop>
     ensures { Answered (adds archive.now codes.now reading) out.old out.new result }
 {
     let mut rows = [0u32; rows::ROOM];

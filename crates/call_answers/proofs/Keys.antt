@@ -1,7 +1,7 @@
 -- What the two calls on keys say of any accepted archive (document 02, C-12).
 use mathlib.Core.Path.{◌≡◌, refl, sym, ap, ◌∙◌}
 use mathlib.Core.Logic.{◌↔◌}
-use mathlib.Core.Bool.{Bool, true, false, false≢true}
+use mathlib.Core.Bool.{true}
 use mathlib.Core.List.Memᴰ
 use mathlib.Core.List.{List, [], ◌∷◌}
 use Prim.Native.Nat.{ℕ, ◌^◌, ◌≤◌, ◌<◌}
@@ -10,6 +10,7 @@ use lib.Dec.{T}
 use lib.ListN.{length, length-map}
 use lib.Pow.{pow_mono}
 use borrow.Author.Tests.{lt-ltb, le-leb}
+use Rattle.std.specs.Prelude.{Ok}
 use Rattle.lists.specs.Lists.{◌∈◌}
 use Rattle.lattice.specs.Sets.{holds}
 use Rattle.lattice.proofs.Sets.{sets-in}
@@ -28,12 +29,7 @@ use Rattle.archive_entries.proofs.Accepted.{archive_forth}
 use Rattle.archive_entries.proofs.Limits.{limits-base}
 use Rattle.archive_cells.specs.ListBytes.{list_bytes, list_length}
 use Rattle.call_answers.specs.Answers.{bytes}
-use Rattle.call_answers.specs.Keys.{lists_keys, yes_if, tells_fixed}
-use Rattle.call_answers.specs.declared.Fixed.TheVariants.{Yes}
-
-yes-if : (b : Bool) → yes_if b ≡ Yes → b ≡ true
-yes-if true e = refl
-yes-if false e = let z : false ≡ true = cc in absurd (false≢true z)
+use Rattle.call_answers.specs.Keys.{lists_keys, tells_fixed}
 
 -- numbers that are all below 2 to the power 32 are words
 are_words_lem : (ws : List ℕ) → ((w : ℕ) → w ∈ ws → w < 2 ^ 32) → T (are_words ws)
@@ -78,24 +74,24 @@ module _ (s : List ℕ) (a : Held) (b : Bytes s) (e : read_archive s ≡ got a [
   keys_of_few h = keys-listed ∙ ap (λ (l : List ℕ). bytes (list_bytes l)) (theory.keys_of_few d xs rows-base (omega (arith, h, length-map (rows_in a) (λ r. r.codes))))
 
   module _ {set : ℕ} (h : set < 2 ^ d) where
-    told : (i : ℕ) → 1 ≤ i → i ≤ d → tells_fixed s set i ≡ yes_if (fixes (plain d) xs set (dimension i))
+    told : (i : ℕ) → 1 ≤ i → i ≤ d → tells_fixed s set i ≡ Ok (fixes (plain d) xs set (dimension i))
     unfolding tells_fixed
     told i k l = rw (e, lt-ltb set (2 ^ d) h, le-leb 1 i k, le-leb i d l)
 
-    told_yes : (i : ℕ) → 1 ≤ i → i ≤ d → (tells_fixed s set i ≡ Yes) ↔ (fixes (plain d) xs set (dimension i) ≡ true)
-    told_yes i k l = (λ q. yes-if (fixes (plain d) xs set (dimension i)) (sym (told i k l) ∙ q), λ q. told i k l ∙ ap yes_if q)
+    told_yes : (i : ℕ) → 1 ≤ i → i ≤ d → (tells_fixed s set i ≡ Ok true) ↔ (fixes (plain d) xs set (dimension i) ≡ true)
+    told_yes i k l = (λ q. cc (sym (told i k l) ∙ q), λ q. told i k l ∙ ap Ok q)
 
     -- the other says yes just if base rows that agree on the set agree on the dimension:
-    pub fixes_yes : (i : ℕ) → 1 ≤ i → i ≤ d → (tells_fixed s set i ≡ Yes) ↔ ((x y : List ℕ) → x ∈ xs → y ∈ xs → agree set x y ≡ true → agree (dimension i) x y ≡ true)
+    pub fixes_yes : (i : ℕ) → 1 ≤ i → i ≤ d → (tells_fixed s set i ≡ Ok true) ↔ ((x y : List ℕ) → x ∈ xs → y ∈ xs → agree set x y ≡ true → agree (dimension i) x y ≡ true)
     fixes_yes i k l = let r = theory.fixes_iff d xs rows-base set (dimension i) in (λ q. r.0 ((told_yes i k l).0 q), λ q. (told_yes i k l).1 (r.1 q))
 
     -- for each dimension just if the set is a key,
-    pub key-fixes : (key (plain d) xs set ≡ true) ↔ ((i : ℕ) → 1 ≤ i → i ≤ d → tells_fixed s set i ≡ Yes)
+    pub key-fixes : (key (plain d) xs set ≡ true) ↔ ((i : ℕ) → 1 ≤ i → i ≤ d → tells_fixed s set i ≡ Ok true)
     key-fixes = let r = theory.key-fixes d xs rows-base set in (
       λ q i k l. (told_yes i k l).1 (r.0 q i k l),
       λ q. r.1 (λ i k l. (told_yes i k l).0 (q i k l)),
     )
 
     -- and for each of the set's own.
-    pub fixes-own : (i : ℕ) → 1 ≤ i → i ≤ d → holds d set (dimension i) ≡ true → tells_fixed s set i ≡ Yes
+    pub fixes-own : (i : ℕ) → 1 ≤ i → i ≤ d → holds d set (dimension i) ≡ true → tells_fixed s set i ≡ Ok true
     fixes-own i k l q = (told_yes i k l).1 (theory.fixes-own d xs rows-base set (dimension i) q)

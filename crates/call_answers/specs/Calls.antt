@@ -1,28 +1,24 @@
 -- What the five calls compute (document 01), each from the bytes that it is given.
 --
 --   builds s            the archive of the table s (stops 1 to 6, 10, 11)
---   Checked             the base count and the normal count, or a stop's number: the enum of src/lib.rt
---   checks s            of the archive s (stops 1 to 12)
+--   checks s            the base count and the normal count of the archive s (stops 1 to 12)
 --   lists_cuboid s set   the cuboid of a set, listed (stops 1 to 12, 14)
 --   expands s           the expansion of the archive s (stops 1 to 12)
 --   entries_in a         the entries that an archive holds
---   Found               a cell with its entry's number, 'no record', or a stop's number: the enum of src/lib.rt
---   looks_up s q         the answer of the archive s to the question q (stops 1 to 13)
-use Rattle.std.specs.Prelude.{cond, List, ◌++◌, map, ℕ, ◌^◌, ltb, length}
+--   looks_up s q         the answer of the archive s to the question q: a cell with its entry's number, or none for 'no record' (stops 1 to 13)
+use Rattle.std.specs.Prelude.{cond, List, ◌++◌, map, ℕ, ◌^◌, ltb, length, Option, Result, Ok, Err}
 use Rattle.fields_walk.specs.Parsed.{Parsed, stop, got}
 use Rattle.cube.specs.declared.Total.{Total}
 use Rattle.cube.specs.Codes.{plain}
-use Rattle.cube.specs.Condensed.{Entry, base, normal, Answer, no_record, found, lookup}
+use Rattle.cube.specs.Condensed.{Entry, base, normal, Answer, lookup}
 use Rattle.table.specs.Layout.{Records}
 use Rattle.table.specs.Reading.{read_table, base_rows}
 use Rattle.archive_entries.specs.Layout.{Held, archive_bytes}
 use Rattle.archive_entries.specs.Reading.{read_archive, rows_in}
-use Rattle.call_questions.specs.Questions.{asks}
+use Rattle.call_questions.specs.declared.Cell.{Cell}
+use Rattle.call_questions.specs.Questions.{asks, looked}
 use Rattle.call_cuboids.specs.Cuboids.{cuboid_bytes, expansion_bytes}
-use Rattle.call_answers.specs.declared.Checked.{Checked}
-use Rattle.call_answers.specs.declared.Checked.TheVariants as Check
-use Rattle.call_answers.specs.declared.Found.{Found}
-use Rattle.call_answers.specs.declared.Found.TheVariants as Find
+use Rattle.call_answers.specs.declared.Counts.{Counts}
 use Rattle.call_answers.specs.Answers.{Outcome, stop as stopped, bytes, refuse_unless}
 
 -- what was read settles the outcome
@@ -43,11 +39,11 @@ builds s = outcome archived (read_table s)
 
 -- ---- check
 
-abbrev pub counted : Parsed Held → Checked
-counted (stop n) = Check.Stop n
-counted (got a rest) = Check.Entries (length a.bases) (length a.cells)
+abbrev pub counted : Parsed Held → Result Counts ℕ
+counted (stop n) = Err n
+counted (got a rest) = Ok (record { bases = length a.bases; cells = length a.cells })
 
-unfoldable pub checks : List ℕ → Checked
+unfoldable pub checks : List ℕ → Result Counts ℕ
 checks s = counted (read_archive s)
 
 -- ---- list a cuboid, expand
@@ -70,13 +66,12 @@ abbrev pub entries_in : Held → List (Entry Total)
 entries_in a = map (λ b. base b.row b.list) a.bases ++ map normal a.cells
 
 -- 'no record' is a result and no refusal
-abbrev pub told : Answer Total → Found
-told no_record = Find.NoRecord
-told (found n t) = Find.Cell t.sum t.count n
+abbrev pub told : Answer Total → Result (Option Cell) ℕ
+told a = Ok (looked a)
 
-abbrev pub answered : List ℕ → Parsed Held → Found
-answered q (stop n) = Find.Stop n
-answered q (got a rest) = cond (asks a.sizes q) (told (lookup (plain (dims a)) q (entries_in a))) (Find.Stop 13)
+abbrev pub answered : List ℕ → Parsed Held → Result (Option Cell) ℕ
+answered q (stop n) = Err n
+answered q (got a rest) = cond (asks a.sizes q) (told (lookup (plain (dims a)) q (entries_in a))) (Err 13)
 
-unfoldable pub looks_up : List ℕ → List ℕ → Found
+unfoldable pub looks_up : List ℕ → List ℕ → Result (Option Cell) ℕ
 looks_up s q = answered q (read_archive s)

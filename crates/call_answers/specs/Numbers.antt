@@ -5,48 +5,42 @@
 --   found_number         1 for a cell, 0 for 'no record'
 --   sum_left, count_left, entry_left    what is left in the arrays of one where the sum, the count and the entry's number of a cell are stored
 --   fixed_number         1 for yes, 0 for no, whether a set fixes a dimension
-use Rattle.std.specs.Prelude.{List, ℕ, ◌+◌, ◌*◌, ◌^◌, ℤ, set}
-use Rattle.call_answers.specs.declared.Written.{Written}
-use Rattle.call_answers.specs.declared.Written.TheVariants as Write
-use Rattle.call_answers.specs.declared.Checked.{Checked}
-use Rattle.call_answers.specs.declared.Checked.TheVariants as Check
-use Rattle.call_answers.specs.declared.Found.{Found}
-use Rattle.call_answers.specs.declared.Found.TheVariants as Find
-use Rattle.call_answers.specs.declared.Fixed.{Fixed}
-use Rattle.call_answers.specs.declared.Fixed.TheVariants as Fix
+use Rattle.std.specs.Prelude.{true, false, Bool, List, ℕ, ◌+◌, ◌*◌, ◌^◌, ℤ, set, Option, Some, None, Result, Ok, Err}
+use Rattle.call_questions.specs.declared.Cell.{Cell}
+use Rattle.call_answers.specs.declared.Counts.{Counts}
 
 abbrev pub stop_number : ℕ → ℕ
 stop_number n = 2 ^ 63 + n
 
-abbrev pub written_number : Written → ℕ
-written_number (Write.Length n) = n
-written_number (Write.Stop n) = stop_number n
+abbrev pub written_number : Result ℕ ℕ → ℕ
+written_number (Ok n) = n
+written_number (Err n) = stop_number n
 
-abbrev pub checked_number : Checked → ℕ
-checked_number (Check.Entries bases cells) = bases + 2 ^ 32 * cells
-checked_number (Check.Stop n) = stop_number n
+abbrev pub checked_number : Result Counts ℕ → ℕ
+checked_number (Ok c) = c.bases + 2 ^ 32 * c.cells
+checked_number (Err n) = stop_number n
 
-abbrev pub found_number : Found → ℕ
-found_number (Find.Cell sum count entry) = 1
-found_number Find.NoRecord = 0
-found_number (Find.Stop n) = stop_number n
+abbrev pub found_number : Result (Option Cell) ℕ → ℕ
+found_number (Ok (Some c)) = 1
+found_number (Ok None) = 0
+found_number (Err n) = stop_number n
 
-abbrev pub sum_left : Found → List ℤ → List ℤ
-sum_left (Find.Cell sum count entry) l = set l 0 sum
-sum_left Find.NoRecord l = l
-sum_left (Find.Stop n) l = l
+abbrev pub sum_left : Result (Option Cell) ℕ → List ℤ → List ℤ
+sum_left (Ok (Some c)) l = set l 0 c.sum
+sum_left (Ok None) l = l
+sum_left (Err n) l = l
 
-abbrev pub count_left : Found → List ℕ → List ℕ
-count_left (Find.Cell sum count entry) l = set l 0 count
-count_left Find.NoRecord l = l
-count_left (Find.Stop n) l = l
+abbrev pub count_left : Result (Option Cell) ℕ → List ℕ → List ℕ
+count_left (Ok (Some c)) l = set l 0 c.count
+count_left (Ok None) l = l
+count_left (Err n) l = l
 
-abbrev pub entry_left : Found → List ℕ → List ℕ
-entry_left (Find.Cell sum count entry) l = set l 0 entry
-entry_left Find.NoRecord l = l
-entry_left (Find.Stop n) l = l
+abbrev pub entry_left : Result (Option Cell) ℕ → List ℕ → List ℕ
+entry_left (Ok (Some c)) l = set l 0 c.entry
+entry_left (Ok None) l = l
+entry_left (Err n) l = l
 
-abbrev pub fixed_number : Fixed → ℕ
-fixed_number Fix.Yes = 1
-fixed_number Fix.No = 0
-fixed_number (Fix.Stop n) = stop_number n
+abbrev pub fixed_number : Result Bool ℕ → ℕ
+fixed_number (Ok true) = 1
+fixed_number (Ok false) = 0
+fixed_number (Err n) = stop_number n

@@ -1,32 +1,23 @@
 // What the calls answer.
-// What a call that writes an output answers: the length written, or a stop's number.
 #![tactic(auto)]
 
+ghost use Rattle.std.specs.Prelude.{◌≡◌, cond, leb, Ok, Err};
+
+use stops::Stop;
+
+// What a check answers: the base count and the normal count.
 #[derive(Clone, Copy)]
-pub enum Written {
-    Length(usize),
-    Stop(u32),
+pub struct Counts {
+    pub bases: u32,
+    pub cells: u32,
 }
 
-// What a check answers: the base count and the normal count, or a stop's number.
-#[derive(Clone, Copy)]
-pub enum Checked {
-    Entries { bases: u32, cells: u32 },
-    Stop(u32),
-}
-
-// What a question answers: the cell's sum and count and the number of the entry that carries them, 'no record', or a stop's number.
-#[derive(Clone, Copy)]
-pub enum Found {
-    Cell { sum: i64, count: u32, entry: u32 },
-    NoRecord,
-    Stop(u32),
-}
-
-// What the question whether a set fixes a dimension answers: yes, no, or a stop's number.
-#[derive(Clone, Copy)]
-pub enum Fixed {
-    Yes,
-    No,
-    Stop(u32),
+// The length of a result that was written if it fits, or the stop for want of room.
+pub fn fitting(needed: usize, room: usize) -> Result<usize, Stop>
+    ensures { result ≡ cond (leb needed room) (Ok needed) (Err Stop.Output) }
+{
+    if room < needed {
+        return Err(Stop::Output);
+    }
+    Ok(needed)
 }

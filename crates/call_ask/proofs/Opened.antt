@@ -3,14 +3,19 @@ use mathlib.Core.Path.{◌≡◌, refl, sym, ap, subst, ◌∙◌}
 use mathlib.Core.Bool.{true, false, false≢true}
 use mathlib.Core.List.{List, []}
 use Prim.Native.Nat.{ℕ, ◌*◌, ◌≤◌}
-use lib.ListN.{length, take}
+use native.Mathlib.Omega.{arith}
+use mir.Syntax.{w8}
+use mir.Val.{Fits}
+use lib.ListN.{length, get_or, take}
+use Rattle.std.specs.Prelude.{Ok}
 use Rattle.rows.proofs.Rows.{rows_small}
 use Rattle.fields_walk.specs.Parsed.{Parsed, stop, got}
 use Rattle.fields_walk.specs.Limits.{Bytes}
+use Rattle.fields_walk.proofs.Limits.{bytes_of}
 use Rattle.rows.specs.Rows.{width, rows_of}
 use Rattle.archive_entries.specs.Layout.{Held, required, archive_bytes}
 use Rattle.archive_entries.specs.Reading.{walk_archive, read_archive, rows_in, archive_answer, Stored}
-use Rattle.archive_entries.specs.declared.ArchiveRead.TheVariants as Read
+use Rattle.archive_entries.specs.declared.Shape.{Shape}
 use Rattle.archive_entries.proofs.Accepted.{read_forth, archive_forth}
 use Rattle.fields.specs.Words.{words_at}
 use Rattle.archive_normals.specs.Grouped.{Grouped}
@@ -23,23 +28,23 @@ use Rattle.call_ask.specs.Accepts.{Accepts}
 abbrev pub OpenedIn : (s : List ℕ) (d n m : ℕ) (ws : List ℕ) → Type 0
 OpenedIn s d n m ws = Opened s d n m (take (n * width d) ws)
 
-told : (p : Parsed Held) {d n m : ℕ} → archive_answer p ≡ Read.Entries d n m
-    → (a : Held) × (rest : List ℕ) × (p ≡ got a rest) × (length a.sizes ≡ d) × (length a.bases ≡ n) × (length a.cells ≡ m)
-told (stop k) e = let z : false ≡ true = cc in absurd (false≢true z)
-told (got a rest) e = (a, rest, refl, cc e, cc e, cc e)
+told : (p : Parsed Held) {e : Shape} → archive_answer p ≡ Ok e
+    → (a : Held) × (rest : List ℕ) × (p ≡ got a rest) × (length a.sizes ≡ e.dims) × (length a.bases ≡ e.bases) × (length a.cells ≡ e.cells)
+told (stop k) h = let z : false ≡ true = cc in absurd (false≢true z)
+told (got a rest) {e} h =
+    let f : record { dims = length a.sizes; bases = length a.bases; cells = length a.cells } ≡ e = cc in
+    (a, rest, refl, ap (λ (x : Shape). x.dims) f, ap (λ (x : Shape). x.bases) f, ap (λ (x : Shape). x.cells) f)
 
 -- the slots of the rows that the walk told of are those of the rows that were read
-pub grouped-read : (s : List ℕ) {d n m i j k : ℕ} (ws : List ℕ) {store used : List ℕ} → archive_answer (walk_archive s) ≡ Read.Entries d n m → archive_answer (read_archive s) ≡ Read.Entries i j k
-    → Grouped d n (take (n * width d) ws) store used → Grouped i j (take (j * width i) ws) store used
-grouped-read s {d} {n} {m} {i} {j} {k} ws e f g =
-    let t = told (read_archive s) f in
-    let h : Read.Entries d n m ≡ Read.Entries i j k = sym e ∙ ap archive_answer ((read_forth s t.2).0 ∙ sym t.2) ∙ f in
-    let dims : d ≡ i = cc h in
-    let rows : n ≡ j = cc h in
-    rw (← dims, ← rows) g
+pub grouped-read : (s : List ℕ) {e f : Shape} (ws : List ℕ) {store used : List ℕ} → archive_answer (walk_archive s) ≡ Ok e → archive_answer (read_archive s) ≡ Ok f
+    → Grouped e.dims e.bases (take (e.bases * width e.dims) ws) store used → Grouped f.dims f.bases (take (f.bases * width f.dims) ws) store used
+grouped-read s {e} {f} ws {store} {used} h k g =
+    let t = told (read_archive s) k in
+    let same : e ≡ f = cc (sym h ∙ ap archive_answer ((read_forth s t.2).0 ∙ sym t.2) ∙ k) in
+    subst (λ (x : Shape). Grouped x.dims x.bases (take (x.bases * width x.dims) ws) store used) same g
 
-pub opened : {s ws : List ℕ} {d n m : ℕ} → Bytes s → Accepts s ws d n m → OpenedIn s d n m ws
-opened {s} {ws} {d} {n} {m} b x =
+pub opened : {s ws : List ℕ} {e : Shape} → Bytes s → Accepts s ws e → OpenedIn s e.dims e.bases e.cells ws
+opened {s} {ws} b x =
     let t = told (read_archive s) x.told in
     let a = t.0 in
     let walked = (read_forth s t.2).0 in
@@ -60,6 +65,10 @@ opened {s} {ws} {d} {n} {m} b x =
       ready = read-ready b r;
       rows = r.rows ∙ ap rows_in same-held;
     }
+
+-- where the bytes are a slice's
+pub opened_by : {s ws : List ℕ} {e : Shape} → ((i : ℕ) → Fits w8 (get_or s i 0)) → Accepts s ws e → OpenedIn s e.dims e.bases e.cells ws
+opened_by {s} h x = opened (bytes_of s (λ i. omega (arith, h i))) x
 
 module _ {s : List ℕ} {d n m : ℕ} {ws : List ℕ} (o : Opened s d n m ws) where
   pub opened_small : n * width d ≤ 11264

@@ -1,35 +1,34 @@
 -- What a call's outcome is for an archive that is refused, and for one that is accepted.
-use mathlib.Core.Path.{◌≡◌, sym, ap, ap₂}
+use mathlib.Core.Path.{◌≡◌, sym, ap}
 use mathlib.Core.Bool.{true, false, false≢true}
 use mathlib.Core.List.{List}
 use Prim.Native.Nat.{ℕ, ◌^◌, ◌≤◌, ◌<◌}
 use lib.ListN.{length}
 use borrow.Author.Tests.{lt-ltb, le-ltb}
+use Rattle.std.specs.Prelude.{Ok, Err}
 use Rattle.fields_walk.specs.Parsed.{Parsed, stop, got}
 use Rattle.cube.specs.declared.Total.{Total}
 use Rattle.cube.specs.Measure.{Row}
 use Rattle.rows.specs.Rows.{rows_of}
 use Rattle.archive_entries.specs.Layout.{Held}
 use Rattle.archive_entries.specs.Reading.{read_archive, archive_answer}
-use Rattle.archive_entries.specs.declared.ArchiveRead.TheVariants as Read
+use Rattle.archive_entries.specs.declared.Shape.{Shape}
 use Rattle.call_cuboids.specs.Cuboids.{cuboid_bytes, expansion_bytes}
-use Rattle.call_answers.specs.declared.Checked.TheVariants as Check
-use Rattle.call_answers.specs.declared.Found.TheVariants as Find
 use Rattle.call_answers.specs.Answers.{stop as stopped, bytes}
 use Rattle.call_answers.specs.Calls.{counted, checks, lists_cuboid, expands, looks_up}
 use Rattle.call_answers.proofs.Opened.{Opened}
 
 -- ---- refused
 
-module _ (s : List ℕ) {k : ℕ} (e : archive_answer (read_archive s) ≡ Read.Stop k) where
+module _ (s : List ℕ) {k : ℕ} (e : archive_answer (read_archive s) ≡ Err k) where
   pub refused : read_archive s ≡ stop k
   refused = go (read_archive s) e
     where
-      go : (p : Parsed Held) → archive_answer p ≡ Read.Stop k → p ≡ stop k
+      go : (p : Parsed Held) → archive_answer p ≡ Err k → p ≡ stop k
       go (stop n) f = let z : n ≡ k = cc in ap stop z
       go (got a rest) f = let z : false ≡ true = cc in absurd (false≢true z)
 
-  pub check-refused : Check.Stop k ≡ checks s
+  pub check-refused : Err k ≡ checks s
   unfolding checks
   check-refused = rw refused
 
@@ -41,23 +40,22 @@ module _ (s : List ℕ) {k : ℕ} (e : archive_answer (read_archive s) ≡ Read.
   unfolding expands
   expand-refused = rw refused
 
-  pub look_refused : (q : List ℕ) → Find.Stop k ≡ looks_up s q
+  pub look_refused : (q : List ℕ) → Err k ≡ looks_up s q
   unfolding looks_up
   look_refused q = rw refused
 
 -- ---- accepted
 
 -- a check needs the answer alone
-pub check_passed : (s : List ℕ) {d n m : ℕ} → archive_answer (read_archive s) ≡ Read.Entries d n m → Check.Entries n m ≡ checks s
+pub check_passed : (s : List ℕ) {e : Shape} → archive_answer (read_archive s) ≡ Ok e → Ok (record { bases = e.bases; cells = e.cells }) ≡ checks s
 unfolding checks
-check_passed s {d} {n} {m} e = go (read_archive s) e
+check_passed s {e} h = go (read_archive s) h
   where
-    go : (p : Parsed Held) → archive_answer p ≡ Read.Entries d n m → Check.Entries n m ≡ counted p
+    go : (p : Parsed Held) → archive_answer p ≡ Ok e → Ok (record { bases = e.bases; cells = e.cells }) ≡ counted p
     go (stop k) f = let z : false ≡ true = cc in absurd (false≢true z)
     go (got a rest) f =
-        let p : length a.bases ≡ n = cc in
-        let q : length a.cells ≡ m = cc in
-        sym (ap₂ Check.Entries p q)
+        let g : record { dims = length a.sizes; bases = length a.bases; cells = length a.cells } ≡ e = cc in
+        sym (ap (λ (x : Shape). Ok (record { bases = x.bases; cells = x.cells })) g)
 
 module _ {s : List ℕ} {d n m : ℕ} {ws : List ℕ} (o : Opened s d n m ws) where
   pub list_stopped : {set : ℕ} → 2 ^ d ≤ set → lists_cuboid s set ≡ stopped 14

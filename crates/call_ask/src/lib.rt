@@ -4,6 +4,7 @@
 
 ghost use Rattle.std.specs.Prelude.{◌≡◌, ◌*◌, take};
 ghost use Rattle.rows.specs.Rows.{width, rows_of};
+ghost use Rattle.stops.specs.Numbers.{numbered};
 ghost use Rattle.archive_entries.specs.Reading.{walk_archive, archive_answer};
 ghost use Rattle.rows_ready.specs.Ready.{Ready};
 ghost use Rattle.archive_normals.specs.Grouped.{Grouped};
@@ -12,71 +13,54 @@ ghost use Rattle.call_answers.specs.Answers.{bytes, Answered};
 ghost use Rattle.call_answers.specs.Calls.{checks, lists_cuboid, expands};
 ghost use Rattle.call_ask.specs.Accepts.{Accepts};
 
-use archive_entries::ArchiveRead;
-use call_answers::{Checked, Written};
+use archive_entries::Shape;
+use call_answers::Counts;
+use stops::Stop;
 
 // Checks an archive: all its stops, 1 to 12.
-pub fn check(archive: &[u8]) -> Checked
-    ensures { result ≡ checks archive.now }
+pub fn check(archive: &[u8]) -> Result<Counts, Stop>
+    ensures { numbered result ≡ checks archive.now }
 {
-    match archive_read::check_required(archive) {
-        ArchiveRead::Stop(n) => Checked::Stop(n),
-        ArchiveRead::Entries {
-            dims: _,
-            bases,
-            cells,
-        } => Checked::Entries { bases, cells },
-    }
+    let shape = archive_read::check_required(archive)?;
+    Ok(Counts {
+        bases: shape.bases,
+        cells: shape.cells,
+    })
 }
 
 // Writes the cuboid of a set where there is room for it.
-fn fit_cuboid(out: &mut [u8], rows: &[u32], n: usize, dims: usize, set: u32) -> Written
+fn fit_cuboid(out: &mut [u8], rows: &[u32], n: usize, dims: usize, set: u32) -> Result<usize, Stop>
     requires { Ready dims n rows.now }
     ensures { Answered (bytes (cuboid_bytes dims (rows_of dims n rows.now) set)) out.old out.new result }
 {
     let needed = call_cuboids::write_cuboid(out, rows, n, dims, set);
-    if out.len() < needed {
-        return Written::Stop(15);
-    }
-    Written::Length(needed)
+    call_answers::fitting(needed, out.len())
 }
 
 // Lists the cuboid of a set of an archive that was accepted.
-fn list_read(
-    s: &[u8],
-    rows: &[u32],
-    dims: u32,
-    bases: u32,
-    cells: u32,
-    set: u32,
-    out: &mut [u8],
-) -> Written
-    requires { Accepts s.now rows.now dims bases cells }
+fn list_read(s: &[u8], rows: &[u32], shape: Shape, set: u32, out: &mut [u8]) -> Result<usize, Stop>
+    requires { Accepts s.now rows.now shape }
     ensures { Answered (lists_cuboid s.now set) out.old out.new result }
 {
-    if lattice::sets_of(dims) <= set {
-        return Written::Stop(14);
+    if lattice::sets_of(shape.dims) <= set {
+        return Err(Stop::Set);
     }
-    let d = dims as usize;
-    let n = bases as usize;
+    let d = shape.dims as usize;
+    let n = shape.bases as usize;
     let size = n * (d + rows::TOTAL_WORDS);
     fit_cuboid(out, &rows[..size], n, d, set)
 }
 
 // Reads an archive into the array that is lent, and lists the cuboid of a set.
-fn list_in(s: &[u8], rows: &mut [u32; rows::ROOM], set: u32, out: &mut [u8]) -> Written
+fn list_in(s: &[u8], rows: &mut [u32; rows::ROOM], set: u32, out: &mut [u8]) -> Result<usize, Stop>
     ensures { Answered (lists_cuboid s.now set) out.old out.new result }
 {
-    match archive_read::read_required(s, rows) {
-        ArchiveRead::Stop(n) => Written::Stop(n),
-        ArchiveRead::Entries { dims, bases, cells } => {
-            list_read(s, rows, dims, bases, cells, set, out)
-        }
-    }
+    let shape = archive_read::read_required(s, rows)?;
+    list_read(s, rows, shape, set, out)
 }
 
 // Lists the cuboid of a set.
-pub fn list_cuboid(archive: &[u8], set: u32, out: &mut [u8]) -> Written
+pub fn list_cuboid(archive: &[u8], set: u32, out: &mut [u8]) -> Result<usize, Stop>
     ensures { Answered (lists_cuboid archive.now set) out.old out.new result }
 {
     let mut rows = [0u32; rows::ROOM];
@@ -91,79 +75,64 @@ fn fit_expansion(
     dims: usize,
     store: &mut [u16],
     used: &mut [usize],
-) -> Written
+) -> Result<usize, Stop>
     requires { Grouped dims n rows.now store.old used.old }
     ensures { Answered (bytes (expansion_bytes dims (rows_of dims n rows.now))) out.old out.new result }
 {
     let needed = call_expansion::write_expansion(out, rows, n, dims, store, used);
-    if out.len() < needed {
-        return Written::Stop(15);
-    }
-    Written::Length(needed)
+    call_answers::fitting(needed, out.len())
 }
 
-// Expands an archive that was accepted; the slots that are lent are those of its base rows. Eight parameters: what was read of the archive is three numbers, the slots are two arrays.
+// Expands an archive that was accepted; the slots that are lent are those of its base rows.
 fn expand_read(
     s: &[u8],
     rows: &[u32],
-    dims: u32,
-    bases: u32,
-    cells: u32,
+    shape: Shape,
     store: &mut [u16],
     used: &mut [usize],
     out: &mut [u8],
-) -> Written
-    requires accepts { Accepts s.now rows.now dims bases cells }
-    requires grouped { Grouped dims bases (take (bases * width dims) rows.now) store.old used.old }
+) -> Result<usize, Stop>
+    requires accepts { Accepts s.now rows.now shape }
+    requires grouped { Grouped shape.dims shape.bases (take (shape.bases * width shape.dims) rows.now) store.old used.old }
     ensures { Answered (expands s.now) out.old out.new result }
 {
-    let d = dims as usize;
-    let n = bases as usize;
+    let d = shape.dims as usize;
+    let n = shape.bases as usize;
     let size = n * (d + rows::TOTAL_WORDS);
     fit_expansion(out, &rows[..size], n, d, store, used)
 }
 
-// Reads the base rows of an archive whose fields are right into the array that is lent, and expands it. Eight parameters, as `expand_read`.
+// Reads the base rows of an archive whose fields are right into the array that is lent, and expands it.
 fn expand_in(
     s: &[u8],
     rows: &mut [u32; rows::ROOM],
     store: &mut [u16; 262144],
     used: &mut [usize; 256],
-    dims: u32,
-    bases: u32,
-    cells: u32,
+    shape: Shape,
     out: &mut [u8],
-) -> Written
-    requires { archive_answer (walk_archive s.now) ≡ ArchiveRead.Entries dims bases cells }
+) -> Result<usize, Stop>
+    requires { archive_answer (walk_archive s.now) ≡ Ok shape }
     ensures { Answered (expands s.now) out.old out.new result }
 {
-    match archive_read::read_judged(s, rows, store, used, dims, bases, cells) {
-        ArchiveRead::Stop(n) => Written::Stop(n),
-        ArchiveRead::Entries { dims, bases, cells } => {
-            expand_read(s, rows, dims, bases, cells, store, used, out)
-        }
-    }
+    let judged = archive_read::read_judged(s, rows, store, used, shape)?;
+    expand_read(s, rows, judged, store, used, out)
 }
 
 // Expands an archive whose fields are right. The slots of the check are completed for the expansion.
-fn expand_fields(s: &[u8], dims: u32, bases: u32, cells: u32, out: &mut [u8]) -> Written
-    requires { archive_answer (walk_archive s.now) ≡ ArchiveRead.Entries dims bases cells }
+fn expand_fields(s: &[u8], shape: Shape, out: &mut [u8]) -> Result<usize, Stop>
+    requires { archive_answer (walk_archive s.now) ≡ Ok shape }
     ensures { Answered (expands s.now) out.old out.new result }
 {
     let mut rows = [0u32; rows::ROOM];
     let mut store = [0u16; 262144];
     let mut used = [0usize; 256];
-    expand_in(s, &mut rows, &mut store, &mut used, dims, bases, cells, out)
+    expand_in(s, &mut rows, &mut store, &mut used, shape, out)
 }
 
 // Expands an archive to the complete cube. No array is declared before the first 11 stops are passed.
-pub fn expand(archive: &[u8], out: &mut [u8]) -> Written
+pub fn expand(archive: &[u8], out: &mut [u8]) -> Result<usize, Stop>
     ensures { Answered (expands archive.now) out.old out.new result }
 {
-    match archive_reader::check_archive(archive) {
-        ArchiveRead::Stop(n) => Written::Stop(n),
-        ArchiveRead::Entries { dims, bases, cells } => {
-            expand_fields(archive, dims, bases, cells, out)
-        }
-    }
+    let shape = archive_reader::check_archive(archive)?;
+    expand_fields(archive, shape, out)
 }

@@ -10,8 +10,8 @@ ghost use Rattle.rows_ready.specs.Ready.{Ready};
 ghost use Rattle.call_answers.specs.Answers.{bytes, Answered};
 ghost use Rattle.call_answers.specs.Calls.{builds};
 
-use call_answers::Written;
-use table::TableRead;
+use stops::Stop;
+use table::Folded;
 
 // Writes the archive of sizes and base rows where there is room for it, with a lent array for slots.
 pub fn fit_archive(
@@ -20,15 +20,12 @@ pub fn fit_archive(
     rows: &[u32],
     n: usize,
     store: &mut [u16],
-) -> Written
+) -> Result<usize, Stop>
     requires { Ready (length sizes.now) n rows.now × Limits sizes.now (rows_of (length sizes.now) n rows.now) × (262144 ≤ length store.old) }
     ensures { Answered (bytes (archive_bytes sizes.now (rows_of (length sizes.now) n rows.now))) out.old out.new result }
 {
     let needed = archive_write::write_archive(out, sizes, rows, n, store);
-    if out.len() < needed {
-        return Written::Stop(15);
-    }
-    Written::Length(needed)
+    call_answers::fitting(needed, out.len())
 }
 
 // Writes the archive of a table's base rows where there is room for it; the sizes, which stand in the table, go into the buffer that is lent.
@@ -39,7 +36,7 @@ fn write_sized(
     n: usize,
     store: &mut [u16],
     out: &mut [u8],
-) -> Written
+) -> Result<usize, Stop>
     requires sizes_in_bounds { (8 + 4 * length sizes.old ≤ length s.now) × Ready (length sizes.old) n rows.now × (262144 ≤ length store.old) }
     requires limits { Limits (words_at s.now (length sizes.old) 8) (rows_of (length sizes.old) n rows.now) }
     ensures { Answered (bytes (archive_bytes (words_at s.now (length sizes.old) 8) (rows_of (length sizes.old) n rows.now))) out.old out.new result }
@@ -49,13 +46,13 @@ fn write_sized(
 }
 
 // Writes the archive of a table that was accepted; the array has its base rows.
-fn build_read(s: &[u8], rows: &[u32], dims: u32, count: u32, out: &mut [u8]) -> Written
-    requires s_value { table_answer (read_table s.now) ≡ TableRead.Rows dims count }
+fn build_read(s: &[u8], rows: &[u32], folded: Folded, out: &mut [u8]) -> Result<usize, Stop>
+    requires s_value { table_answer (read_table s.now) ≡ Ok folded }
     requires in_bounds { (11264 ≤ length rows.now) × Stored (read_table s.now) rows.now }
     ensures { Answered (builds s.now) out.old out.new result }
 {
-    let d = dims as usize;
-    let n = count as usize;
+    let d = folded.dims as usize;
+    let n = folded.rows as usize;
     let size = n * (d + rows::TOTAL_WORDS);
     let mut sizes = [0u32; 8];
     let mut store = [0u16; 262144];
@@ -63,17 +60,15 @@ fn build_read(s: &[u8], rows: &[u32], dims: u32, count: u32, out: &mut [u8]) -> 
 }
 
 // Reads a table into the array that is lent, and builds its archive.
-fn build_in(table: &[u8], rows: &mut [u32; rows::ROOM], out: &mut [u8]) -> Written
+fn build_in(table: &[u8], rows: &mut [u32; rows::ROOM], out: &mut [u8]) -> Result<usize, Stop>
     ensures { Answered (builds table.now) out.old out.new result }
 {
-    match table_rows::read_table(table, rows) {
-        TableRead::Stop(n) => Written::Stop(n),
-        TableRead::Rows { dims, rows: count } => { build_read(table, rows, dims, count, out) }
-    }
+    let folded = table_rows::read_table(table, rows)?;
+    build_read(table, rows, folded, out)
 }
 
 // Builds the archive of a table.
-pub fn build(table: &[u8], out: &mut [u8]) -> Written
+pub fn build(table: &[u8], out: &mut [u8]) -> Result<usize, Stop>
     ensures { Answered (builds table.now) out.old out.new result }
 {
     let mut rows = [0u32; rows::ROOM];

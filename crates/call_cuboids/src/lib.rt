@@ -21,9 +21,7 @@ fn blank_cells(cells: &mut [u32], dims: usize, set: u32) -> usize
         return 0;
     }
     let codes = [0u32; 8];
-    let sum = 0;
-    let count = 0;
-    let total = cube::Total { sum, count };
+    let total = cube::Total { sum: 0, count: 0 };
     rows_runs::put_row(cells, 0, &codes[..dims], 0, total);
     1
 }

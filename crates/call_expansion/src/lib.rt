@@ -25,7 +25,7 @@ fn count_cells(slot: &[u16], n: usize, set: u32) -> usize
     if n != 0 {
         return rows_crowds::count_groups(slot);
     }
-    if set == 0 { 1 } else { 0 }
+    usize::from(set == 0)
 }
 
 // The length of a listed cuboid.

@@ -5,13 +5,13 @@ use Prim.Native.Nat.{ℕ, ◌^◌, ◌≤◌, ◌<◌}
 use native.Mathlib.Omega.{arith}
 use lib.ListN.{length}
 use borrow.Author.Tests.{lt-ltb, le-ltb, le-leb, lt-leb}
+use Rattle.std.specs.Prelude.{Err}
 use Rattle.cube.specs.declared.Total.{Total}
 use Rattle.cube.specs.Measure.{Row}
 use Rattle.cube.specs.Bounds.{count_of}
 use Rattle.rows.specs.Rows.{rows_of}
 use Rattle.rows.proofs.Flat.{rows-length}
 use Rattle.archive_entries.specs.Reading.{read_archive, archive_answer, rows_in}
-use Rattle.archive_entries.specs.declared.ArchiveRead.TheVariants as Read
 use Rattle.archive_entries.proofs.Accepted.{archive_forth}
 use Rattle.call_answers.specs.Answers.{stop as stopped, bytes}
 use Rattle.call_answers.proofs.Opened.{Opened}
@@ -20,7 +20,7 @@ use Rattle.fee_list.specs.Listed.{fee_bytes}
 use Rattle.call_fee.specs.Fees.{weights, shares_fee}
 use Rattle.call_fee.proofs.Counts.{counts_some}
 
-pub fee_refused : (s : List ℕ) {k : ℕ} → archive_answer (read_archive s) ≡ Read.Stop k → (fee set : ℕ) → shares_fee s fee set ≡ stopped k
+pub fee_refused : (s : List ℕ) {k : ℕ} → archive_answer (read_archive s) ≡ Err k → (fee set : ℕ) → shares_fee s fee set ≡ stopped k
 unfolding shares_fee
 fee_refused s e fee set = rw (refused s e)
 

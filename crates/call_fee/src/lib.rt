@@ -12,8 +12,8 @@ ghost use Rattle.call_ask.specs.Accepts.{Accepts};
 ghost use Rattle.fee_list.specs.Listed.{fee_bytes};
 ghost use Rattle.call_fee.specs.Fees.{count_in, weights, shares_fee};
 
-use archive_entries::ArchiveRead;
-use call_answers::Written;
+use archive_entries::Shape;
+use stops::Stop;
 
 // Copies the counts of rows over the front of a lent list.
 fn copy_counts(rows: &[u32], n: usize, dims: usize, counts: &mut [u32])
@@ -40,18 +40,25 @@ fn cell_counts(rows: &[u32], n: usize, dims: usize, set: u32, tallies: &mut [u32
 }
 
 // Writes the shares of a fee by counts where there is room for them.
-fn fit_fee(out: &mut [u8], fee: u64, counts: &[u32]) -> Written
+fn fit_fee(out: &mut [u8], fee: u64, counts: &[u32]) -> Result<usize, Stop>
     requires { (fee ≤ 1000000000) × (length counts.now ≤ 1024) × (0 < sum counts.now) × (sum counts.now ≤ 1048576) }
     ensures { Answered (bytes (fee_bytes fee counts.now)) out.old out.new result }
 {
     if out.len() < 4 + 4 * counts.len() {
-        return Written::Stop(15);
+        return Err(Stop::Output);
     }
-    Written::Length(fee_list::put_fee(out, fee, counts))
+    Ok(fee_list::put_fee(out, fee, counts))
 }
 
 // Shares a fee over the cells of a set, by base rows with at least one reading in all.
-fn share_rows(out: &mut [u8], rows: &[u32], n: usize, dims: usize, set: u32, fee: u64) -> Written
+fn share_rows(
+    out: &mut [u8],
+    rows: &[u32],
+    n: usize,
+    dims: usize,
+    set: u32,
+    fee: u64,
+) -> Result<usize, Stop>
     requires { Ready dims n rows.now × (set < 2 ^ dims) × (fee ≤ 1000000000) × (0 < count_of (rows_of dims n rows.now)) }
     ensures { Answered (bytes (fee_bytes fee (weights dims (rows_of dims n rows.now) set))) out.old out.new result }
 {
@@ -60,51 +67,51 @@ fn share_rows(out: &mut [u8], rows: &[u32], n: usize, dims: usize, set: u32, fee
     fit_fee(out, fee, &tallies[..count])
 }
 
-// Shares a fee over the cells of a set of an archive that was accepted. Eight parameters: what was read of the archive is three numbers.
+// Shares a fee over the cells of a set of an archive that was accepted.
 fn share_read(
     s: &[u8],
     rows: &[u32],
-    dims: u32,
-    bases: u32,
-    cells: u32,
+    shape: Shape,
     fee: u64,
     set: u32,
     out: &mut [u8],
-) -> Written
-    requires { Accepts s.now rows.now dims bases cells }
+) -> Result<usize, Stop>
+    requires { Accepts s.now rows.now shape }
     ensures { Answered (shares_fee s.now fee set) out.old out.new result }
 {
-    if lattice::sets_of(dims) <= set {
-        return Written::Stop(14);
+    if lattice::sets_of(shape.dims) <= set {
+        return Err(Stop::Set);
     }
     if 1000000000 < fee {
-        return Written::Stop(23);
+        return Err(Stop::Fee);
     }
-    if bases == 0 {
-        return Written::Stop(24);
+    if shape.bases == 0 {
+        return Err(Stop::NoRows);
     }
-    let d = dims as usize;
-    let n = bases as usize;
+    let d = shape.dims as usize;
+    let n = shape.bases as usize;
     let size = n * (d + rows::TOTAL_WORDS);
     share_rows(out, &rows[..size], n, d, set, fee)
 }
 
 // Reads an archive into the array that is lent, and shares a fee over the cells of a set.
-fn share_in(s: &[u8], rows: &mut [u32; rows::ROOM], fee: u64, set: u32, out: &mut [u8]) -> Written
+fn share_in(
+    s: &[u8],
+    rows: &mut [u32; rows::ROOM],
+    fee: u64,
+    set: u32,
+    out: &mut [u8],
+) -> Result<usize, Stop>
     ensures { Answered (shares_fee s.now fee set) out.old out.new result }
 {
-    match archive_read::read_required(s, rows) {
-        ArchiveRead::Stop(n) => Written::Stop(n),
-        ArchiveRead::Entries { dims, bases, cells } => {
-            share_read(s, rows, dims, bases, cells, fee, set, out)
-        }
-    }
+    let shape = archive_read::read_required(s, rows)?;
+    share_read(s, rows, shape, fee, set, out)
 }
 
 // Shares a fee in cents over the cells of a set: the number of cells, then each cell's whole cents.
-pub fn share_fee(archive: &[u8], fee: u32, set: u32, out: &mut [u8]) -> Written
+pub fn share_fee(archive: &[u8], fee: u32, set: u32, out: &mut [u8]) -> Result<usize, Stop>
     ensures { Answered (shares_fee archive.now fee set) out.old out.new result }
 {
     let mut rows = [0u32; rows::ROOM];
-    share_in(archive, &mut rows, fee as u64, set, out)
+    share_in(archive, &mut rows, u64::from(fee), set, out)
 }

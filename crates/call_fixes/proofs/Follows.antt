@@ -1,6 +1,6 @@
 -- Two rows: whether they agree on a set, by their order, and whether they agree on another if so.
 use mathlib.Core.Path.{◌≡◌, refl, sym, ap, ◌∙◌}
-use mathlib.Core.Bool.{Bool, true, false, false≢true}
+use mathlib.Core.Bool.{true, false, false≢true}
 use mathlib.Core.List.{List}
 use Prim.Native.Nat.{ℕ}
 use Rattle.lists.proofs.Tests.{cases, truth, refuted}
@@ -9,16 +9,11 @@ use Rattle.cube.specs.Codes.{cell, agree}
 use Rattle.cube.proofs.Codes.{agree-cell, agree_same}
 use Rattle.rows_compare.specs.declared.Order.{Order}
 use Rattle.rows_compare.specs.declared.Order.TheVariants.{Before, Equal, After}
-use Rattle.rows_compare.specs.Compare.{compared}
+use Rattle.rows_compare.specs.Compare.{compared, is_equal}
 use Rattle.rows_compare.proofs.Parting.{compared-equal}
 use Rattle.call_keys.specs.Laid.{follows}
 
 -- ---- by their order
-
-abbrev pub is_equal : Order → Bool
-is_equal (Before i) = false
-is_equal Equal = true
-is_equal (After i) = false
 
 pub equal-agree : (s : ℕ) (x y : List ℕ) (o : Order) → compared s x y ≡ o → is_equal o ≡ agree s x y
 equal-agree s x y o e = cases (truth (agree s x y))

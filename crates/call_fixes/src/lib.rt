@@ -9,23 +9,20 @@ ghost use Rattle.rows_order.specs.Index.{Valid};
 ghost use Rattle.rows.specs.Rows.{width, cut, row_at};
 ghost use Rattle.archive_entries.specs.Reading.{read_archive};
 ghost use Rattle.archive_read.specs.Sharing.{Shares};
+ghost use Rattle.stops.specs.Numbers.{numbered};
 ghost use Rattle.call_answers.specs.Keys.{tells_fixed};
 ghost use Rattle.call_ask.specs.Accepts.{Accepts};
 ghost use Rattle.call_keys.specs.Laid.{Laid, follows};
 
-use archive_entries::ArchiveRead;
-use call_answers::Fixed;
+use archive_entries::Shape;
+use stops::Stop;
 
 // Whether two rows agree on a set.
 fn agrees(mine: &[u32], other: &[u32], set: u32) -> bool
     requires { length mine.now ≡ length other.now }
     ensures { result ≡ agree set mine.now other.now }
 {
-    match rows_compare::compare(mine, other, set) {
-        rows_compare::Order::Before(_) => false,
-        rows_compare::Order::Equal => true,
-        rows_compare::Order::After(_) => false,
-    }
+    rows_compare::compare(mine, other, set).is_equal()
 }
 
 // Whether rows i and j agree on a set of `fixed` dimensions if they agree on a set.
@@ -74,41 +71,35 @@ fn rows_fix(rows: &[u32], n: usize, dims: usize, set: u32, fixed: u32) -> bool
     neighbours_fix(rows, n, dims, set, fixed, &mut index[..n])
 }
 
-// Tells whether a set fixes a dimension in an archive that was accepted: a key fixes each, and otherwise the rows tell. Eight parameters: what was read of the archive is three numbers.
+// Tells whether a set fixes a dimension in an archive that was accepted: a key fixes each, and otherwise the rows tell.
 fn fixes_read(
     s: &[u8],
     rows: &[u32],
-    dims: u32,
-    bases: u32,
-    cells: u32,
+    shape: Shape,
     used: &[usize],
     set: u32,
     dimension: u32,
-) -> Fixed
-    requires { Accepts s.now rows.now dims bases cells × Shares (read_archive s.now) rows.now used.now }
-    ensures { result ≡ tells_fixed s.now set dimension }
+) -> Result<bool, Stop>
+    requires { Accepts s.now rows.now shape × Shares (read_archive s.now) rows.now used.now }
+    ensures { numbered result ≡ tells_fixed s.now set dimension }
 {
-    if lattice::sets_of(dims) <= set {
-        return Fixed::Stop(14);
+    if lattice::sets_of(shape.dims) <= set {
+        return Err(Stop::Set);
     }
     if dimension == 0 {
-        return Fixed::Stop(16);
+        return Err(Stop::Dimension);
     }
-    if dims < dimension {
-        return Fixed::Stop(16);
+    if shape.dims < dimension {
+        return Err(Stop::Dimension);
     }
-    let d = dims as usize;
+    let d = shape.dims as usize;
     if call_keys::is_bare(d, used, set) {
-        return Fixed::Yes;
+        return Ok(true);
     }
-    let n = bases as usize;
+    let n = shape.bases as usize;
     let size = n * (d + rows::TOTAL_WORDS);
     let fixed = lattice::sets_of(dimension - 1);
-    if rows_fix(&rows[..size], n, d, set, fixed) {
-        Fixed::Yes
-    } else {
-        Fixed::No
-    }
+    Ok(rows_fix(&rows[..size], n, d, set, fixed))
 }
 
 // Reads an archive into the arrays that are lent, and tells whether a set fixes a dimension.
@@ -118,20 +109,16 @@ fn fixes_in(
     used: &mut [usize; 256],
     set: u32,
     dimension: u32,
-) -> Fixed
-    ensures { result ≡ tells_fixed s.now set dimension }
+) -> Result<bool, Stop>
+    ensures { numbered result ≡ tells_fixed s.now set dimension }
 {
-    match archive_read::read_sharing(s, rows, used) {
-        ArchiveRead::Stop(n) => Fixed::Stop(n),
-        ArchiveRead::Entries { dims, bases, cells } => {
-            fixes_read(s, rows, dims, bases, cells, used, set, dimension)
-        }
-    }
+    let shape = archive_read::read_sharing(s, rows, used)?;
+    fixes_read(s, rows, shape, used, set, dimension)
 }
 
 // Whether a set fixes a dimension, counted from 1: base rows that agree on the set agree on the dimension too.
-pub fn fixes(archive: &[u8], set: u32, dimension: u32) -> Fixed
-    ensures { result ≡ tells_fixed archive.now set dimension }
+pub fn fixes(archive: &[u8], set: u32, dimension: u32) -> Result<bool, Stop>
+    ensures { numbered result ≡ tells_fixed archive.now set dimension }
 {
     let mut rows = [0u32; rows::ROOM];
     let mut used = [0usize; 256];

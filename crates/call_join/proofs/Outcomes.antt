@@ -1,11 +1,14 @@
 -- What the call's outcome is for two archives: a stop of either, or by the base rows that their arrays hold.
-use mathlib.Core.Path.{◌≡◌, sym, ap, ap₂, subst, ◌∙◌}
+use mathlib.Core.Path.{◌≡◌, refl, sym, ap, ap₂, subst, ◌∙◌}
 use mathlib.Core.Logic.{◌≢◌}
-use mathlib.Core.Bool.{true, false, false≢true}
-use mathlib.Core.List.{List, []}
+use mathlib.Core.Bool.{Bool, ◌&&◌, true, false, false≢true}
+use mathlib.Core.List.{List, [], ◌∷◌}
 use Prim.Native.Nat.{ℕ, ◌+◌, ◌*◌, ◌≤◌}
 use native.Mathlib.Omega.{arith}
+use lib.Dec.{eqb}
 use lib.ListN.{length}
+use lib.Pointwise.{pointwise}
+use Rattle.std.specs.Prelude.{Ok, Err}
 use Rattle.lists.specs.Order.{same}
 use Rattle.lists.proofs.Tests.{refuted}
 use Rattle.lists.proofs.Order.{same-eq}
@@ -18,7 +21,7 @@ use Rattle.fields_walk.proofs.Places.{header_read}
 use Rattle.fields_walk.specs.Parsed.{Parsed, stop as halt, got}
 use Rattle.archive_entries.specs.Layout.{CUBE, Held, Limits}
 use Rattle.archive_entries.specs.Reading.{read_archive, archive_answer, rows_in}
-use Rattle.archive_entries.specs.declared.ArchiveRead.TheVariants as Read
+use Rattle.archive_entries.specs.declared.Shape.{Shape}
 use Rattle.archive_entries.proofs.Fields.{parts}
 use Rattle.archive_entries.proofs.Accepted.{read_forth, archive_forth}
 use Rattle.rows_ready.specs.Ready.{Ready}
@@ -30,17 +33,24 @@ use Rattle.call_answers.proofs.Opened.{Opened}
 use Rattle.call_ask.proofs.Outcomes.{refused}
 use Rattle.call_join.specs.Stores.{Store}
 
-pub first-refused : (s t : List ℕ) {k : ℕ} → archive_answer (read_archive s) ≡ Read.Stop k → joins s t ≡ stop k
+pub first-refused : (s t : List ℕ) {k : ℕ} → archive_answer (read_archive s) ≡ Err k → joins s t ≡ stop k
 unfolding joins
 first-refused s t e = rw (refused s e)
 
-pub second-refused : (s t : List ℕ) {d n m k : ℕ} → archive_answer (read_archive s) ≡ Read.Entries d n m → archive_answer (read_archive t) ≡ Read.Stop k → joins s t ≡ stop k
+pub second-refused : (s t : List ℕ) {e : Shape} {k : ℕ} → archive_answer (read_archive s) ≡ Ok e → archive_answer (read_archive t) ≡ Err k → joins s t ≡ stop k
 unfolding joins
-second-refused s t {d} {n} {m} {k} e f = go (read_archive s) e
+second-refused s t {e} {k} h f = go (read_archive s) h
   where
-    go : (p : Parsed Held) → archive_answer p ≡ Read.Entries d n m → outcome (λ a. outcome (unites a) (read_archive t)) p ≡ stop k
+    go : (p : Parsed Held) → archive_answer p ≡ Ok e → outcome (λ a. outcome (unites a) (read_archive t)) p ≡ stop k
     go (halt j) g = let z : false ≡ true = cc in absurd (false≢true z)
     go (got a rest) g = rw (refused t f)
+
+-- what `==` says of slices of words
+pub same-pointwise : (x y : List ℕ) → pointwise eqb x y ≡ same x y
+same-pointwise [] [] = refl
+same-pointwise [] (b ∷ y) = refl
+same-pointwise (a ∷ x) [] = refl
+same-pointwise (a ∷ x) (b ∷ y) = ap (λ (t : Bool). eqb a b && t) (same-pointwise x y)
 
 -- an archive's sizes and rows, as they stand in its bytes and in a flat list
 module _ {s : List ℕ} {d n m : ℕ} {ws : List ℕ} (o : Opened s d n m ws) where

@@ -1,17 +1,11 @@
 -- What the code knows of the base rows of an archive in a flat list.
 --
 --   Store zs n ws   n base rows within the limits of an archive of sizes zs
---   Accepted s ws ..   the words ws have the base rows of the archive s, which was accepted: n of them, of d codes
 use Rattle.std.specs.Prelude.{List, ℕ, length}
 use Rattle.rows.specs.Rows.{rows_of}
 use Rattle.archive_entries.specs.Layout.{Limits}
 use Rattle.rows_ready.specs.Ready.{Ready}
-use Rattle.call_ask.specs.Accepts.{Accepts}
 
 pub record Store (zs : List ℕ) (n : ℕ) (ws : List ℕ) : Type 0 where
   pub ready : Ready (length zs) n ws
   pub limits : Limits zs (rows_of (length zs) n ws)
-
-pub record Accepted (s ws : List ℕ) (d n : ℕ) : Type 0 where
-  pub cells : ℕ
-  pub accepts : Accepts s ws d n cells

@@ -10,11 +10,11 @@ ghost use Rattle.rows.specs.Rows.{rows_of};
 ghost use Rattle.rows_merge.specs.United.{united};
 ghost use Rattle.call_answers.specs.Answers.{Answered};
 ghost use Rattle.call_answers.specs.Joins.{filed, joins};
-ghost use Rattle.call_join.specs.Stores.{Store, Accepted};
+ghost use Rattle.call_ask.specs.Accepts.{Accepts};
+ghost use Rattle.call_join.specs.Stores.{Store};
 
-use archive_entries::ArchiveRead;
-use call_answers::Written;
-use rows_compare::Order;
+use archive_entries::Shape;
+use stops::Stop;
 
 // Whether two archives of the same dimensions have the same sizes. The buffers that are lent have them afterwards.
 fn same_sizes(first: &[u8], second: &[u8], sizes: &mut [u32], others: &mut [u32]) -> bool
@@ -24,11 +24,7 @@ fn same_sizes(first: &[u8], second: &[u8], sizes: &mut [u32], others: &mut [u32]
 {
     fields::read_words(first, 8, sizes);
     fields::read_words(second, 8, others);
-    match rows_compare::compare(sizes, others, 255) {
-        Order::Before(_) => false,
-        Order::Equal => true,
-        Order::After(_) => false,
-    }
+    *sizes == *others
 }
 
 // Writes the archive of two lists of base rows, of the same sizes, as one, with a lent array for slots.
@@ -40,45 +36,40 @@ pub fn join_rows(
     m: usize,
     store: &mut [u16],
     out: &mut [u8],
-) -> Written
+) -> Result<usize, Stop>
     requires { Store sizes.now n rows1.now × Store sizes.now m rows2.now × (262144 ≤ length store.old) }
     ensures { Answered (filed sizes.now (united totals (length sizes.now) (rows_of (length sizes.now) n rows1.now) (rows_of (length sizes.now) m rows2.now))) out.old out.new result }
 {
     let d = sizes.len();
     if 1048576 < rows_merge::readings_in(rows1, n, d) + rows_merge::readings_in(rows2, m, d) {
-        return Written::Stop(18);
+        return Err(Stop::Many);
     }
     let mut rows = [0u32; rows::ROOM];
-    let k = rows_merge::merge_rows(rows1, n, rows2, m, d, &mut rows);
-    if 1024 < k {
-        return Written::Stop(18);
-    }
+    let k = rows_merge::merge_rows(rows1, n, rows2, m, d, &mut rows).ok_or(Stop::Many)?;
     let size = k * (d + rows::TOTAL_WORDS);
     call_build::fit_archive(out, sizes, &rows[..size], k, store)
 }
 
-// Joins two archives that were accepted; the arrays have their base rows. Ten parameters: two archives with what was read of each.
+// Joins two archives that were accepted; the arrays have their base rows. Eight parameters: two archives with what was read of each.
 fn join_read(
     first: &[u8],
     rows1: &[u32],
-    dims1: u32,
-    bases1: u32,
+    shape1: Shape,
     second: &[u8],
     rows2: &[u32],
-    dims2: u32,
-    bases2: u32,
+    shape2: Shape,
     store: &mut [u16],
     out: &mut [u8],
-) -> Written
-    requires { Accepted first.now rows1.now dims1 bases1 × Accepted second.now rows2.now dims2 bases2 × (262144 ≤ length store.old) }
+) -> Result<usize, Stop>
+    requires { Accepts first.now rows1.now shape1 × Accepts second.now rows2.now shape2 × (262144 ≤ length store.old) }
     ensures { Answered (joins first.now second.now) out.old out.new result }
 {
-    if dims1 != dims2 {
-        return Written::Stop(17);
+    if shape1.dims != shape2.dims {
+        return Err(Stop::Sizes);
     }
-    let d = dims1 as usize;
-    let n = bases1 as usize;
-    let m = bases2 as usize;
+    let d = shape1.dims as usize;
+    let n = shape1.bases as usize;
+    let m = shape2.bases as usize;
     let size1 = n * (d + rows::TOTAL_WORDS);
     let size2 = m * (d + rows::TOTAL_WORDS);
     let mut sizes = [0u32; 8];
@@ -94,7 +85,7 @@ fn join_read(
             out,
         )
     } else {
-        Written::Stop(17)
+        Err(Stop::Sizes)
     }
 }
 
@@ -106,32 +97,16 @@ fn join_in(
     rows2: &mut [u32; rows::ROOM],
     store: &mut [u16; 262144],
     out: &mut [u8],
-) -> Written
+) -> Result<usize, Stop>
     ensures { Answered (joins first.now second.now) out.old out.new result }
 {
-    match archive_read::read_lent(first, rows1, store) {
-        ArchiveRead::Stop(n) => Written::Stop(n),
-        ArchiveRead::Entries {
-            dims,
-            bases,
-            cells: _,
-        } => {
-            match archive_read::read_lent(second, rows2, store) {
-                ArchiveRead::Stop(n) => Written::Stop(n),
-                ArchiveRead::Entries {
-                    dims: dims2,
-                    bases: bases2,
-                    cells: _,
-                } => join_read(
-                    first, rows1, dims, bases, second, rows2, dims2, bases2, store, out,
-                ),
-            }
-        }
-    }
+    let shape1 = archive_read::read_lent(first, rows1, store)?;
+    let shape2 = archive_read::read_lent(second, rows2, store)?;
+    join_read(first, rows1, shape1, second, rows2, shape2, store, out)
 }
 
 // Joins two archives of the same dimensions and sizes: the archive of both lists of base rows, folded.
-pub fn join(first: &[u8], second: &[u8], out: &mut [u8]) -> Written
+pub fn join(first: &[u8], second: &[u8], out: &mut [u8]) -> Result<usize, Stop>
     ensures { Answered (joins first.now second.now) out.old out.new result }
 {
     let mut rows1 = [0u32; rows::ROOM];

@@ -13,8 +13,8 @@ ghost use Rattle.call_answers.specs.Keys.{lists_keys};
 ghost use Rattle.call_ask.specs.Accepts.{Accepts};
 ghost use Rattle.call_keys.specs.Bare.{bare, least_bare};
 
-use archive_entries::ArchiveRead;
-use call_answers::Written;
+use archive_entries::Shape;
+use stops::Stop;
 
 // Whether no cell of a set is shared.
 pub fn is_bare(dims: usize, used: &[usize], set: u32) -> bool
@@ -31,8 +31,9 @@ pub fn is_bare(dims: usize, used: &[usize], set: u32) -> bool
 fn holds_listed(set: u32, list: &[u32]) -> bool
     ensures { result ≡ some (holds 32 set) list.now }
 {
-    for i in 0..list.len() {
-        if lattice::holds_set(set, list[i]) {
+    // `any` was tried: its closure calls a function, and the proof did not close.
+    for &listed in list {
+        if lattice::holds_set(set, listed) {
             return true;
         }
     }
@@ -64,18 +65,18 @@ fn list_bare(dims: usize, used: &[usize], list: &mut [u32]) -> usize
 }
 
 // Writes a list where there is room for it.
-fn fit_list(out: &mut [u8], list: &[u32]) -> Written
+fn fit_list(out: &mut [u8], list: &[u32]) -> Result<usize, Stop>
     requires { length list.now ≤ 70 }
     ensures { Answered (bytes (list_bytes list.now)) out.old out.new result }
 {
     if out.len() < 4 + 4 * list.len() {
-        return Written::Stop(15);
+        return Err(Stop::Output);
     }
-    Written::Length(archive_cells::put_list(out, list))
+    Ok(archive_cells::put_list(out, list))
 }
 
 // Lists the smallest sets of which no cell is shared.
-fn fit_bare(out: &mut [u8], dims: usize, used: &[usize]) -> Written
+fn fit_bare(out: &mut [u8], dims: usize, used: &[usize]) -> Result<usize, Stop>
     requires { (dims ≤ 8) × (256 ≤ length used.now) × (length (least_bare dims used.now) ≤ 70) }
     ensures { Answered (bytes (list_bytes (least_bare dims used.now))) out.old out.new result }
 {
@@ -88,16 +89,14 @@ fn fit_bare(out: &mut [u8], dims: usize, used: &[usize]) -> Written
 fn keys_read(
     s: &[u8],
     rows: &[u32],
-    dims: u32,
-    bases: u32,
-    cells: u32,
+    shape: Shape,
     used: &[usize],
     out: &mut [u8],
-) -> Written
-    requires { Accepts s.now rows.now dims bases cells × Shares (read_archive s.now) rows.now used.now }
+) -> Result<usize, Stop>
+    requires { Accepts s.now rows.now shape × Shares (read_archive s.now) rows.now used.now }
     ensures { Answered (lists_keys s.now) out.old out.new result }
 {
-    fit_bare(out, dims as usize, used)
+    fit_bare(out, shape.dims as usize, used)
 }
 
 // Reads an archive into the arrays that are lent, and lists its smallest keys.
@@ -106,19 +105,15 @@ fn keys_in(
     rows: &mut [u32; rows::ROOM],
     used: &mut [usize; 256],
     out: &mut [u8],
-) -> Written
+) -> Result<usize, Stop>
     ensures { Answered (lists_keys s.now) out.old out.new result }
 {
-    match archive_read::read_sharing(s, rows, used) {
-        ArchiveRead::Stop(n) => Written::Stop(n),
-        ArchiveRead::Entries { dims, bases, cells } => {
-            keys_read(s, rows, dims, bases, cells, used, out)
-        }
-    }
+    let shape = archive_read::read_sharing(s, rows, used)?;
+    keys_read(s, rows, shape, used, out)
 }
 
 // Lists the smallest keys of an archive: how many there are, then their set numbers in lattice order.
-pub fn smallest_keys(archive: &[u8], out: &mut [u8]) -> Written
+pub fn smallest_keys(archive: &[u8], out: &mut [u8]) -> Result<usize, Stop>
     ensures { Answered (lists_keys archive.now) out.old out.new result }
 {
     let mut rows = [0u32; rows::ROOM];

@@ -8,6 +8,7 @@ use mathlib.Core.List.{List, [], ◌∷◌}
 use Prim.Native.Nat.{ℕ, zero, suc, ◌+◌, ◌*◌, ◌≤◌, ◌<◌}
 use native.Mathlib.Omega.{arith}
 use lib.ListN.{length, get_or, get_elem?, length-map}
+use Rattle.std.specs.Prelude.{None}
 use Rattle.lists.specs.Lists.{◌∈◌}
 use Rattle.lists.specs.Search.{Between}
 use Rattle.lists.proofs.Tests.{cases}
@@ -41,12 +42,12 @@ just_at a (x ∷ l) zero h = refl
 just_at a (x ∷ l) (suc k) h = just_at a l k (omega arith)
 
 -- no row falls in the cell
-pub answer-none : (d : ℕ) (rows : List (Row Total)) (b : Base (plain d) (codes_of rows)) (c : List ℕ) → First c (codes_of rows) (length rows)
+pub answer-none : (d : ℕ) (rows : List (Row Total)) (b : Base (plain d) (codes_of rows)) (c : List ℕ) → First c (codes_of rows) None
     → rowless d (length rows) c ≡ lookup (plain d) c (ours (plain d) measure rows)
 answer-none d [] b c f = sym (ap (lookup (plain d) c) (empty-entries measure d))
 answer-none d (r ∷ rows) b c f = sym (lookup-none (plain d) measure (r ∷ rows) (ours_condensed measure sums-add d (r ∷ rows) b) c
     (λ x. cases x
-    (λ h. let k = in_at [] h.1 in false≢true (sym (f.before k.0 (omega (arith, k.1, length-map (r ∷ rows) (λ q. q.codes)))) ∙ ap (falls c) k.2 ∙ h.2))
+    (λ h. let k = in_at [] h.1 in false≢true (sym (f k.0 (omega (arith, k.1, length-map (r ∷ rows) (λ q. q.codes)))) ∙ ap (falls c) k.2 ∙ h.2))
     (λ m. Memᴰ.not-nil m)))
 
 module _ (d : ℕ) (rows : List (Row Total)) (b : Base (plain d) (codes_of rows)) (c : List ℕ) where

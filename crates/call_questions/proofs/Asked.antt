@@ -5,6 +5,7 @@ use mathlib.Core.List.{List}
 use Prim.Native.Nat.{ℕ, ◌+◌, ◌*◌, ◌^◌, ◌≤◌, ◌<◌}
 use native.Mathlib.Omega.{arith}
 use lib.ListN.{length}
+use Rattle.std.specs.Prelude.{Option, Some, None}
 use Rattle.lists.specs.Lists.{◌∈◌}
 use Rattle.lists.specs.Search.{Between}
 use Rattle.fields.specs.Words.{word_at}
@@ -20,23 +21,22 @@ use Rattle.archive_entries.proofs.Limits.{normals-few}
 use Rattle.rows_ready.specs.Ready.{Ready}
 use Rattle.rows_ready.proofs.Ready.{ready-base}
 use Rattle.call_search.specs.Search.{entry_before}
-use Rattle.call_questions.specs.declared.Look.{Look}
-use Rattle.call_questions.specs.declared.Look.TheVariants.{Cell}
-use Rattle.call_questions.specs.Questions.{looked, rowless, First, NormalsAt}
+use Rattle.call_questions.specs.declared.Cell.{Cell}
+use Rattle.call_questions.specs.Questions.{looked, rowless, FirstAt, First, NormalsAt}
 use Rattle.call_questions.proofs.Stored.{held-count, held-room, held-within}
 use Rattle.call_questions.proofs.Answers.{answer-none, answer-row, shared-cell, found_here, answer-normal}
 
 -- the normal entry at a place answers, by its number
-pub record Entry (s : List ℕ) (place d number : ℕ) (a : Look) : Type 0 where
+pub record Entry (s : List ℕ) (place d number : ℕ) (a : Option Cell) : Type 0 where
   pub within : place + (4 * d + 12) ≤ length s
   pub fits : number < 2 ^ 32
-  pub answers : Cell (sum_at s (place + 4 * d)) (word_at s (place + 4 * d + 8)) number ≡ a
+  pub answers : Some (record { sum = sum_at s (place + 4 * d); count = word_at s (place + 4 * d + 8); entry = number }) ≡ a
 
 module _ {d n : ℕ} {ws : List ℕ} (ready : Ready d n ws) (c : List ℕ) where
   abbrev table : List (Row Total)
   table = rows_of d n ws
 
-  abbrev pub asked : Look
+  abbrev pub asked : Option Cell
   asked = looked (lookup (plain d) c (ours (plain d) measure table))
 
   same_codes : codes_of table ≡ cut d n ws
@@ -50,23 +50,26 @@ module _ {d n : ℕ} {ws : List ℕ} (ready : Ready d n ws) (c : List ℕ) where
   asked-room held = held-room held base ready.summable
 
   -- no row falls in the cell
-  pub asked-none : First c (cut d n ws) n → looked (rowless d n c) ≡ asked
+  pub asked-none : First c (cut d n ws) None → looked (rowless d n c) ≡ asked
   asked-none f =
       ap (λ (k : ℕ). looked (rowless d k c)) (sym (rows-length d n ws))
-      ∙ ap looked (answer-none d table base c (rw (same_codes, rows-length) f))
+      ∙ ap looked (answer-none d table base c (rw same_codes f))
 
-  module _ (i : ℕ) (h : i < n) (f : First c (cut d n ws) i) where
+  module _ {i : ℕ} (f : FirstAt c (cut d n ws) i) where
+    pub asked-below : i < n
+    asked-below = rw cut-length at f.within
+
     inside : i < length table
-    inside = rw rows-length h
+    inside = rw rows-length asked-below
 
     falls-here : falls c (row_at (codes_of table) i) ≡ true
-    falls-here = rw same_codes (f.here (rw cut-length h))
+    falls-here = rw same_codes f.here
 
     abbrev alone : Bool
     alone = single (plain d) (cut d n ws) (set-of c) (row_at (cut d n ws) i)
 
     -- one row does
-    pub asked-row : alone ≡ true → Cell (row_total d n ws i).sum (row_total d n ws i).count i ≡ asked
+    pub asked-row : alone ≡ true → Some (record { sum = (row_total d n ws i).sum; count = (row_total d n ws i).count; entry = i }) ≡ asked
     unfolding row_total
     asked-row e = sym (ap looked (answer-row d table base c i inside falls-here (rw same_codes e)))
 
@@ -83,5 +86,5 @@ module _ {d n : ℕ} {ws : List ℕ} (ready : Ready d n ws) (c : List ℕ) where
         within = held-within held base ready.summable k here;
         fits = omega (arith, here, held-count held, normals-few d table ready.dims (rw rows-length ready.few), ready.few);
         answers = sym (ap looked (answer-normal d table base c held ready.summable e g normal)
-            ∙ ap (λ (j : ℕ). Cell (sum_at s (at + k * (4 * d + 12) + 4 * d)) (word_at s (at + k * (4 * d + 12) + 4 * d + 8)) (j + k)) (rows-length d n ws));
+            ∙ ap (λ (j : ℕ). Some (record { sum = sum_at s (at + k * (4 * d + 12) + 4 * d); count = word_at s (at + k * (4 * d + 12) + 4 * d + 8); entry = j + k })) (rows-length d n ws));
       }

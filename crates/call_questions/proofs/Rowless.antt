@@ -8,12 +8,12 @@ use lib.Dec.{eqb}
 use lib.IntN.{pos}
 use lib.ListN.{length, replicate}
 use borrow.Author.Tests.{eqb-true}
+use Rattle.std.specs.Prelude.{Some, None}
 use Rattle.lists.specs.Order.{same}
 use Rattle.lists.proofs.Tests.{cases, truth, refuted}
 use Rattle.lists.proofs.Order.{same-eq, same_refl}
 use Rattle.cube.specs.Codes.{ALL, bit, set-of}
 use Rattle.cube.proofs.Codes.{set-whole}
-use Rattle.call_questions.specs.declared.Look.TheVariants.{NoRecord, Cell}
 use Rattle.call_questions.specs.Questions.{looked, rowless}
 
 -- the cell of the empty set is all ALL
@@ -23,17 +23,17 @@ whole_set (a ∷ c) e = cases (truth (eqb a ALL))
     (λ h. ap₂ ◌∷◌ (eqb-true a ALL h) (whole_set c (omega (arith, e))))
     (λ h. let f : bit (eqb a ALL) ≡ 1 = rw h in absurd (omega (arith, e, f)))
 
-pub rowless-some : (d n : ℕ) (c : List ℕ) → (n ≡ 0 → ⊥) → NoRecord ≡ looked (rowless d n c)
+pub rowless-some : (d n : ℕ) (c : List ℕ) → (n ≡ 0 → ⊥) → None ≡ looked (rowless d n c)
 rowless-some d zero c h = absurd (h refl)
 rowless-some d (suc n) c h = refl
 
-pub rowless-other : (d n : ℕ) (c : List ℕ) → (set-of c ≡ 0 → ⊥) → NoRecord ≡ looked (rowless d n c)
+pub rowless-other : (d n : ℕ) (c : List ℕ) → (set-of c ≡ 0 → ⊥) → None ≡ looked (rowless d n c)
 rowless-other d zero c h =
     let e : same c (replicate d ALL) ≡ false = refuted (λ f. h (ap set-of (same-eq c (replicate d ALL) f) ∙ set-whole d)) in
     rw e
 rowless-other d (suc n) c h = refl
 
-pub rowless-whole : (n : ℕ) (c : List ℕ) → n ≡ 0 → set-of c ≡ 0 → Cell (pos 0) 0 0 ≡ looked (rowless (length c) n c)
+pub rowless-whole : (n : ℕ) (c : List ℕ) → n ≡ 0 → set-of c ≡ 0 → Some (record { sum = pos 0; count = 0; entry = 0 }) ≡ looked (rowless (length c) n c)
 rowless-whole zero c h e =
     let f : same c (replicate (length c) ALL) ≡ true = ap (same c) (sym (whole_set c e)) ∙ same_refl c in
     rw f

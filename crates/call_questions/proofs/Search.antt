@@ -8,10 +8,11 @@ use native.Mathlib.Omega.{arith}
 use lib.Dec.{eqb}
 use lib.ListN.{length}
 use borrow.Author.Tests.{eqb-true, eqb-false}
+use Rattle.std.specs.Prelude.{None}
 use Rattle.lists.proofs.Tests.{cases, truth}
 use Rattle.cube.specs.Codes.{falls}
 use Rattle.rows.specs.Rows.{row_at}
-use Rattle.call_questions.specs.Questions.{First}
+use Rattle.call_questions.specs.Questions.{FirstAt, First}
 
 -- no place before i passes the test
 pub record NoneBefore (f : ℕ → Bool) (i : ℕ) : Type 0 where
@@ -31,8 +32,8 @@ none_more {f} {i} b e = record {
 abbrev pub row_falls : List ℕ → List (List ℕ) → ℕ → Bool
 row_falls c xs k = falls c (row_at xs k)
 
-pub first-here : {c : List ℕ} {xs : List (List ℕ)} {i : ℕ} → i < length xs → NoneBefore (row_falls c xs) i → row_falls c xs i ≡ true → First c xs i
-first-here h b e = record { within = omega (arith, h); before = b.fails; here = λ k. e }
+pub first-here : {c : List ℕ} {xs : List (List ℕ)} {i : ℕ} → i < length xs → NoneBefore (row_falls c xs) i → row_falls c xs i ≡ true → FirstAt c xs i
+first-here h b e = record { within = h; before = b.fails; here = e }
 
-pub first-none : {c : List ℕ} {xs : List (List ℕ)} {n i : ℕ} → length xs ≡ n → n ≤ i → NoneBefore (row_falls c xs) i → First c xs n
-first-none q h b = record { within = omega (arith, q); before = λ k l. b.fails k (omega (arith, h, l)); here = λ k. absurd (omega (arith, q, k)) }
+pub first-none : (c : List ℕ) (xs : List (List ℕ)) {n i : ℕ} → length xs ≡ n → n ≤ i → NoneBefore (row_falls c xs) i → First c xs None
+first-none c xs q h b k l = b.fails k (omega (arith, q, h, l))

@@ -10,11 +10,12 @@ ghost use Rattle.rows.specs.Rows.{width, cut, rows_of};
 ghost use Rattle.rows_ready.specs.Ready.{Ready};
 ghost use Rattle.call_questions.specs.Questions.{asks, looked, rowless, First, NormalsAt};
 
-// What a question is answered by: no entry, or the sum and the count that an entry carries, and its number.
+// What a question is answered by: the sum and the count that an entry carries, and its number.
 #[derive(Clone, Copy)]
-pub enum Look {
-    NoRecord,
-    Cell { sum: i64, count: u32, entry: u32 },
+pub struct Cell {
+    pub sum: i64,
+    pub count: u32,
+    pub entry: u32,
 }
 
 // Whether a question has a code below its size, or ALL, for each dimension; the sizes stand in the archive.
@@ -40,6 +41,7 @@ fn falls_in(cell: &[u32], mine: &[u32]) -> bool
     requires { length cell.now ≡ length mine.now }
     ensures { result ≡ falls cell.now mine.now }
 {
+    // By index: `zip` with `all` was tried, and its proof did not close.
     for d in 0..cell.len() {
         let code = cell[d];
         if code != 65535 && code != mine[d] {
@@ -49,34 +51,35 @@ fn falls_in(cell: &[u32], mine: &[u32]) -> bool
     true
 }
 
-// The first row that falls in a cell, or how many rows there are.
-fn first_row(rows: &[u32], n: usize, dims: usize, cell: &[u32]) -> usize
+// The first row that falls in a cell.
+fn first_row(rows: &[u32], n: usize, dims: usize, cell: &[u32]) -> Option<usize>
     requires { (n * width dims ≡ length rows.now) × (length cell.now ≡ dims) }
     ensures { First cell.now (cut dims n rows.now) result }
 {
     for i in 0..n {
         if falls_in(cell, rows::row_of(rows, n, dims, i)) {
-            return i;
+            return Some(i);
         }
     }
-    n
+    None
 }
 
 // The answer for a cell that no row falls in: an empty table has all ALL, and its entry is the first.
-fn without_rows(n: usize, cell: &[u32]) -> Look
+fn without_rows(n: usize, cell: &[u32]) -> Option<Cell>
     requires { length cell.now ≤ 8 }
     ensures { result ≡ looked (rowless (length cell.now) n cell.now) }
 {
     if n != 0 {
-        return Look::NoRecord;
+        return None;
     }
     if call_search::set_of(cell) != 0 {
-        return Look::NoRecord;
+        return None;
     }
-    let sum = 0;
-    let count = 0;
-    let entry = 0;
-    Look::Cell { sum, count, entry }
+    Some(Cell {
+        sum: 0,
+        count: 0,
+        entry: 0,
+    })
 }
 
 // The entry that stands for a cell: that of the one row that falls in it, or else the normal entry at the cell. The m normal entries stand in the bytes s from a place on.
@@ -88,26 +91,26 @@ pub fn answer(
     n: usize,
     dims: usize,
     cell: &[u32],
-) -> Look
+) -> Option<Cell>
     requires ready { Ready dims n rows.now × (length cell.now ≡ dims) }
     requires normals_at { NormalsAt s.now at m dims (rows_of dims n rows.now) }
     ensures { result ≡ looked (lookup (plain dims) cell.now (ours (plain dims) measure (rows_of dims n rows.now))) }
 {
-    let i = first_row(rows, n, dims, cell);
-    if i == n {
+    let Some(i) = first_row(rows, n, dims, cell) else {
         return without_rows(n, cell);
-    }
+    };
     if rows_compare::is_single(rows, n, dims, i, call_search::set_of(cell)) {
         let total = rows::total_at(rows, n, dims, i);
-        let sum = total.sum;
-        let count = total.count;
-        let entry = i as u32;
-        return Look::Cell { sum, count, entry };
+        return Some(Cell {
+            sum: total.sum,
+            count: total.count,
+            entry: i as u32,
+        });
     }
     let k = call_search::find_cell(s, at, m, cell);
     let place = at + k * (4 * dims + 12) + 4 * dims;
     let sum = fields_sums::sum_at(s, place);
     let count = fields::word_at(s, place + 8);
     let entry = (n + k) as u32;
-    Look::Cell { sum, count, entry }
+    Some(Cell { sum, count, entry })
 }

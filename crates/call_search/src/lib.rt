@@ -14,18 +14,13 @@ pub fn set_of(cell: &[u32]) -> u32
     ensures { result ≡ set-of cell.now }
 {
     let mut set = 0;
-    let mut d = cell.len();
-    while d > 0 {
-        d -= 1;
-        set = 2 * set;
-        if cell[d] != 65535 {
-            set += 1;
-        }
+    for &code in cell.iter().rev() {
+        set = 2 * set + u32::from(code != 65535);
     }
     set
 }
 
-// Whether a cell is listed before another: fewer dimensions first, then the smaller set number, then the codes; 255 is the set of all dimensions.
+// Whether a cell is listed before another: fewer dimensions first, then the smaller set number, then the codes.
 fn cell_before(mine: &[u32], cell: &[u32]) -> bool
     requires { (length mine.now ≡ length cell.now) × (length cell.now ≤ 8) }
     ensures { result ≡ earlier (keys mine.now) (keys cell.now) }
@@ -40,11 +35,7 @@ fn cell_before(mine: &[u32], cell: &[u32]) -> bool
     if set != other {
         return set < other;
     }
-    match rows_compare::compare(mine, cell, 255) {
-        rows_compare::Order::Before(_) => true,
-        rows_compare::Order::Equal => false,
-        rows_compare::Order::After(_) => false,
-    }
+    mine < cell
 }
 
 // Whether the entry at a place is listed before a cell.
@@ -58,7 +49,7 @@ fn entry_before(s: &[u8], at: usize, cell: &[u32]) -> bool
     cell_before(&mine[..dims], cell)
 }
 
-// The place of a cell among n entries from a place on, by halving: the entry straight before it is listed before the cell, and the entry at it is not.
+// The place of a cell among n entries from a place on, by halving, since entries in bytes are no slice to search: the entry straight before it is listed before the cell, and the entry at it is not.
 pub fn find_cell(s: &[u8], at: usize, n: usize, cell: &[u32]) -> usize
     requires { (length cell.now ≤ 8) × (at + n * (4 * length cell.now + 12) ≤ length s.now) }
     ensures { Between (entry_before s.now at cell.now) n result result }

@@ -3,59 +3,47 @@
 #![tactic(auto)]
 
 ghost use Rattle.std.specs.Prelude.{◌≡◌};
+ghost use Rattle.stops.specs.Numbers.{numbered};
 ghost use Rattle.call_ask.specs.Accepts.{Accepts};
 ghost use Rattle.call_window.specs.Windows.{asks_window};
 
-use archive_entries::ArchiveRead;
-use call_answers::Found;
+use archive_entries::Shape;
+use cube::Total;
+use stops::Stop;
 
-// What a question through a window answers: the cell's sum and count, 'no record', or a stop's number. It has no entry's number: that would tell of rows outside.
-#[derive(Clone, Copy)]
-pub enum Seen {
-    Cell { sum: i64, count: u32 },
-    NoRecord,
-    Stop(u32),
-}
-
-// Answers a question to an archive that was accepted. Eight parameters: an archive with what was read of it, the window, the question.
+// Answers a question to an archive that was accepted: the cell's sum and count, or none for 'no record'. An entry's number would tell of rows outside.
 fn window_read(
     archive: &[u8],
     rows: &[u32],
-    dims: u32,
-    bases: u32,
-    cells: u32,
+    shape: Shape,
     dimension: u32,
     code: u32,
     question: &[u32],
-) -> Seen
-    requires { Accepts archive.now rows.now dims bases cells }
-    ensures { result ≡ asks_window archive.now dimension code question.now }
+) -> Result<Option<Total>, Stop>
+    requires { Accepts archive.now rows.now shape }
+    ensures { numbered result ≡ asks_window archive.now dimension code question.now }
 {
     if dimension == 0 {
-        return Seen::Stop(16);
+        return Err(Stop::Dimension);
     }
-    if dims < dimension {
-        return Seen::Stop(16);
+    if shape.dims < dimension {
+        return Err(Stop::Dimension);
     }
     let i = dimension as usize - 1;
     if fields::word_at(archive, 8 + 4 * i) <= code {
-        return Seen::Stop(13);
+        return Err(Stop::Question);
     }
-    if !call_questions::fits(archive, dims as usize, question) {
-        return Seen::Stop(13);
+    if !call_questions::fits(archive, shape.dims as usize, question) {
+        return Err(Stop::Question);
     }
     if question[i] != code {
-        return Seen::Stop(20);
+        return Err(Stop::Window);
     }
-    match call_look::look_read(archive, rows, dims, bases, cells, question) {
-        Found::Cell {
-            sum,
-            count,
-            entry: _,
-        } => Seen::Cell { sum, count },
-        Found::NoRecord => Seen::NoRecord,
-        Found::Stop(n) => Seen::Stop(n),
-    }
+    let found = call_look::look_read(archive, rows, shape, question)?;
+    Ok(found.map(|cell| Total {
+        sum: cell.sum,
+        count: cell.count,
+    }))
 }
 
 // Reads an archive into the array that is lent, and answers a question through a window.
@@ -65,20 +53,21 @@ fn window_in(
     dimension: u32,
     code: u32,
     question: &[u32],
-) -> Seen
-    ensures { result ≡ asks_window archive.now dimension code question.now }
+) -> Result<Option<Total>, Stop>
+    ensures { numbered result ≡ asks_window archive.now dimension code question.now }
 {
-    match archive_read::read_required(archive, rows) {
-        ArchiveRead::Stop(n) => Seen::Stop(n),
-        ArchiveRead::Entries { dims, bases, cells } => {
-            window_read(archive, rows, dims, bases, cells, dimension, code, question)
-        }
-    }
+    let shape = archive_read::read_required(archive, rows)?;
+    window_read(archive, rows, shape, dimension, code, question)
 }
 
 // Looks up a cell through the window of a dimension, counted from 1, and a code: the question has this code there.
-pub fn window(archive: &[u8], dimension: u32, code: u32, question: &[u32]) -> Seen
-    ensures { result ≡ asks_window archive.now dimension code question.now }
+pub fn window(
+    archive: &[u8],
+    dimension: u32,
+    code: u32,
+    question: &[u32],
+) -> Result<Option<Total>, Stop>
+    ensures { numbered result ≡ asks_window archive.now dimension code question.now }
 {
     let mut rows = [0u32; rows::ROOM];
     window_in(archive, &mut rows, dimension, code, question)

@@ -3,7 +3,7 @@
 
 ghost use Rattle.std.specs.Prelude.{◌≡◌, ◌+◌, ◌≤◌};
 ghost use Rattle.cube.specs.Measure.{plus};
-ghost use Rattle.cube.specs.Extremes.{Readings, figures};
+ghost use Rattle.cube.specs.Extremes.{Readings, wider, figures};
 ghost use Rattle.cube.specs.Bounds.{Bounded, most};
 
 // The sum and the count of readings.
@@ -40,48 +40,26 @@ impl Total {
     }
 }
 
-// The lesser of two readings.
-fn lesser(a: i64, b: i64) -> i64
-    ensures { result ≡ Rattle.cube.specs.Extremes.lesser a b }
-{
-    if a <= b {
-        return a;
-    }
-    b
-}
-
-// The greater of two readings.
-fn greater(a: i64, b: i64) -> i64
-    ensures { result ≡ Rattle.cube.specs.Extremes.greater a b }
-{
-    if b <= a {
-        return a;
-    }
-    b
-}
-
-// Running extremes with one row more.
-fn widen(mine: Extremes, row: Extremes) -> Extremes
-    requires { Readings mine × Readings row }
-    ensures { result ≡ Rattle.cube.specs.Extremes.wider mine row }
-{
-    match mine {
-        Extremes::Any => row,
-        Extremes::Unknown => Extremes::Unknown,
-        Extremes::Known { least, greatest } => match row {
-            Extremes::Any => Extremes::Known {
-                least: least,
-                greatest: greatest,
+impl Extremes {
+    // Running extremes with one row more.
+    fn wider(self, row: Extremes) -> Self
+        requires { Readings self × Readings row }
+        ensures { result ≡ wider self row }
+    {
+        match (self, row) {
+            (Extremes::Any, other) | (other, Extremes::Any) => other,
+            (
+                Extremes::Known { least, greatest },
+                Extremes::Known {
+                    least: l,
+                    greatest: g,
+                },
+            ) => Extremes::Known {
+                least: least.min(l),
+                greatest: greatest.max(g),
             },
-            Extremes::Unknown => Extremes::Unknown,
-            Extremes::Known {
-                least: l,
-                greatest: g,
-            } => Extremes::Known {
-                least: lesser(least, l),
-                greatest: greater(greatest, g),
-            },
-        },
+            _ => Extremes::Unknown,
+        }
     }
 }
 
@@ -91,10 +69,9 @@ impl Figures {
         requires { Bounded self.sums × Bounded row.sums × (self.sums.count + row.sums.count ≤ most) × Readings self.extremes × Readings row.extremes }
         ensures { result ≡ figures.more self row }
     {
-        let mine = self.extremes;
-        let other = row.extremes;
-        let sums = self.sums.plus(row.sums);
-        let extremes = widen(mine, other);
-        Figures { sums, extremes }
+        Figures {
+            sums: self.sums.plus(row.sums),
+            extremes: self.extremes.wider(row.extremes),
+        }
     }
 }

@@ -6,22 +6,29 @@ ghost use Rattle.call_answers.specs.Answers.{within, answer_of, left_of};
 ghost use Rattle.call_answers.specs.Calls.{builds, checks, lists_cuboid, expands, looks_up};
 ghost use Rattle.call_answers.specs.Keys.{lists_keys, tells_fixed};
 ghost use Rattle.call_answers.specs.Joins.{joins};
-ghost use Rattle.call_answers.specs.Numbers.{written_number, checked_number, found_number, sum_left, count_left, entry_left, fixed_number};
+ghost use Rattle.stops.specs.Numbers.{number, numbered};
+ghost use Rattle.call_answers.specs.Numbers.{stop_number, written_number, checked_number, found_number, sum_left, count_left, entry_left, fixed_number};
 ghost use Rattle.call_fee.specs.Fees.{shares_fee};
 ghost use Rattle.call_add.specs.Adds.{adds};
 ghost use Rattle.call_window.specs.Windows.{asks_window};
 ghost use Rattle.call_window.specs.Numbers.{seen_number, seen_sum_left, seen_count_left};
 
-use call_answers::{Checked, Fixed, Found, Written};
-use call_window::Seen;
+use stops::Stop;
+
+// The number of a stop.
+fn refused(stop: Stop) -> u64
+    ensures { result ≡ stop_number (number stop) }
+{
+    0x8000_0000_0000_0000 + u64::from(stop.number())
+}
 
 // The number of a call that writes an output.
-fn number(answer: Written) -> u64
-    ensures { result ≡ written_number answer }
+fn number(answer: Result<usize, Stop>) -> u64
+    ensures { result ≡ written_number (numbered answer) }
 {
     match answer {
-        Written::Length(n) => n as u64,
-        Written::Stop(n) => 0x8000_0000_0000_0000 + n as u64,
+        Ok(n) => n as u64,
+        Err(stop) => refused(stop),
     }
 }
 
@@ -40,8 +47,8 @@ pub extern "C" fn cube_check(archive: &[u8]) -> u64
     ensures { result ≡ checked_number (checks archive.now) }
 {
     match call_ask::check(archive) {
-        Checked::Entries { bases, cells } => bases as u64 + 4294967296 * (cells as u64),
-        Checked::Stop(n) => 0x8000_0000_0000_0000 + n as u64,
+        Ok(counts) => u64::from(counts.bases) + 4294967296 * u64::from(counts.cells),
+        Err(stop) => refused(stop),
     }
 }
 
@@ -59,18 +66,14 @@ pub extern "C" fn cube_look_up(
     ensures count_after { (count.new ≡ count_left (looks_up archive.now question.now) count.old) × (entry.new ≡ entry_left (looks_up archive.now question.now) entry.old) }
 {
     match call_look::look_up(archive, question) {
-        Found::Cell {
-            sum: s,
-            count: n,
-            entry: e,
-        } => {
-            sum[0] = s;
-            count[0] = n;
-            entry[0] = e;
+        Ok(Some(cell)) => {
+            sum[0] = cell.sum;
+            count[0] = cell.count;
+            entry[0] = cell.entry;
             1
         }
-        Found::NoRecord => 0,
-        Found::Stop(n) => 0x8000_0000_0000_0000 + n as u64,
+        Ok(None) => 0,
+        Err(stop) => refused(stop),
     }
 }
 
@@ -107,9 +110,8 @@ pub extern "C" fn cube_fixes(archive: &[u8], set: u32, dimension: u32) -> u64
     ensures { result ≡ fixed_number (tells_fixed archive.now set dimension) }
 {
     match call_fixes::fixes(archive, set, dimension) {
-        Fixed::Yes => 1,
-        Fixed::No => 0,
-        Fixed::Stop(n) => 0x8000_0000_0000_0000 + n as u64,
+        Ok(fixed) => u64::from(fixed),
+        Err(why) => refused(why),
     }
 }
 
@@ -154,12 +156,12 @@ pub extern "C" fn cube_window(
     ensures sum_after { (sum.new ≡ seen_sum_left (asks_window archive.now dimension code question.now) sum.old) × (count.new ≡ seen_count_left (asks_window archive.now dimension code question.now) count.old) }
 {
     match call_window::window(archive, dimension, code, question) {
-        Seen::Cell { sum: s, count: n } => {
-            sum[0] = s;
-            count[0] = n;
+        Ok(Some(total)) => {
+            sum[0] = total.sum;
+            count[0] = total.count;
             1
         }
-        Seen::NoRecord => 0,
-        Seen::Stop(n) => 0x8000_0000_0000_0000 + n as u64,
+        Ok(None) => 0,
+        Err(stop) => refused(stop),
     }
 }

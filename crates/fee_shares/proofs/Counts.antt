@@ -8,11 +8,17 @@ use native.Mathlib.Omega.{arith}
 use lib.Dec.{eqb, ltb, leb}
 use lib.ListN.{length}
 use borrow.Author.Tests.{ltb-true, ltb-false, eqb-true, eqb-false, le-leb, lt-leb, ne_eqb}
+use Rattle.std.specs.List.{count_by}
+use Rattle.std.proofs.lemmas.List.Recursion.{is_count_by}
 use Rattle.lists.proofs.Tests.{cases, truth}
 use Rattle.fee_shares.specs.Shares.{count, cent}
 
 pub count-cons : (p : ℕ → Bool) (x : ℕ) (l : List ℕ) → count p (x ∷ l) ≡ cent (p x) + count p l
 count-cons p x l = cases (truth (p x)) (λ e. rw e (omega arith)) (λ e. rw e (omega arith))
+
+-- the library's count
+pub count-is : (p : ℕ → Bool) (l : List ℕ) → count p l ≡ count_by p l
+count-is p = is_count_by (count p) p refl (λ x l. cases (truth (p x)) (λ e. rw e (omega arith)) (λ e. rw e))
 
 -- a weaker test passes at least as many
 cent-le : (a b : Bool) → (a ≡ true → b ≡ true) → cent a ≤ cent b

@@ -108,12 +108,6 @@ threshold (suc b) m rs h few = cases (truth (leb m (count (leb (suc b)) rs)))
     (λ e. (suc b, omega arith, record { above = few; enough = leb-true m (count (leb (suc b)) rs) e }))
     (λ e. let r = threshold b m rs h (omega (arith, leb-false m (count (leb (suc b)) rs) e)) in (r.0, omega (arith, r.1), r.2))
 
--- bounds with nothing between them
-pub threshold_between : (low high m : ℕ) (rs : List ℕ) → low < high → high ≤ low + 1 → m ≤ count (leb low) rs → count (leb high) rs ≤ m → Threshold low m rs
-threshold_between low high m rs h k enough few =
-    let e : high ≡ suc low = omega (arith, h, k) in
-    record { above = rw e at few; enough = enough }
-
 -- ---- who gets a cent has a remainder of v or above, but not 0, and who gets none of v or below
 
 abbrev pub Fairly : ℕ → ℕ → ℕ → Type 0

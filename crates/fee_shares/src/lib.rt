@@ -11,11 +11,7 @@ pub fn total_of(list: &[u32]) -> u64
     requires { length list.now ≤ 1024 }
     ensures { result ≡ sum list.now }
 {
-    let mut total = 0;
-    for i in 0..list.len() {
-        total += list[i] as u64;
-    }
-    total
+    list.iter().map(|n| u64::from(*n)).sum()
 }
 
 // A cell's rounded-down proportion.
@@ -23,7 +19,7 @@ fn quota(fee: u64, count: u32, total: u64) -> u32
     requires { (fee ≤ 1000000000) × (count ≤ total) × (0 < total) × (total ≤ 1048576) }
     ensures { (result ≡ quotaOf total fee count) × (result ≤ 1000000000) }
 {
-    (fee * count as u64 / total) as u32
+    (fee * u64::from(count) / total) as u32
 }
 
 // Its remainder.
@@ -31,7 +27,7 @@ fn rest(fee: u64, count: u32, total: u64) -> u32
     requires { (fee ≤ 1000000000) × (count ≤ total) × (0 < total) × (total ≤ 1048576) }
     ensures { result ≡ rest_of total fee count }
 {
-    (fee * count as u64 % total) as u32
+    (fee * u64::from(count) % total) as u32
 }
 
 // Each cell's rounded-down proportion and its remainder, over the lists that are lent.
@@ -41,32 +37,20 @@ fn divide(fee: u64, counts: &[u32], total: u64, shares: &mut [u32], rests: &mut 
     ensures shares_after { (shares.new ≡ map (quotaOf total fee) counts.now) × (rests.new ≡ map (rest_of total fee) counts.now) }
     ensures low { Low shares.new }
 {
-    for i in 0..counts.len() {
-        let count = counts[i];
+    for (i, &count) in counts.iter().enumerate() {
         shares[i] = quota(fee, count, total);
         rests[i] = rest(fee, count, total);
     }
-}
-
-// 1 for a remainder of at least v, 0 for another.
-fn mark_least(v: u32, r: u32) -> u64
-    ensures { result ≡ cent (leb v r) }
-{
-    if v <= r { 1 } else { 0 }
 }
 
 // How many remainders are at least v.
 fn at_least(rests: &[u32], v: u32) -> u64
     ensures { result ≡ count_of (leb v) rests.now }
 {
-    let mut n = 0;
-    for i in 0..rests.len() {
-        n += mark_least(v, rests[i]);
-    }
-    n
+    rests.iter().filter(|r| v <= **r).count() as u64
 }
 
-// A threshold for m cents, found by halving.
+// A threshold for m cents, found by halving among the values: there is no slice of them to search.
 fn threshold(rests: &[u32], total: u32, m: u64) -> u32
     requires { (0 < total) × (m ≤ length rests.now) × (count_of (leb total) rests.now ≤ m) }
     ensures { Threshold result m rests.now × (result < total) }
@@ -88,27 +72,14 @@ fn threshold(rests: &[u32], total: u32, m: u64) -> u32
 fn cent_of(v: u32, k: u64, r: u32) -> u32
     ensures { result ≡ cent (gets v k r) }
 {
-    if v < r {
-        return 1;
-    }
-    if v == r {
-        if 0 < k {
-            return 1;
-        }
-    }
-    0
+    u32::from(v < r || (v == r && 0 < k))
 }
 
 // How many are left after it.
 fn cents_after(v: u32, k: u64, r: u32) -> u64
     ensures { result ≡ k - cent (eqb v r) }
 {
-    if v == r {
-        if 0 < k {
-            return k - 1;
-        }
-    }
-    k
+    k.saturating_sub(u64::from(v == r))
 }
 
 // Gives a cent to each remainder above v, and to the first k of those that are v.
@@ -117,8 +88,7 @@ fn give(rests: &[u32], v: u32, k: u64, shares: &mut [u32])
     ensures { shares.new ≡ added shares.old (given v k rests.now) }
 {
     let mut left = k;
-    for i in 0..rests.len() {
-        let r = rests[i];
+    for (i, &r) in rests.iter().enumerate() {
         shares[i] = shares[i] + cent_of(v, left, r);
         left = cents_after(v, left, r);
     }

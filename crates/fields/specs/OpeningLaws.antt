@@ -1,4 +1,4 @@
--- Laws of an opening: the test byte by byte, and part by part.
+-- Laws of an opening: the test and the front, byte by byte, and part by part.
 use Rattle.std.specs.Prelude.{◌≡◌, refl, Bool, true, false, ◌&&◌, List, [], ◌∷◌, ◌++◌, ℕ, ◌+◌, ◌≤◌, ◌<◌, eqb, length, drop, get_or}
 use Rattle.std.proofs.Common.{sym, ap, ap₂, ◌∙◌, add-one, arith, length-append, drop_of_length-le, drop-cons, eq-eqb, eqb-true}
 use Rattle.std.proofs.lemmas.Bool.{false≢true}

@@ -46,6 +46,13 @@ module _ {A : Type 0} where
   unfolding written
   wrote_none l = record { count = refl; same = refl; list = refl }
 
+  -- the front written at once
+  pub wrote_over : {xs l m : List A} → length xs ≤ length l → m ≡ xs → Wrote xs l (m ++ drop (length xs) l) (length xs)
+  unfolding written
+  wrote_over {xs} {l} {m} h e =
+      let now : m ++ drop (length xs) l ≡ xs ++ drop (length xs) l = ap (λ (k : List A). k ++ drop (length xs) l) e in
+      record { count = refl; same = ap length now ∙ length_written xs l h; list = now }
+
   -- one element more
   pub wrote_one : {xs l m : List A} {n : ℕ} (x : A) → n < length l → Wrote xs l m n → Wrote (xs ++ (x ∷ [])) l (set m n x) (n + 1)
   unfolding written

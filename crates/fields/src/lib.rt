@@ -7,19 +7,12 @@ ghost use Rattle.fields.specs.Words.{word_at, words_at, word_bytes, words_bytes}
 ghost use Rattle.fields.specs.Opening.{starts_with};
 ghost use Rattle.fields.specs.Written.{Wrote};
 
-// A byte as a word.
-fn wide(x: u8) -> u32
-    ensures { (result ≡ x) × (result < 256) }
-{
-    x as u32
-}
-
 // The 32-bit word at a byte offset.
 pub fn word_at(s: &[u8], at: usize) -> u32
     requires { at + 4 ≤ length s.now }
     ensures { result ≡ word_at s.now at }
 {
-    wide(s[at]) + 256 * wide(s[at + 1]) + 65536 * wide(s[at + 2]) + 16777216 * wide(s[at + 3])
+    u32::from_le_bytes([s[at], s[at + 1], s[at + 2], s[at + 3]])
 }
 
 // Whether a word stands at a byte offset.
@@ -27,11 +20,7 @@ pub fn word_is(s: &[u8], at: usize, w: u32) -> bool
     requires { at + 4 ≤ length s.now }
     ensures { result ≡ starts_with (drop at s.now) (word_bytes w) }
 {
-    let a = wide(s[at]);
-    let b = wide(s[at + 1]);
-    let c = wide(s[at + 2]);
-    let d = wide(s[at + 3]);
-    a + 256 * b + 65536 * c + 16777216 * d == w
+    word_at(s, at) == w
 }
 
 // The words from a byte offset on, as many as out has room for.
@@ -39,10 +28,8 @@ pub fn read_words(s: &[u8], at: usize, out: &mut [u32])
     requires { at + 4 * length out.old ≤ length s.now }
     ensures { out.new ≡ words_at s.now (length out.old) at }
 {
-    let mut i = 0;
-    while i < out.len() {
-        out[i] = word_at(s, at + 4 * i);
-        i += 1;
+    for (i, w) in out.iter_mut().enumerate() {
+        *w = word_at(s, at + 4 * i);
     }
 }
 
@@ -51,10 +38,7 @@ pub fn put_word(out: &mut [u8], w: u32) -> usize
     requires { 4 ≤ length out.old }
     ensures { Wrote (word_bytes w) out.old out.new result }
 {
-    out[0] = (w % 256) as u8;
-    out[1] = (w / 256 % 256) as u8;
-    out[2] = (w / 256 / 256 % 256) as u8;
-    out[3] = (w / 256 / 256 / 256 % 256) as u8;
+    out[..4].copy_from_slice(&w.to_le_bytes());
     4
 }
 
@@ -64,29 +48,18 @@ pub fn put_words(out: &mut [u8], ws: &[u32]) -> usize
     ensures { Wrote (words_bytes ws.now) out.old out.new result }
 {
     let mut at = 0;
-    let mut i = 0;
-    while i < ws.len() {
-        at += put_word(&mut out[at..], ws[i]);
-        i += 1;
+    for w in ws {
+        at += put_word(&mut out[at..], *w);
     }
     at
 }
 
 // Whether s begins with the bytes xs.
+#[tactic(auto, using(crate::proofs::Stands::starts_slice))]
 pub fn begins(s: &[u8], xs: &[u8]) -> bool
     ensures { result ≡ starts_with s.now xs.now }
 {
-    let mut i = 0;
-    while i < xs.len() {
-        if s.len() <= i {
-            return false;
-        }
-        if s[i] != xs[i] {
-            return false;
-        }
-        i += 1;
-    }
-    true
+    s.starts_with(xs)
 }
 
 // Whether s begins with the opening bytes, of which there are four.
@@ -94,8 +67,7 @@ pub fn opening_is(s: &[u8], opening: &[u8; 4]) -> bool
     ensures value { result ≡ starts_with s.now opening.now }
     ensures opening_len { length opening.now ≡ 4 }
 {
-    let bytes: &[u8] = opening;
-    begins(s, bytes)
+    begins(s, opening)
 }
 
 // Writes given bytes over the front of out.
@@ -103,12 +75,8 @@ pub fn put_bytes(out: &mut [u8], xs: &[u8]) -> usize
     requires { length xs.now ≤ length out.old }
     ensures { Wrote xs.now out.old out.new result }
 {
-    let mut i = 0;
-    while i < xs.len() {
-        out[i] = xs[i];
-        i += 1;
-    }
-    i
+    out[..xs.len()].copy_from_slice(xs);
+    xs.len()
 }
 
 // Writes the opening bytes over the front of out.
@@ -116,6 +84,5 @@ pub fn put_opening(out: &mut [u8], opening: &[u8; 4]) -> usize
     requires { 4 ≤ length out.old }
     ensures { Wrote opening.now out.old out.new result }
 {
-    let bytes: &[u8] = opening;
-    put_bytes(out, bytes)
+    put_bytes(out, opening)
 }

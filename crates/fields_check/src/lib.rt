@@ -11,10 +11,8 @@ fn sum_words(s: &[u8]) -> u32
     ensures { result ≡ check_of s.now }
 {
     let mut sum: u32 = 0;
-    let mut at = 0;
-    while 4 <= s.len() - at {
-        sum = std::num::wrapping_add_u32(sum, fields::word_at(s, at));
-        at += 4;
+    for word in s.chunks_exact(4) {
+        sum = sum.wrapping_add(fields::word_at(word, 0));
     }
     sum
 }
@@ -23,37 +21,34 @@ fn sum_words(s: &[u8]) -> u32
 fn sum_blocks(s: &[u8]) -> u32
     ensures { result ≡ check_of s.now }
 {
+    let (front, behind) = s.split_at(s.len() / 1024 * 1024);
     let mut sum: u32 = 0;
-    let mut at = 0;
-    while 1024 <= s.len() - at {
-        let end = at + 1024;
-        sum = std::num::wrapping_add_u32(sum, sum_words(&s[at..end]));
-        at = end;
+    for block in front.chunks_exact(1024) {
+        sum = sum.wrapping_add(sum_words(block));
     }
-    std::num::wrapping_add_u32(sum, sum_words(&s[at..]))
+    sum.wrapping_add(sum_words(behind))
 }
 
 // The check word from the back, so that the front, which is read next, is still in a cache: at each step four words, each added to a sum of its own.
 fn sum_back(s: &[u8]) -> u32
     ensures { result ≡ check_of s.now }
 {
-    let mut at = s.len() / 16 * 16;
-    let mut sum = sum_words(&s[at..]);
+    let (front, behind) = s.split_at(s.len() / 16 * 16);
+    let sum = sum_words(behind);
     let mut first: u32 = 0;
     let mut second: u32 = 0;
     let mut third: u32 = 0;
     let mut fourth: u32 = 0;
-    while 16 <= at {
-        at -= 16;
-        first = std::num::wrapping_add_u32(first, fields::word_at(s, at));
-        second = std::num::wrapping_add_u32(second, fields::word_at(s, at + 4));
-        third = std::num::wrapping_add_u32(third, fields::word_at(s, at + 8));
-        fourth = std::num::wrapping_add_u32(fourth, fields::word_at(s, at + 12));
+    for four in front.rchunks_exact(16) {
+        first = first.wrapping_add(fields::word_at(four, 0));
+        second = second.wrapping_add(fields::word_at(four, 4));
+        third = third.wrapping_add(fields::word_at(four, 8));
+        fourth = fourth.wrapping_add(fields::word_at(four, 12));
     }
-    sum = std::num::wrapping_add_u32(sum, first);
-    sum = std::num::wrapping_add_u32(sum, second);
-    sum = std::num::wrapping_add_u32(sum, third);
-    std::num::wrapping_add_u32(sum, fourth)
+    sum.wrapping_add(first)
+        .wrapping_add(second)
+        .wrapping_add(third)
+        .wrapping_add(fourth)
 }
 
 // The check word of the bytes s: the sum of their words, modulo 2^32. More than 2 MB, which seldom fit a second cache, are summed from the back.

@@ -1,3 +1,2 @@
--- Laws of two's complement in the machine, and of sums in bytes.
-pub mod Machine
+-- Laws of sums in bytes.
 pub mod Sums

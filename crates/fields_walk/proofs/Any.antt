@@ -12,8 +12,10 @@ use borrow.Author.Tests.{leb-true, leb-false}
 use Rattle.lists.proofs.Tests.{cases, truth}
 use Rattle.fields.specs.Words.{word_at}
 use Rattle.fields_sums.specs.Twos.{sum_at}
-use Rattle.fields_walk.specs.declared.Walk.{Walk}
-use Rattle.fields_walk.specs.declared.Walk.TheVariants.{Stop, At}
+use Rattle.std.specs.Prelude.{Result}
+use Rattle.stops.specs.declared.Stop.{Stop}
+use Rattle.stops.specs.Numbers.{number}
+use Rattle.std.specs.Prelude.{Err, Ok}
 use Rattle.fields_walk.specs.Parsed.{stop, got, and_then, many}
 use Rattle.fields_walk.specs.Fields.{room, word, sum}
 use Rattle.fields_walk.specs.Walked.{Says, Walked}
@@ -75,11 +77,11 @@ module _ {A : Type 0} {f : Reader A} {w : ℕ} (a : Any f w) where
       (λ t. let g = sym e ∙ a.short l (leb-false w (length l) t) in let z : false ≡ true = cc in absurd (false≢true z))
 
   -- a test for the bytes says what reading them says
-  pub any_walked : {s : List ℕ} {l : List ℕ} {r : Walk} → Walked s (room w l) r → Walked s (f l) r
+  pub any_walked : {s : List ℕ} {l : List ℕ} {r : Result ℕ Stop} → Walked s (room w l) r → Walked s (f l) r
   any_walked {s} {l} {r} h = record { says = go r h.says }
     where
-      go : (r : Walk) → Says s (room w l) r → Says s (f l) r
-      go (Stop n) e = cases (truth (leb w (length l)))
+      go : (r : Result ℕ Stop) → Says s (room w l) r → Says s (f l) r
+      go (Err n) e = cases (truth (leb w (length l)))
           (λ t. let g = sym e ∙ room_whole w l (leb-true w (length l) t) in let z : false ≡ true = cc in absurd (false≢true z))
-          (λ t. let h = leb-false w (length l) t in let g = sym (room-short w l h) ∙ e in let z : 2 ≡ n = cc in a.short l h ∙ ap stop z)
-      go (At k) g = let r = room-got w l g.1 in let x = a.whole l r.0 in (x.0, x.1 ∙ ap (got x.0) (sym r.1), g.2)
+          (λ t. let h = leb-false w (length l) t in let g = sym (room-short w l h) ∙ e in let z : 2 ≡ number n = cc in a.short l h ∙ ap stop z)
+      go (Ok k) g = let r = room-got w l g.1 in let x = a.whole l r.0 in (x.0, x.1 ∙ ap (got x.0) (sym r.1), g.2)

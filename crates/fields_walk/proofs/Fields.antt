@@ -14,7 +14,7 @@ use Rattle.fields.specs.Words.{word_at}
 use Rattle.fields.specs.WordsLaws.{word_at_drop}
 use Rattle.fields.specs.Opening.{starts_with}
 use Rattle.fields_check.specs.Check.{check_of}
-use Rattle.fields_walk.specs.declared.Walk.TheVariants.{At}
+use Rattle.std.specs.Prelude.{Ok}
 use Rattle.fields_walk.specs.Parsed.{Parsed, stop, got, and_then, stop_unless}
 use Rattle.fields_walk.specs.Fields.{room, word, field, sizes, header, ended, close}
 use Rattle.fields_walk.specs.Walked.{Says}
@@ -113,7 +113,7 @@ module _ (s : List ℕ) (at : ℕ) (h : at ≤ length s) where
   before : length s - length (drop at s) ≡ at
   before = rw length-drop (omega arith)
 
-  module _ {k : ℕ} (g : Says s (room 4 (drop at s)) (At k)) where
+  module _ {k : ℕ} (g : Says s (room 4 (drop at s)) (Ok k)) where
     close_on : close s (drop at s) ≡ ended (take (length s - length (drop at s)) s) (word_at s at) (drop k s)
     unfolding close
     close_on = then_on (ended (take (length s - length (drop at s)) s)) (word_on (drop at s) g.1) ∙ rw (word-at-place s at)
@@ -124,7 +124,7 @@ module _ (s : List ℕ) (at : ℕ) (h : at ≤ length s) where
     none : length s ≤ k → eqb (length (drop k s)) 0 ≡ true
     none l = eq-eqb (length (drop k s)) 0 (rw length-drop (omega arith))
 
-    pub close_right : length s ≤ k → word_at s at ≡ check_of (take at s) → Says s (close s (drop at s)) (At k)
+    pub close_right : length s ≤ k → word_at s at ≡ check_of (take at s) → Says s (close s (drop at s)) (Ok k)
     close_right l e = (tt, close_on ∙ rw (none l, before, eq-eqb (word_at s at) (check_of (take at s)) e), g.2)
 
     pub close_wrong : length s ≤ k → (word_at s at ≡ check_of (take at s) → ⊥) → close s (drop at s) ≡ stop 11

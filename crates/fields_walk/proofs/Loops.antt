@@ -6,8 +6,7 @@ use native.Mathlib.Numerals.{add-one}
 use native.Mathlib.Omega.{arith}
 use lib.ListN.{length, get_or, drop, drop_of_length-le}
 use lib.Seq.{drop-cons}
-use Rattle.fields_walk.specs.declared.Walk.{Walk}
-use Rattle.fields_walk.specs.declared.Walk.TheVariants.{Stop, At}
+use Rattle.std.specs.Prelude.{Ok}
 use Rattle.fields_walk.specs.Parsed.{Parsed, stop, got, consed, many}
 use Rattle.fields_walk.specs.Fields.{field, codes}
 use Rattle.fields_walk.specs.Walked.{Says}
@@ -15,26 +14,26 @@ use Rattle.fields_walk.proofs.Steps.{Reader, then_on, then_off, behind}
 
 -- what is read from the second place on ends as what is read from the first
 pub record Follows {A : Type 0} (s : List ℕ) (p q : Parsed A) : Type 0 where
-  pub ends : (w : Walk) → Says s p w → Says s q w
+  pub off : {n : ℕ} → p ≡ stop n → q ≡ stop n
+  pub on : {k : ℕ} → Says s p (Ok k) → Says s q (Ok k)
 
 pub follows_self : {A : Type 0} (s : List ℕ) (p : Parsed A) → Follows s p p
-follows_self s p = record { ends = λ w h. h }
+follows_self s p = record { off = λ h. h; on = λ h. h }
 
 -- a first thing and more behind it: where the first was read, and where it stopped
 module _ {A : Type 0} {s : List ℕ} {p whole : Parsed (List A)} (i : Follows s p whole) {q : Parsed A} (more : A → Reader (List A)) (e : p ≡ consed q more) where
   pub step_on : {x : A} {rest : List ℕ} → q ≡ got x rest → Follows s (more x rest) whole
-  step_on {x} {rest} f = record { ends = go }
-    where
-      go : (w : Walk) → Says s (more x rest) w → Says s whole w
-      go (Stop n) h = i.ends (Stop n) (e ∙ then_on (behind more) f ∙ then_off (λ xs rest'. got (x ∷ xs) rest') h)
-      go (At k) h = i.ends (At k) (x ∷ h.0, e ∙ then_on (behind more) f ∙ then_on (λ xs rest'. got (x ∷ xs) rest') h.1, h.2)
+  step_on {x} {rest} f = record {
+    off = λ h. i.off (e ∙ then_on (behind more) f ∙ then_off (λ xs rest'. got (x ∷ xs) rest') h);
+    on = λ h. i.on (x ∷ h.0, e ∙ then_on (behind more) f ∙ then_on (λ xs rest'. got (x ∷ xs) rest') h.1, h.2);
+  }
 
   pub step-off : {n : ℕ} → q ≡ stop n → whole ≡ stop n
-  step-off {n} f = i.ends (Stop n) (e ∙ then_off (behind more) f)
+  step-off {n} f = i.off (e ∙ then_off (behind more) f)
 
 -- nothing is left to read
-pub step-done : {A : Type 0} {s : List ℕ} {at : ℕ} {p whole : Parsed (List A)} → Follows s p whole → p ≡ got [] (drop at s) → at ≤ length s → Says s whole (At at)
-step-done {at = at} i e h = i.ends (At at) ([], e, h)
+pub step-done : {A : Type 0} {s : List ℕ} {at : ℕ} {p whole : Parsed (List A)} → Follows s p whole → p ≡ got [] (drop at s) → at ≤ length s → Says s whole (Ok at)
+step-done {at = at} i e h = i.on ([], e, h)
 
 -- a loop over n things at its thing i: it was read, it stopped, or none is left
 module _ {A : Type 0} {s : List ℕ} (f : Reader A) (at i n : ℕ) {whole : Parsed (List A)} (v : Follows s (many (n - i) f (drop at s)) whole) where
@@ -48,7 +47,7 @@ module _ {A : Type 0} {s : List ℕ} (f : Reader A) (at i n : ℕ) {whole : Pars
   pub many-off : {k : ℕ} → i < n → f (drop at s) ≡ stop k → whole ≡ stop k
   many-off h e = step-off v (λ x. many (n - (i + 1)) f) (many-left h) e
 
-  pub many-done : n ≤ i → at ≤ length s → Says s whole (At at)
+  pub many-done : n ≤ i → at ≤ length s → Says s whole (Ok at)
   unfolding many
   many-done h l = let e : n - i ≡ 0 = omega arith in step-done v (ap (λ k. many k f (drop at s)) e) l
 
@@ -64,6 +63,6 @@ module _ {s : List ℕ} (zs : List ℕ) (at i : ℕ) {whole : Parsed (List ℕ)}
   pub codes-off : {k : ℕ} → i < length zs → field 0 (get_or zs i 0) 6 (drop at s) ≡ stop k → whole ≡ stop k
   codes-off h e = step-off v (λ a. codes (drop (i + 1) zs)) (codes-left h) e
 
-  pub codes-done : length zs ≤ i → at ≤ length s → Says s whole (At at)
+  pub codes-done : length zs ≤ i → at ≤ length s → Says s whole (Ok at)
   unfolding codes
   codes-done h l = step-done v (ap (λ (k : List ℕ). codes k (drop at s)) (drop_of_length-le zs h)) l

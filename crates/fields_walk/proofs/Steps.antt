@@ -8,11 +8,14 @@ use lib.Dec.{leb}
 use lib.ListN.{length, drop, length-drop}
 use lib.Seq.{drop-drop}
 use borrow.Author.Tests.{le-leb, lt-leb, leb-true}
-use Rattle.fields_walk.specs.declared.Walk.{Walk}
-use Rattle.fields_walk.specs.declared.Walk.TheVariants.{Stop, At}
+use Rattle.std.specs.Prelude.{Option, Some, None, Result}
+use Rattle.std.specs.Option.{ok_or}
+use Rattle.stops.specs.declared.Stop.{Stop}
+use Rattle.stops.specs.Numbers.{number}
+use Rattle.std.specs.Prelude.{Err, Ok}
 use Rattle.fields_walk.specs.Parsed.{Parsed, stop, got, and_then, stop_unless, consed}
 use Rattle.fields_walk.specs.Fields.{room}
-use Rattle.fields_walk.specs.Walked.{Says, Walked}
+use Rattle.fields_walk.specs.Walked.{Says, Walked, Tells, Tested}
 
 -- a reader of things
 abbrev pub Reader : Type 0 → Type 0
@@ -113,7 +116,7 @@ module _ (s : List ℕ) (at width : ℕ) (h : at ≤ length s) where
   pub place_short : length s < at + width → room width (drop at s) ≡ stop 2
   place_short k = room-short width (drop at s) (rw length-drop (omega arith))
 
-  pub place-whole : at + width ≤ length s → Says s (room width (drop at s)) (At (at + width))
+  pub place-whole : at + width ≤ length s → Says s (room width (drop at s)) (Ok (at + width))
   place-whole k = (tt, room_whole width (drop at s) (rw length-drop (omega arith)) ∙ rw drop-drop, k)
 
   pub value_rest : {A : Type 0} (value : List ℕ → A) {v : A} {rest : List ℕ} → and_then (room width (drop at s)) (λ u rest. got (value (drop at s)) rest) ≡ got v rest
@@ -129,16 +132,24 @@ module _ (s : List ℕ) (at width : ℕ) (h : at ≤ length s) where
       (w, place_is s (r.1 ∙ drop-drop width at s) l w)
 
 -- what the code saw its answer to be
-pub seen : {A : Type 0} {s : List ℕ} {p : Parsed A} {w v : Walk} → w ≡ v → Walked s p w → Says s p v
+pub seen : {A : Type 0} {s : List ℕ} {p : Parsed A} {w v : Result ℕ Stop} → w ≡ v → Walked s p w → Says s p v
 seen {A} {s} {p} e h = subst (Says s p) e h.says
 
-pub walked_as : {A : Type 0} {s : List ℕ} {p q : Parsed A} {w : Walk} → p ≡ q → Walked s q w → Walked s p w
+-- a field's test, for which the caller has a stop: it passed, or not
+pub tested_at : {A : Type 0} {s : List ℕ} {p : Parsed A} {n k : ℕ} {o : Option ℕ} → o ≡ Some k → Tested s n p (Ok o) → Says s p (Ok k)
+tested_at {A} {s} {p} {n} e t = subst (λ (o : Option ℕ). Tells s n p (Ok o)) e t.tells
+
+pub tested_off : {A : Type 0} {s : List ℕ} {p : Parsed A} (o : Option ℕ) (d e : Stop) → Err e ≡ ok_or o d → Tested s (number d) p (Ok o) → p ≡ stop (number e)
+tested_off None d e h t = let g : d ≡ e = cc h in t.tells ∙ ap (λ f. stop (number f)) g
+tested_off (Some k) d e h t = cc h
+
+pub walked_as : {A : Type 0} {s : List ℕ} {p q : Parsed A} {w : Result ℕ Stop} → p ≡ q → Walked s q w → Walked s p w
 walked_as {s = s} {w = w} e h = record { says = subst (λ r. Says s r w) (sym e) h.says }
 
 -- the same of a value made of what was read
-pub walked-map : {A B : Type 0} {s : List ℕ} {p : Parsed A} {w : Walk} (g : A → B) → Walked s p w → Walked s (and_then p (λ v rest. got (g v) rest)) w
+pub walked-map : {A B : Type 0} {s : List ℕ} {p : Parsed A} {w : Result ℕ Stop} (g : A → B) → Walked s p w → Walked s (and_then p (λ v rest. got (g v) rest)) w
 walked-map {A} {B} {s} {p} {w} g h = record { says = go w h.says }
   where
-    go : (w : Walk) → Says s p w → Says s (and_then p (λ v rest. got (g v) rest)) w
-    go (Stop n) e = then_off (λ v rest. got (g v) rest) e
-    go (At k) e = (g e.0, then_on (λ v rest. got (g v) rest) e.1, e.2)
+    go : (w : Result ℕ Stop) → Says s p w → Says s (and_then p (λ v rest. got (g v) rest)) w
+    go (Err n) e = then_off (λ v rest. got (g v) rest) e
+    go (Ok k) e = (g e.0, then_on (λ v rest. got (g v) rest) e.1, e.2)

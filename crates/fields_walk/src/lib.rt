@@ -1,113 +1,85 @@
 // The walk over the fields that tables and archives share: from the left, and at each field its stops in document 01's order.
+// A function answers the place behind the last field that it looked at, or the first stop.
 #![tactic(auto)]
 
-ghost use Rattle.std.specs.Prelude.{◌≤◌, length, drop};
-ghost use Rattle.fields_walk.specs.Fields.{room, field, sizes, codes, header, close};
-ghost use Rattle.fields_walk.specs.Walked.{Walked};
+ghost use Rattle.std.specs.Prelude.{ℕ, ◌≤◌, length, drop};
+ghost use Rattle.fields_walk.specs.Fields.{room, field, sizes, header, codes, close};
+ghost use Rattle.fields_walk.specs.Walked.{Walked, Tested};
 
-// How far the fields are right: a stop's number, or the place behind the last field looked at.
-#[derive(Clone, Copy)]
-pub enum Walk {
-    Stop(u32),
-    At(usize),
-}
+use stops::Stop;
 
 // Bytes of any value, so many.
-pub fn check_room(s: &[u8], width: usize, at: usize) -> Walk
+pub fn check_room(s: &[u8], width: usize, at: usize) -> Result<usize, Stop>
     requires { at ≤ length s.now }
     ensures { Walked s.now (room width (drop at s.now)) result }
 {
     if s.len() - at < width {
-        return Walk::Stop(2);
+        return Err(Stop::Cut);
     }
-    Walk::At(at + width)
+    Ok(at + width)
 }
 
-// A field whose value is at least low and below limit.
-pub fn check_field(s: &[u8], low: u32, limit: u32, stop: u32, at: usize) -> Walk
+// A field whose value is at least low and below limit: none where it is another, for which the caller has its stop.
+pub fn check_field(s: &[u8], low: u32, limit: u32, at: usize) -> Result<Option<usize>, Stop>
     requires { at ≤ length s.now }
-    ensures { Walked s.now (field low limit stop (drop at s.now)) result }
+    ensures { (n : ℕ) → Tested s.now n (field low limit n (drop at s.now)) result }
 {
-    match check_room(s, 4, at) {
-        Walk::Stop(n) => Walk::Stop(n),
-        Walk::At(next) => {
-            let w = fields::word_at(s, at);
-            if w < low {
-                return Walk::Stop(stop);
-            }
-            if w < limit {
-                Walk::At(next)
-            } else {
-                Walk::Stop(stop)
-            }
-        }
+    let next = check_room(s, 4, at)?;
+    let w = fields::word_at(s, at);
+    if w < low {
+        return Ok(None);
     }
+    if w < limit { Ok(Some(next)) } else { Ok(None) }
 }
 
 // The sizes.
-fn check_sizes(s: &[u8], dims: u32, start: usize) -> Walk
+fn check_sizes(s: &[u8], dims: u32, start: usize) -> Result<usize, Stop>
     requires { start ≤ length s.now }
     ensures { Walked s.now (sizes dims (drop start s.now)) result }
 {
     let mut at = start;
-    let mut i: u32 = 0;
-    while i < dims {
-        match check_field(s, 1, 65536, 4, at) {
-            Walk::Stop(n) => return Walk::Stop(n),
-            Walk::At(next) => at = next,
-        }
-        i += 1;
+    for _ in 0..dims {
+        at = check_field(s, 1, 65536, at)?.ok_or(Stop::Size)?;
     }
-    Walk::At(at)
+    Ok(at)
 }
 
 // The opening, D and the sizes.
-pub fn check_header(s: &[u8], opening: &[u8; 4]) -> Walk
+pub fn check_header(s: &[u8], opening: &[u8; 4]) -> Result<usize, Stop>
     ensures { Walked s.now (header opening.now s.now) result }
 {
     if !fields::opening_is(s, opening) {
-        return Walk::Stop(1);
+        return Err(Stop::Opening);
     }
-    match check_field(s, 1, 9, 3, 4) {
-        Walk::Stop(n) => Walk::Stop(n),
-        Walk::At(next) => check_sizes(s, fields::word_at(s, 4), next),
-    }
+    let next = check_field(s, 1, 9, 4)?.ok_or(Stop::Dimensions)?;
+    check_sizes(s, fields::word_at(s, 4), next)
 }
 
 // A row's codes, each below its size.
-pub fn check_codes(s: &[u8], sizes: &[u32], start: usize) -> Walk
+pub fn check_codes(s: &[u8], sizes: &[u32], start: usize) -> Result<usize, Stop>
     requires { start ≤ length s.now }
     ensures { Walked s.now (codes sizes.now (drop start s.now)) result }
 {
     let mut at = start;
-    let mut i = 0;
-    while i < sizes.len() {
-        match check_field(s, 0, sizes[i], 6, at) {
-            Walk::Stop(n) => return Walk::Stop(n),
-            Walk::At(next) => at = next,
-        }
-        i += 1;
+    for &size in sizes {
+        at = check_field(s, 0, size, at)?.ok_or(Stop::Code)?;
     }
-    Walk::At(at)
+    Ok(at)
 }
 
 // The check word, which ends the file.
-pub fn check_close(s: &[u8], at: usize) -> Walk
+pub fn check_close(s: &[u8], at: usize) -> Result<usize, Stop>
     requires { at ≤ length s.now }
     ensures { Walked s.now (close s.now (drop at s.now)) result }
 {
-    match check_room(s, 4, at) {
-        Walk::Stop(n) => Walk::Stop(n),
-        Walk::At(next) => {
-            if next < s.len() {
-                return Walk::Stop(10);
-            }
-            let sum = fields_check::check_word(&s[..at]);
-            if fields::word_at(s, at) == sum {
-                Walk::At(next)
-            } else {
-                Walk::Stop(11)
-            }
-        }
+    let next = check_room(s, 4, at)?;
+    if next < s.len() {
+        return Err(Stop::Trailing);
+    }
+    let sum = fields_check::check_word(&s[..at]);
+    if fields::word_at(s, at) == sum {
+        Ok(next)
+    } else {
+        Err(Stop::CheckWord)
     }
 }

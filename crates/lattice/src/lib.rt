@@ -26,14 +26,14 @@ pub fn set_at(k: usize) -> u32
     requires { k < 256 }
     ensures { result ≡ get_or (sets 8) k 0 }
 {
-    SETS[k] as u32
+    u32::from(SETS[k])
 }
 
 // How many dimensions a set has.
 pub fn size_of_set(set: u32) -> u32
     ensures { result ≡ size set }
 {
-    u32::count_ones(set)
+    set.count_ones()
 }
 
 // Whether a set holds another.

@@ -8,6 +8,9 @@ use lib.Dec.{leb}
 use lib.ListN.{length}
 use borrow.Author.Tests.{le-leb, leb-true}
 use Rattle.lists.proofs.Tests.{cases, truth}
+use Rattle.std.specs.Prelude.{Result, Ok, Err}
+use Rattle.stops.specs.declared.Stop.{Stop}
+use Rattle.stops.specs.Numbers.{number, numbered}
 use Rattle.fields.specs.Written.{written, Wrote}
 use Rattle.fields.specs.WrittenLaws.{length_written}
 use Rattle.archive_cells.specs.WritingLaws.{wrote_as}
@@ -15,9 +18,7 @@ use Rattle.text_decimals.specs.Decimals.{ascii, decimal}
 use Rattle.fields_walk.specs.Parsed.{Parsed, stop, got}
 use Rattle.archive_entries.specs.Layout.{Held}
 use Rattle.archive_entries.specs.Reading.{read_archive}
-use Rattle.call_answers.specs.declared.Written.{Written}
-use Rattle.call_answers.specs.declared.Written.TheVariants as Write
-use Rattle.call_answers.specs.declared.Checked.TheVariants as Check
+use Rattle.call_answers.specs.declared.Counts.{Counts}
 use Rattle.call_answers.specs.Answers.{Outcome, stop as stopped, bytes, within, answer_of, left_of, Answered}
 use Rattle.call_answers.specs.Calls.{builds, counted, checks}
 use Rattle.text_listing.specs.Listing.{listing, held_by, Accepted}
@@ -52,25 +53,25 @@ within-fits room (bytes ys) {xs} e = cases (truth (leb (length ys) room))
     (λ f. let g : bytes ys ≡ bytes xs = rw f at e in let q : ys ≡ xs = cc g in rw (← q) (leb-true (length ys) room f))
     (λ f. let g : stopped 15 ≡ bytes xs = rw f at e in let z : false ≡ true = cc g in absurd (false≢true z))
 
-module _ (s : List ℕ) {l m : List ℕ} (h : length s ≤ longest) (k : length l ≡ longest) {r : Written} (w : Answered (builds s) l m r) where
+module _ (s : List ℕ) {l m : List ℕ} (h : length s ≤ longest) (k : length l ≡ longest) {r : Result ℕ Stop} (w : Answered (builds s) l m r) where
   short-builder : builder s ≡ built_text (within (length l) (builds s))
   unfolding builder
   short-builder = short_text s (built_text (within longest (builds s))) h ∙ ap (λ (n : ℕ). built_text (within n (builds s))) (sym k)
 
-  pub builder-refused : {n : ℕ} → r ≡ Write.Stop n → (builder s ≡ refused n) × (m ≡ l)
-  builder-refused {n} e = go (within (length l) (builds s)) refl
+  pub builder-refused : {e : Stop} → r ≡ Err e → (builder s ≡ refused (number e)) × (m ≡ l)
+  builder-refused {e} h = go (within (length l) (builds s)) refl
     where
-      go : (o : Outcome) → within (length l) (builds s) ≡ o → (builder s ≡ refused n) × (m ≡ l)
-      go (stopped j) q = let f : Write.Stop j ≡ Write.Stop n = sym (ap answer_of q) ∙ sym w.answer ∙ e in (short-builder ∙ ap built_text q ∙ ap refused (cc f), w.output ∙ ap (λ (p : Outcome). left_of p l) q)
-      go (bytes xs) q = let f : Write.Length (length xs) ≡ Write.Stop n = sym (ap answer_of q) ∙ sym w.answer ∙ e in let z : false ≡ true = cc f in absurd (false≢true z)
+      go : (o : Outcome) → within (length l) (builds s) ≡ o → (builder s ≡ refused (number e)) × (m ≡ l)
+      go (stopped j) q = let f : Err j ≡ Err (number e) = sym (ap answer_of q) ∙ sym w.answer ∙ ap numbered h in (short-builder ∙ ap built_text q ∙ ap refused (cc f), w.output ∙ ap (λ (p : Outcome). left_of p l) q)
+      go (bytes xs) q = let f : Ok (length xs) ≡ Err (number e) = sym (ap answer_of q) ∙ sym w.answer ∙ ap numbered h in let z : false ≡ true = cc f in absurd (false≢true z)
 
-  pub builder-wrote : {n : ℕ} → r ≡ Write.Length n → Wrote (builder s) l m n
+  pub builder-wrote : {n : ℕ} → r ≡ Ok n → Wrote (builder s) l m n
   builder-wrote {n} e = go (within (length l) (builds s)) refl
     where
       go : (o : Outcome) → within (length l) (builds s) ≡ o → Wrote (builder s) l m n
-      go (stopped j) q = let f : Write.Stop j ≡ Write.Length n = sym (ap answer_of q) ∙ sym w.answer ∙ e in let z : false ≡ true = cc f in absurd (false≢true z)
+      go (stopped j) q = let f : Err j ≡ Ok n = sym (ap answer_of q) ∙ sym w.answer ∙ ap numbered e in let z : false ≡ true = cc f in absurd (false≢true z)
       go (bytes xs) q =
-          let f : Write.Length (length xs) ≡ Write.Length n = sym (ap answer_of q) ∙ sym w.answer ∙ e in
+          let f : Ok (length xs) ≡ Ok n = sym (ap answer_of q) ∙ sym w.answer ∙ ap numbered e in
           let g : m ≡ written xs l = w.output ∙ ap (λ (p : Outcome). left_of p l) q in
           let t : xs ≡ builder s = sym (short-builder ∙ ap built_text q) in
           wrote_as t (record { count = cc f; same = ap length g ∙ length_written xs l (within-fits (length l) (builds s) q); list = g })
@@ -80,21 +81,23 @@ pub lister-short : (s : List ℕ) → length s ≤ longest → lister s ≡ list
 unfolding lister
 lister-short s h = short_text s (listed_text (read_archive s)) h
 
-pub lister-refused : (s : List ℕ) {n : ℕ} → length s ≤ longest → checks s ≡ Check.Stop n → lister s ≡ refused n
+pub lister-refused : (s : List ℕ) {n : ℕ} → length s ≤ longest → checks s ≡ Err n → lister s ≡ refused n
 unfolding checks
 lister-refused s {n} h e = lister-short s h ∙ go (read_archive s) e
   where
-    go : (p : Parsed Held) → counted p ≡ Check.Stop n → listed_text p ≡ refused n
+    go : (p : Parsed Held) → counted p ≡ Err n → listed_text p ≡ refused n
     go (stop k) q = ap refused (cc q)
     go (got a rest) q = let z : false ≡ true = cc q in absurd (false≢true z)
 
-pub accepted : (s : List ℕ) {n m : ℕ} → checks s ≡ Check.Entries n m → (d : ℕ) × Accepted s d n m
+pub accepted : (s : List ℕ) {k : Counts} → checks s ≡ Ok k → (d : ℕ) × Accepted s d k.bases k.cells
 unfolding checks
-accepted s {n} {m} e = go (read_archive s) refl e
+accepted s {k} e = go (read_archive s) refl e
   where
-    go : (p : Parsed Held) → read_archive s ≡ p → counted p ≡ Check.Entries n m → (d : ℕ) × Accepted s d n m
-    go (stop k) q f = let z : false ≡ true = cc f in absurd (false≢true z)
-    go (got a rest) q f = (length a.sizes, record { held = a; rest = rest; read = q; dims = refl; bases = cc f; cells = cc f })
+    go : (p : Parsed Held) → read_archive s ≡ p → counted p ≡ Ok k → (d : ℕ) × Accepted s d k.bases k.cells
+    go (stop n) q f = let z : false ≡ true = cc f in absurd (false≢true z)
+    go (got a rest) q f =
+        let g : record { bases = length a.bases; cells = length a.cells } ≡ k = cc f in
+        (length a.sizes, record { held = a; rest = rest; read = q; dims = refl; bases = ap (λ (x : Counts). x.bases) (sym g); cells = ap (λ (x : Counts). x.cells) (sym g) })
 
 pub lister-listing : (s : List ℕ) {d n m : ℕ} → length s ≤ longest → Accepted s d n m → lister s ≡ listing (held_by (read_archive s))
 lister-listing s h x = lister-short s h ∙ rw x.read

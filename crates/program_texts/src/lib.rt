@@ -4,20 +4,21 @@
 ghost use Rattle.std.specs.Prelude.{◌≡◌, ◌≤◌, length};
 ghost use Rattle.text_decimals.specs.Decimals.{ascii};
 ghost use Rattle.fields.specs.Written.{Wrote};
+ghost use Rattle.stops.specs.Numbers.{number};
 ghost use Rattle.program_texts.specs.Programs.{refused, builder, lister};
 
-use call_answers::{Checked, Written};
+use stops::Stop;
 
 // The most bytes that a program reads.
 const LONGEST: usize = 65536;
 
 // Writes the line of a stop.
-fn put_refused(out: &mut [u8], stop: u32) -> usize
+fn put_refused(out: &mut [u8], stop: Stop) -> usize
     requires { 19 ≤ length out.old }
-    ensures { Wrote (refused stop) out.old out.new result }
+    ensures { Wrote (refused (number stop)) out.old out.new result }
 {
     let mut done = fields::put_bytes(out, b"refused ");
-    done += text_decimals::put_decimal(&mut out[done..], stop as u64);
+    done += text_decimals::put_decimal(&mut out[done..], u64::from(stop.number()));
     done + text_decimals::put_character(&mut out[done..], b'\n')
 }
 
@@ -38,8 +39,8 @@ pub fn build_text(input: &[u8], out: &mut [u8]) -> usize
         return put_too_long(out);
     }
     match call_build::build(input, out) {
-        Written::Length(n) => n,
-        Written::Stop(n) => put_refused(out, n),
+        Ok(n) => n,
+        Err(stop) => put_refused(out, stop),
     }
 }
 
@@ -52,7 +53,7 @@ pub fn list_text(input: &[u8], out: &mut [u8]) -> usize
         return put_too_long(out);
     }
     match call_ask::check(input) {
-        Checked::Entries { bases, cells } => text_listing::put_listing(out, input, bases, cells),
-        Checked::Stop(n) => put_refused(out, n),
+        Ok(counts) => text_listing::put_listing(out, input, counts.bases, counts.cells),
+        Err(stop) => put_refused(out, stop),
     }
 }

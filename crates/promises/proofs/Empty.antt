@@ -9,6 +9,7 @@ use native.Mathlib.Omega.{arith}
 use lib.Dec.{ltb}
 use lib.IntN.{pos}
 use lib.ListN.{length, replicate, length-map}
+use Rattle.std.specs.Prelude.{Some, None, Ok}
 use Rattle.lists.proofs.Tests.{cases, truth}
 use Rattle.fields_walk.specs.Parsed.{got}
 use Rattle.fields_walk.specs.Limits.{Bytes}
@@ -25,8 +26,6 @@ use Rattle.archive_entries.specs.Reading.{read_archive, rows_in}
 use Rattle.archive_entries.proofs.Accepted.{archive_forth}
 use Rattle.archive_entries.proofs.Lengths.{archive_length}
 use Rattle.call_questions.specs.Questions.{asks}
-use Rattle.call_answers.specs.declared.Checked.TheVariants as Check
-use Rattle.call_answers.specs.declared.Found.TheVariants as Find
 use Rattle.call_answers.specs.Calls.{counted, checks, told, looks_up}
 use Rattle.promises.proofs.Promises.{looked, no_record_just_if}
 
@@ -46,23 +45,23 @@ module _ (s : List ℕ) (a : Held) (b : Bytes s) (e : read_archive s ≡ got a [
   d = length a.sizes
 
   -- Asked for all ALL it answers sum 0, count 0, entry 0;
-  pub empty-looked : looks_up s (replicate d ALL) ≡ Find.Cell (pos 0) 0 0
+  pub empty-looked : looks_up s (replicate d ALL) ≡ Ok (Some (record { sum = pos 0; count = 0; entry = 0 }))
   empty-looked =
       looked s a b e (replicate d ALL) (asks-all a.sizes)
       ∙ ap (λ (rows : List (Row Total)). told (lookup (plain d) (replicate d ALL) (ours (plain d) sums rows))) n ∙ ap told (empty-answer sums d)
 
   -- for every other cell, 'no record'.
-  pub empty_elsewhere : (q : List ℕ) → asks a.sizes q ≡ true → q ≢ replicate d ALL → looks_up s q ≡ Find.NoRecord
+  pub empty_elsewhere : (q : List ℕ) → asks a.sizes q ≡ true → q ≢ replicate d ALL → looks_up s q ≡ Ok None
   empty_elsewhere q k h = (no_record_just_if s a b e q k).1 (λ x. none (subst (λ (rows : List (Row Total)). Exists (plain d) (codes_of rows) q) n x))
     where
       none : Exists (plain d) [] q → ⊥
       none x = cases x (λ r. Memᴰ.not-nil r.1) (λ i. h (Memᴰ.eq_of_singleton i))
 
   -- It has no base entry and one normal entry,
-  pub empty-checked : checks s ≡ Check.Entries 0 1
+  pub empty-checked : checks s ≡ Ok (record { bases = 0; cells = 1 })
   unfolding checks required
   empty-checked =
-      ap counted e ∙ ap₂ Check.Entries (sym (length-map a.bases (λ r. r.row)) ∙ ap length n)
+      ap counted e ∙ ap₂ (λ (m n : ℕ). Ok (record { bases = m; cells = n })) (sym (length-map a.bases (λ r. r.row)) ∙ ap length n)
       (ap (λ (h : Held). length h.cells) (archive_forth s a [] b e).2 ∙ length-map (normals (plain d) (codes_of (rows_in a))) _
       ∙ ap (λ (rows : List (Row Total)). length (normals (plain d) (codes_of rows))) n ∙ normals-one d)
 

@@ -5,6 +5,7 @@ use Prim.Native.Nat.{ℕ, ◌+◌, ◌-◌, ◌*◌, ◌^◌}
 use lib.IntN.{pos, negsuc}
 use lib.Count.{ones, ones_in}
 use lib.ListN.{length}
+use Rattle.std.specs.Prelude.{true, false, Option, Some, None, Result, Ok, Err}
 use Rattle.fields.specs.Words.{word_at, words, words_bytes}
 use Rattle.fields_sums.specs.Twos.{reading_at, sum_at}
 use Rattle.fields_check.specs.Check.{check_of}
@@ -24,9 +25,7 @@ use Rattle.table.specs.Reading.{row, body, read_table}
 use Rattle.archive_entries.specs.Layout.{Held, cell_bytes, base_bytes, section, layout, required, archive_bytes}
 use Rattle.archive_entries.specs.Reading.{rising, fair, amount, list, entry, entries, bases, cell, cells, walk_archive, read_archive}
 use Rattle.call_cuboids.specs.Cuboids.{cuboid_bytes, expansion_bytes}
-use Rattle.call_answers.specs.declared.Checked.TheVariants as Check
-use Rattle.call_answers.specs.declared.Found.{Found}
-use Rattle.call_answers.specs.declared.Fixed.TheVariants.{Yes, No, Stop}
+use Rattle.call_questions.specs.declared.Cell.{Cell}
 use Rattle.call_answers.specs.Answers.{Outcome, stop as stopped, bytes, within}
 use Rattle.call_answers.specs.Calls.{builds, checks, lists_cuboid, expands, entries_in, told, looks_up}
 use Rattle.call_answers.specs.Keys.{lists_keys, tells_fixed}
@@ -40,7 +39,6 @@ use Rattle.call_fee.specs.Fees.{weights, shares_fee}
 use Rattle.rows_merge.specs.United.{united}
 use Rattle.call_add.specs.Adds.{added, adds}
 use Rattle.rows_window.specs.Window.{replied}
-use Rattle.call_window.specs.declared.Seen.TheVariants as See
 use Rattle.call_window.specs.Windows.{window, asks_window}
 
 -- what an example says of the bytes: the archive's length and check word, its entries, how long its expansion is, and answers to questions; a refusal is none of these
@@ -49,7 +47,7 @@ pub record Told : Type 0 where
   pub check : ℕ
   pub entries : Parsed (List (Entry Total))
   pub expansion : Parsed ℕ
-  pub answers : List Found
+  pub answers : List (Result (Option Cell) ℕ)
 
 pub record File : Type 0 where
   pub length : ℕ
@@ -123,7 +121,7 @@ pub five_short : within 323 (builds five) ≡ stopped 15
 unfolding builds read_table body row reading reading_at table_bytes folded header field word room many codes close word_at check_of words archive_bytes required layout base_bytes cell_bytes listed single normals common shared proper cuboid existing total grouped cells_of sets ones ones_in words_bytes flat_map
 five_short = refl
 
-pub five_checked : checks (bytes_of (builds five)) ≡ Check.Entries 5 5
+pub five_checked : checks (bytes_of (builds five)) ≡ Ok (record { bases = 5; cells = 5 })
 unfolding checks builds read_table body row reading reading_at table_bytes folded read_archive walk_archive header field word sum sum_at room many codes rising fair amount list entry bases entries cell cells close word_at check_of words archive_bytes required layout base_bytes cell_bytes listed single can_make normals common shared proper cuboid existing total grouped cells_of sets ones ones_in words_bytes flat_map
 five_checked = refl
 
@@ -146,11 +144,11 @@ pub five_keys : lists_keys (bytes_of (builds five)) ≡ bytes (1 ∷ 0 ∷ 0 ∷
 unfolding lists_keys list_bytes least_keys key builds read_table body row reading reading_at table_bytes folded read_archive walk_archive header field word sum sum_at room many codes rising fair amount list entry bases entries cell cells close word_at check_of words archive_bytes required layout base_bytes cell_bytes listed single can_make normals common shared proper cuboid existing total grouped cells_of sets ones ones_in words_bytes flat_map
 five_keys = refl
 
-pub five_fixed : map (tells_fixed (bytes_of (builds five)) 2) (2 ∷ 3 ∷ 0 ∷ 4 ∷ []) ≡ Yes ∷ No ∷ Stop 16 ∷ Stop 16 ∷ []
+pub five_fixed : map (tells_fixed (bytes_of (builds five)) 2) (2 ∷ 3 ∷ 0 ∷ 4 ∷ []) ≡ Ok true ∷ Ok false ∷ Err 16 ∷ Err 16 ∷ []
 unfolding tells_fixed fixes builds read_table body row reading reading_at table_bytes folded read_archive walk_archive header field word sum sum_at room many codes rising fair amount list entry bases entries cell cells close word_at check_of words archive_bytes required layout base_bytes cell_bytes listed single can_make normals common shared proper cuboid existing total grouped cells_of sets ones ones_in words_bytes flat_map
 five_fixed = refl
 
-pub five_no_set : tells_fixed (bytes_of (builds five)) 8 0 ≡ Stop 14
+pub five_no_set : tells_fixed (bytes_of (builds five)) 8 0 ≡ Err 14
 unfolding tells_fixed fixes builds read_table body row reading reading_at table_bytes folded read_archive walk_archive header field word sum sum_at room many codes rising fair amount list entry bases entries cell cells close word_at check_of words archive_bytes required layout base_bytes cell_bytes listed single can_make normals common shared proper cuboid existing total grouped cells_of sets ones ones_in words_bytes flat_map
 five_no_set = refl
 
@@ -214,7 +212,7 @@ pub five_added : adds (bytes_of (builds five)) (0 ∷ 1 ∷ 1 ∷ []) (negsuc 49
 unfolding adds added united builds read_table body row reading reading_at table_bytes folded read_archive walk_archive header field word sum sum_at room many codes rising fair amount list entry bases entries cell cells close word_at check_of words archive_bytes required layout base_bytes cell_bytes listed single can_make normals common shared proper cuboid existing total grouped cells_of sets ones ones_in words_bytes flat_map
 five_added = refl
 
-pub five_grown : checks (bytes_of (builds five)) ∷ checks (bytes_of (adds (bytes_of (builds five)) (3 ∷ 5 ∷ 1 ∷ []) (pos 10))) ∷ [] ≡ Check.Entries 5 5 ∷ Check.Entries 6 6 ∷ []
+pub five_grown : checks (bytes_of (builds five)) ∷ checks (bytes_of (adds (bytes_of (builds five)) (3 ∷ 5 ∷ 1 ∷ []) (pos 10))) ∷ [] ≡ Ok (record { bases = 5; cells = 5 }) ∷ Ok (record { bases = 6; cells = 6 }) ∷ []
 unfolding checks adds added united builds read_table body row reading reading_at table_bytes folded read_archive walk_archive header field word sum sum_at room many codes rising fair amount list entry bases entries cell cells close word_at check_of words archive_bytes required layout base_bytes cell_bytes listed single can_make normals common shared proper cuboid existing total grouped cells_of sets ones ones_in words_bytes flat_map
 five_grown = refl
 
@@ -224,14 +222,14 @@ five_unadded = refl
 
 -- ---- C-19: the five rows through a window: the chip of code 4, and the second dimension's code 5; 16 before 13 before 20
 
-pub five_windowed : map (asks_window (bytes_of (builds five)) 1 4) ((4 ∷ ALL ∷ ALL ∷ []) ∷ (4 ∷ 5 ∷ 2 ∷ []) ∷ (6 ∷ 5 ∷ 2 ∷ []) ∷ (ALL ∷ 5 ∷ 1 ∷ []) ∷ (6 ∷ 6 ∷ 2 ∷ []) ∷ []) ≡ See.Cell (pos 70) 1 ∷ See.NoRecord ∷ See.Stop 20 ∷ See.Stop 20 ∷ See.Stop 13 ∷ []
+pub five_windowed : map (asks_window (bytes_of (builds five)) 1 4) ((4 ∷ ALL ∷ ALL ∷ []) ∷ (4 ∷ 5 ∷ 2 ∷ []) ∷ (6 ∷ 5 ∷ 2 ∷ []) ∷ (ALL ∷ 5 ∷ 1 ∷ []) ∷ (6 ∷ 6 ∷ 2 ∷ []) ∷ []) ≡ Ok (Some (record { sum = pos 70; count = 1 })) ∷ Ok None ∷ Err 20 ∷ Err 20 ∷ Err 13 ∷ []
 unfolding asks_window window replied builds read_table body row reading reading_at table_bytes folded read_archive walk_archive header field word sum sum_at room many codes rising fair amount list entry bases entries cell cells close word_at check_of words archive_bytes required layout base_bytes cell_bytes listed single can_make normals common shared proper cuboid existing total grouped cells_of sets ones ones_in words_bytes flat_map
 five_windowed = refl
 
-pub five_seen : map (asks_window (bytes_of (builds five)) 2 5) ((ALL ∷ 5 ∷ ALL ∷ []) ∷ (ALL ∷ 5 ∷ 1 ∷ []) ∷ (ALL ∷ ALL ∷ ALL ∷ []) ∷ []) ≡ See.Cell (pos 150) 2 ∷ See.Cell (pos 70) 1 ∷ See.Stop 20 ∷ []
+pub five_seen : map (asks_window (bytes_of (builds five)) 2 5) ((ALL ∷ 5 ∷ ALL ∷ []) ∷ (ALL ∷ 5 ∷ 1 ∷ []) ∷ (ALL ∷ ALL ∷ ALL ∷ []) ∷ []) ≡ Ok (Some (record { sum = pos 150; count = 2 })) ∷ Ok (Some (record { sum = pos 70; count = 1 })) ∷ Err 20 ∷ []
 unfolding asks_window window replied builds read_table body row reading reading_at table_bytes folded read_archive walk_archive header field word sum sum_at room many codes rising fair amount list entry bases entries cell cells close word_at check_of words archive_bytes required layout base_bytes cell_bytes listed single can_make normals common shared proper cuboid existing total grouped cells_of sets ones ones_in words_bytes flat_map
 five_seen = refl
 
-pub five_no_window : asks_window (bytes_of (builds five)) 0 7 [] ∷ asks_window (bytes_of (builds five)) 4 7 [] ∷ asks_window (bytes_of (builds five)) 1 7 [] ∷ asks_window (bytes_of (builds five)) 1 6 [] ∷ [] ≡ See.Stop 16 ∷ See.Stop 16 ∷ See.Stop 13 ∷ See.Stop 13 ∷ []
+pub five_no_window : asks_window (bytes_of (builds five)) 0 7 [] ∷ asks_window (bytes_of (builds five)) 4 7 [] ∷ asks_window (bytes_of (builds five)) 1 7 [] ∷ asks_window (bytes_of (builds five)) 1 6 [] ∷ [] ≡ Err 16 ∷ Err 16 ∷ Err 13 ∷ Err 13 ∷ []
 unfolding asks_window window builds read_table body row reading reading_at table_bytes folded read_archive walk_archive header field word sum sum_at room many codes rising fair amount list entry bases entries cell cells close word_at check_of words archive_bytes required layout base_bytes cell_bytes listed single can_make normals common shared proper cuboid existing total grouped cells_of sets ones ones_in words_bytes flat_map
 five_no_window = refl

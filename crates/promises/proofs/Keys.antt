@@ -5,6 +5,7 @@ use mathlib.Core.Bool.{true, false}
 use mathlib.Core.List.{List, [], ◌∷◌}
 use Prim.Native.Nat.{ℕ, ◌^◌, ◌<◌, ◌≤◌}
 use lib.ListN.{length, take}
+use Rattle.std.specs.Prelude.{Ok}
 use Rattle.lists.specs.Lists.{◌∈◌}
 use Rattle.lists.specs.Order.{Rising}
 use Rattle.fields.specs.Words.{words}
@@ -19,8 +20,6 @@ use Rattle.cube.proofs.Promises as theory
 use Rattle.archive_entries.specs.Layout.{Held}
 use Rattle.archive_entries.specs.Reading.{read_archive, rows_in}
 use Rattle.archive_cells.specs.ListBytes.{list_bytes}
-use Rattle.call_answers.specs.declared.Fixed.TheVariants.{Yes}
-use Rattle.call_answers.specs.declared.Written.TheVariants.{Length}
 use Rattle.call_answers.specs.Answers.{bytes, Answered}
 use Rattle.call_answers.specs.Keys.{lists_keys, tells_fixed}
 use Rattle.call_answers.proofs.Answers.{answered-bytes}
@@ -41,7 +40,7 @@ module _ (s : List ℕ) (a : Held) (b : Bytes s) (e : read_archive s ≡ got a [
   keys-listed = keyed.keys-listed s a b e
 
   -- in lattice order (the fields that it wrote are these):
-  pub keys-read : {n : ℕ} {l m : List ℕ} → Answered (lists_keys s) l m (Length n) → words (take n m) ≡ length (least_keys (plain d) codes) ∷ least_keys (plain d) codes
+  pub keys-read : {n : ℕ} {l m : List ℕ} → Answered (lists_keys s) l m (Ok n) → words (take n m) ≡ length (least_keys (plain d) codes) ∷ least_keys (plain d) codes
   keys-read {n} {l} {m} w =
       let x : bytes (list_bytes (least_keys (plain d) codes)) ≡ bytes (take n m) = sym keys-listed ∙ answered-bytes w in
       let y : take n m ≡ list_bytes (least_keys (plain d) codes) = cc x in
@@ -72,13 +71,13 @@ module _ (s : List ℕ) (a : Held) (b : Bytes s) (e : read_archive s ≡ got a [
     key-holds = theory.key-holds d codes (rows-base s a b e) (sets_of d h)
 
     -- and just if the other call says yes for every dimension.
-    pub key-fixes : (key (plain d) codes set ≡ true) ↔ ((i : ℕ) → 1 ≤ i → i ≤ d → tells_fixed s set i ≡ Yes)
+    pub key-fixes : (key (plain d) codes set ≡ true) ↔ ((i : ℕ) → 1 ≤ i → i ≤ d → tells_fixed s set i ≡ Ok true)
     key-fixes = keyed.key-fixes s a b e h
 
     -- It says yes just if base rows that agree on the set agree on the dimension,
-    pub fixes_yes : (i : ℕ) → 1 ≤ i → i ≤ d → (tells_fixed s set i ≡ Yes) ↔ ((x y : List ℕ) → x ∈ codes → y ∈ codes → agree set x y ≡ true → agree (dimension i) x y ≡ true)
+    pub fixes_yes : (i : ℕ) → 1 ≤ i → i ≤ d → (tells_fixed s set i ≡ Ok true) ↔ ((x y : List ℕ) → x ∈ codes → y ∈ codes → agree set x y ≡ true → agree (dimension i) x y ≡ true)
     fixes_yes = keyed.fixes_yes s a b e h
 
     -- and so for each of the set's own dimensions.
-    pub fixes-own : (i : ℕ) → 1 ≤ i → i ≤ d → holds d set (dimension i) ≡ true → tells_fixed s set i ≡ Yes
+    pub fixes-own : (i : ℕ) → 1 ≤ i → i ≤ d → holds d set (dimension i) ≡ true → tells_fixed s set i ≡ Ok true
     fixes-own = keyed.fixes-own s a b e h

@@ -8,6 +8,7 @@ use Prim.Native.Nat.{ℕ, ◌+◌, ◌^◌, ◌≤◌, ◌<◌}
 use lib.IntN.{ℤ}
 use lib.ListN.{length}
 use lib.Signed.{mag}
+use Rattle.std.specs.Prelude.{None, Ok}
 use Rattle.lists.specs.Lists.{◌∈◌, some, Distinct}
 use Rattle.lists.specs.Order.{Rising, earlier, same}
 use Rattle.lists.proofs.Tests.{cases, truth, some_in, some_not, refuted}
@@ -33,7 +34,6 @@ use Rattle.archive_entries.specs.Reading.{read_archive, rows_in}
 use Rattle.archive_entries.proofs.Accepted.{required-rows, required-sizes, archive_forth}
 use Rattle.archive_entries.proofs.Limits.{limits-table}
 use Rattle.call_questions.specs.Questions.{asks}
-use Rattle.call_answers.specs.declared.Found.TheVariants as Find
 use Rattle.call_answers.specs.Answers.{stop, bytes}
 use Rattle.call_answers.specs.Calls.{dims, builds, entries_in, looks_up}
 use Rattle.call_answers.specs.Joins.{filed, joins}
@@ -143,12 +143,12 @@ module _ (s : List ℕ) (a : Held) (f : Bytes s) (e : read_archive s ≡ got a [
       pub looked_keeps : falls q x ≡ false → amount_of (looks_up y q) ≡ amount_of (looks_up s q)
       looked_keeps o = told-after ∙ add_keeps q o ∙ sym told-before
 
-      pub looked_no_record : (looks_up y q ≡ Find.NoRecord) ↔ ((looks_up s q ≡ Find.NoRecord) × (falls q x ≡ false))
+      pub looked_no_record : (looks_up y q ≡ Ok None) ↔ ((looks_up s q ≡ Ok None) × (falls q x ≡ false))
       looked_no_record =
           let was = no_record_just_if s a f e q h in
-          let is : (looks_up y q ≡ Find.NoRecord) ↔ (Exists (plain (dims a)) (codes_of rows) q → ⊥) =
-          subst (λ (zs : List ℕ). (looks_up y q ≡ Find.NoRecord) ↔ (Exists (plain (length zs)) (codes_of rows) q → ⊥)) (required-sizes a.sizes rows)
-          (subst (λ (l : List (Row Total)). (looks_up y q ≡ Find.NoRecord) ↔ (Exists (plain (dims after)) (codes_of l) q → ⊥)) (required-rows a.sizes rows) (no_record_just_if y after g add_accepted q fits)) in (
+          let is : (looks_up y q ≡ Ok None) ↔ (Exists (plain (dims a)) (codes_of rows) q → ⊥) =
+          subst (λ (zs : List ℕ). (looks_up y q ≡ Ok None) ↔ (Exists (plain (length zs)) (codes_of rows) q → ⊥)) (required-sizes a.sizes rows)
+          (subst (λ (l : List (Row Total)). (looks_up y q ≡ Ok None) ↔ (Exists (plain (dims after)) (codes_of l) q → ⊥)) (required-rows a.sizes rows) (no_record_just_if y after g add_accepted q fits)) in (
             λ n. (was.1 (λ o. is.0 n ((add_exists q).1 (inl o))), refuted (λ o. is.0 n ((add_exists q).1 (inr o)))),
             λ n. is.1 (λ o. cases ((add_exists q).0 o) (was.0 n.0) (λ h. false≢true (sym n.1 ∙ h))),
           )

@@ -10,3 +10,4 @@ pub mod Late
 pub mod Windows
 pub mod Examples
 pub mod Numbers
+pub mod CheckWords

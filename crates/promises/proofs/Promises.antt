@@ -14,8 +14,11 @@ use mathlib.Core.List.{List, [], ◌++◌, map, flat_map, Permᴰ}
 use Prim.Native.Nat.{ℕ, ◌+◌, ◌*◌, ◌%◌, ◌^◌, ◌<◌, ◌≤◌}
 use lib.ListN.{length, take, drop, length-append, length-map, get_elem?}
 use borrow.Author.Tests.{lt-ltb}
+use Rattle.std.specs.Prelude.{Some, None, Result, Ok}
 use Rattle.lists.specs.Lists.{◌∈◌}
 use Rattle.lists.proofs.Members.{flat-same, flat-map}
+use Rattle.stops.specs.declared.Stop.{Stop}
+use Rattle.stops.proofs.Numbers.{one_numbered}
 use Rattle.fields_check.specs.Check.{check_sum, check_of}
 use Rattle.fields_check.proofs.CheckLaws.{check_sum_append, check_cut}
 use Rattle.lattice.specs.Sets.{sets, holds}
@@ -56,10 +59,6 @@ use Rattle.archive_entries.proofs.Limits.{limits-base}
 use Rattle.call_questions.specs.Questions.{asks}
 use Rattle.call_cuboids.specs.Cuboids.{cuboid_bytes, expansion_bytes, read_cuboid, read_expansion}
 use Rattle.call_cuboids.proofs.Back.{cuboid-back, expansion-back}
-use Rattle.call_answers.specs.declared.Checked.TheVariants as Check
-use Rattle.call_answers.specs.declared.Found.TheVariants as Find
-use Rattle.call_answers.specs.declared.Written.{Written}
-use Rattle.call_answers.specs.declared.Written.TheVariants.{Length}
 use Rattle.call_answers.specs.Answers.{Outcome, bytes, within, answer_of, left_of, Answered}
 use Rattle.call_answers.specs.Calls.{outcome, archived, builds, counted, checks, cuboid_of, lists_cuboid, expanded, expands, entries_in, told, looks_up}
 use Rattle.call_answers.proofs.Answers.{answered-bytes}
@@ -67,7 +66,7 @@ use Rattle.call_answers.proofs.Entries.{entries-required, entries-ours as held-o
 use Rattle.call_answers.proofs.Folded.{table-rows, folded-within}
 use Rattle.promises.specs.Alone.{Alone}
 
-told_none : (r : Answer Total) → told r ≡ Find.NoRecord → r ≡ no_record
+told_none : (r : Answer Total) → told r ≡ Ok None → r ≡ no_record
 told_none no_record h = refl
 told_none (found n u) h = cc h
 
@@ -107,14 +106,14 @@ module _ (s : List ℕ) (a : Held) (b : Bytes s) (e : read_archive s ≡ got a [
     looked = rw (e, k) (ap (λ (l : List (Entry Total)). told (lookup (plain d) q l)) entries-ours)
 
     -- A question gets 'no record' just if the cell does not exist: no base row falls in it, and it is not that of an archive without rows;
-    pub no_record_just_if : (looks_up s q ≡ Find.NoRecord) ↔ (Exists (plain d) (codes_of rows) q → ⊥)
+    pub no_record_just_if : (looks_up s q ≡ Ok None) ↔ (Exists (plain d) (codes_of rows) q → ⊥)
     no_record_just_if =
         let r = no_record_iff sums sums-add d rows rows-base q in
         (λ h. r.0 (told_none (lookup (plain d) q (ours (plain d) sums rows)) (sym looked ∙ h)), λ h. looked ∙ ap told (r.1 h))
 
     -- otherwise the cell's sum and count, and the number of an entry of the archive that stands for it,
     pub cell-answered : Exists (plain d) (codes_of rows) q → (n : ℕ) × (f : Entry Total) × (get_elem? (entries_in a) n ≡ just f) × (q ∈ stands (plain d) f)
-        × (looks_up s q ≡ Find.Cell (total (plain d) sums rows q).sum (total (plain d) sums rows q).count n)
+        × (looks_up s q ≡ Ok (Some (record { sum = (total (plain d) sums rows q).sum; count = (total (plain d) sums rows q).count; entry = n })))
     cell-answered x = let r = answer sums sums-add d rows rows-base q x in (r.0, r.1, ap (λ (l : List (Entry Total)). get_elem? l r.0) entries-ours ∙ r.2, r.3, looked ∙ ap told r.4)
 
     -- and no other entry does.
@@ -134,7 +133,7 @@ module _ (s : List ℕ) (a : Held) (b : Bytes s) (e : read_archive s ≡ got a [
   held-within = (archive_forth s a [] b e).0
 
   -- What `list_cuboid` wrote is the cells of the set, each with its exact sum and count, and nothing else;
-  pub cells-read : {set n : ℕ} {l m : List ℕ} → set < 2 ^ d → Answered (lists_cuboid s set) l m (Length n) → read_cuboid d (take n m) ≡ got (cells (plain d) sums rows set) []
+  pub cells-read : {set n : ℕ} {l m : List ℕ} → set < 2 ^ d → Answered (lists_cuboid s set) l m (Ok n) → read_cuboid d (take n m) ≡ got (cells (plain d) sums rows set) []
   unfolding lists_cuboid
   cells-read {set} {n} {l} {m} h w =
       let x : bytes (cuboid_bytes d rows set) ≡ bytes (take n m) = sym (ap (outcome (cuboid_of set)) e ∙ rw (lt-ltb set (2 ^ d) h)) ∙ answered-bytes w in
@@ -142,7 +141,7 @@ module _ (s : List ℕ) (a : Held) (b : Bytes s) (e : read_archive s ≡ got a [
       ap (read_cuboid d) y ∙ cuboid-back a.sizes rows held-within (sets_of d h)
 
   -- what `expand` wrote is these of every set, in lattice order,
-  pub expansion-read : {n : ℕ} {l m : List ℕ} → Answered (expands s) l m (Length n) → read_expansion d (take n m) ≡ got (map (cells (plain d) sums rows) (sets d)) []
+  pub expansion-read : {n : ℕ} {l m : List ℕ} → Answered (expands s) l m (Ok n) → read_expansion d (take n m) ≡ got (map (cells (plain d) sums rows) (sets d)) []
   unfolding expands
   expansion-read {n} {l} {m} w =
       let x : bytes (expansion_bytes d rows) ≡ bytes (take n m) = sym (ap (outcome expanded) e) ∙ answered-bytes w in
@@ -150,7 +149,7 @@ module _ (s : List ℕ) (a : Held) (b : Bytes s) (e : read_archive s ≡ got a [
       ap (read_expansion d) y ∙ expansion-back a.sizes rows held-within
 
   -- one behind the other the complete cube.
-  pub expansion-whole : {n : ℕ} {l m rest : List ℕ} {all : List (List (Row Total))} → Answered (expands s) l m (Length n) → read_expansion d (take n m) ≡ got all rest
+  pub expansion-whole : {n : ℕ} {l m rest : List ℕ} {all : List (List (Row Total))} → Answered (expands s) l m (Ok n) → read_expansion d (take n m) ≡ got all rest
       → flat_map (λ cs. cs) all ≡ complete (plain d) sums rows
   unfolding complete
   expansion-whole {all = all} w r =
@@ -173,16 +172,16 @@ module _ (s : List ℕ) (a : Held) (b : Bytes s) (e : read_archive s ≡ got a [
 
   -- For a set that holds the set of the cell asked for: the listed cells of it that agree with that cell, added up, give the sum and the count that the question gets.
   pub road-answered : (q : List ℕ) → asks a.sizes q ≡ true → Exists (plain d) (codes_of rows) q → (larger : ℕ) → larger ∈ sets d → holds d larger (set-of q) ≡ true
-      → (n : ℕ) × (looks_up s q ≡ Find.Cell (road (plain d) sums rows larger q).sum (road (plain d) sums rows larger q).count n)
+      → (n : ℕ) × (looks_up s q ≡ Ok (Some (record { sum = (road (plain d) sums rows larger q).sum; count = (road (plain d) sums rows larger q).count; entry = n })))
   road-answered q k x larger j h =
       let c = cell-answered q k x in
       let t : road (plain d) sums rows larger q ≡ total (plain d) sums rows q
       = any_road sums sums-add d rows (λ r m. valid r.codes (Memᴰ.map (λ p. p.codes) m)) (exists_node (plain d) (plain_laws d) (codes_of rows) valid x) (filled (plain d) sums rows q) (listed-cell x) j h in
-      (c.0, c.4 ∙ ap (λ (u : Total). Find.Cell u.sum u.count c.0) (sym t))
+      (c.0, c.4 ∙ ap (λ (u : Total). Ok (Some (record { sum = u.sum; count = u.count; entry = c.0 }))) (sym t))
 
   -- Let two listings be read back, of a set and of one inside it: the cells of the larger that agree with a cell of the smaller, added up, give that cell's sum and count.
   pub roads_read : {larger smaller i j : ℕ} {k l m n : List ℕ} → larger < 2 ^ d → smaller < 2 ^ d → holds d larger smaller ≡ true
-      → Answered (lists_cuboid s larger) k l (Length i) → Answered (lists_cuboid s smaller) m n (Length j)
+      → Answered (lists_cuboid s larger) k l (Ok i) → Answered (lists_cuboid s smaller) m n (Ok j)
       → {cs ds : List (Row Total)} {u v : List ℕ} → read_cuboid d (take i l) ≡ got cs u → read_cuboid d (take j n) ≡ got ds v
       → (r : Row Total) → r ∈ ds → total (plain d) sums cs r.codes ≡ r.total
   roads_read {larger} {smaller} p q h w x {cs} {ds} y z r i =
@@ -213,9 +212,9 @@ module _ (s : List ℕ) (t : Records) (b : Bytes s) (e : read_table s ≡ got t 
   pub built_read : read_archive our_archive ≡ got (required t.sizes (base_rows t)) []
   built_read = archive_back t.sizes (base_rows t) (folded-within t limits)
 
-  pub built_check : checks our_archive ≡ Check.Entries (length (base_rows t)) (length (normals (plain D) (codes_of (base_rows t))))
+  pub built_check : checks our_archive ≡ Ok (record { bases = length (base_rows t); cells = length (normals (plain D) (codes_of (base_rows t))) })
   unfolding checks required
-  built_check = ap counted built_read ∙ ap₂ Check.Entries (length-map (base_rows t) _) (length-map (normals (plain D) (codes_of (base_rows t))) _)
+  built_check = ap counted built_read ∙ ap₂ (λ (m n : ℕ). Ok (record { bases = m; cells = n })) (length-map (base_rows t) _) (length-map (normals (plain D) (codes_of (base_rows t))) _)
 
   -- its cuboids are those of the table's own rows, each cell with the exact sum and count of its rows,
   cuboid_built : (set : ℕ) → cuboid_bytes D (base_rows t) set ≡ cuboid_bytes D t.rows set
@@ -302,9 +301,9 @@ module _ (s u : List ℕ) (t : Records) (b : Bytes s) (e : read_table s ≡ got 
       ap (outcome archived) ys.2 ∙ ap (λ (rows : List (Row Total)). bytes (archive_bytes t.sizes rows)) (base_reordered t ys.1) ∙ sym (ap (outcome archived) e)
 
   -- and so is what `build` returns and leaves, whatever output it is lent.
-  pub rearranged_answered : {l m n : List ℕ} {p q : Written} → Answered (builds s) l m p → Answered (builds u) l n q → (p ≡ q) × (m ≡ n)
+  pub rearranged_answered : {l m n : List ℕ} {p q : Result ℕ Stop} → Answered (builds s) l m p → Answered (builds u) l n q → (p ≡ q) × (m ≡ n)
   rearranged_answered {l} x y = (
-    x.answer ∙ ap (λ (o : Outcome). answer_of (within (length l) o)) (sym rearranged_built) ∙ sym y.answer,
+    one_numbered _ _ (x.answer ∙ ap (λ (o : Outcome). answer_of (within (length l) o)) (sym rearranged_built) ∙ sym y.answer),
     x.output ∙ ap (λ (o : Outcome). left_of (within (length l) o) l) (sym rearranged_built) ∙ sym y.output,
   )
 

@@ -1,17 +1,14 @@
 -- Rows in a flat list, by their places.
 use mathlib.Core.Path.{◌≡◌, refl, sym, ap, ap₂, ◌∙◌}
 use mathlib.Core.List.{List, [], ◌∷◌, ◌++◌}
-use Prim.Native.Nat.{ℕ, zero, suc, ◌+◌, ◌-◌, ◌*◌, ◌^◌, ◌≤◌, ◌<◌}
+use Prim.Native.Nat.{ℕ, zero, suc, ◌+◌, ◌-◌, ◌*◌, ◌≤◌, ◌<◌}
 use native.Mathlib.Nat.{zero-mul, suc-mul, add_comm, add-zero, not-suc-le-zero, le_of_suc-le-suc}
 use native.Mathlib.Numerals.{add-one}
 use native.Mathlib.Omega.{arith}
-use lib.IntN.{ℤ}
-use lib.Signed.{mag}
-use lib.ListN.{length, get_or, take, drop, set, take-append-drop, length-set}
-use lib.Seq.{drop-drop, get_or-take, get_or-drop, get_or-set_same, get_or-set_other, take-set-le, take-take, take_at, drop_at, length-take-le}
+use lib.ListN.{length, get_or, take, drop, take-append-drop}
+use lib.Seq.{drop-drop, get_or-take, get_or-drop, take-take, take_at, drop_at, length-take-le}
 use borrow.Rule.Slice.PartMut.{put_mid}
-use Rattle.fields_sums.specs.Twos.{sum_of, low_of, high_of}
-use Rattle.fields_sums.specs.TwosLaws.{sum-words}
+use Rattle.fields_sums.specs.Twos.{sum_of}
 use Rattle.cube.specs.declared.Total.{Total}
 use Rattle.cube.specs.Measure.{Row, nothing}
 use Rattle.rows.specs.Rows.{width, row_of, cut, row_at, rows_of, row_total}
@@ -126,36 +123,3 @@ pub row-stored : (d k : ℕ) (ws m : List ℕ) → length m ≡ width d → k * 
 row-stored d k ws m e h =
     let w : k * width d + width d - k * width d ≡ width d = omega arith in
     rw (w, add-one) (rows_put d k ws m e h)
-
--- A total written behind the d codes of a row.
-module _ (d : ℕ) (l : List ℕ) (z : ℤ) (n : ℕ) (e : length l ≡ width d) where
-  abbrev low : List ℕ
-  low = set l d (low_of z)
-
-  abbrev high : List ℕ
-  high = set low (d + 1) (high_of z)
-
-  abbrev written : List ℕ
-  written = set high (d + 2) n
-
-  codes_kept : take d written ≡ take d l
-  codes_kept =
-      take-set-le d high (d + 2) n (omega arith) ∙ take-set-le d low (d + 1) (high_of z) (omega arith) ∙ take-set-le d l d (low_of z) (omega arith)
-
-  low_there : get_or (drop d written) 0 0 ≡ low_of z
-  low_there =
-      get_or-drop d written 0 0 ∙ ap (λ (k : ℕ). get_or written k 0) (add-zero d)
-      ∙ get_or-set_other high (d + 2) d n 0 (λ g. omega (arith, g)) ∙ get_or-set_other low (d + 1) d (high_of z) 0 (λ g. omega (arith, g)) ∙ get_or-set_same l d (low_of z) 0 (omega (arith, e))
-
-  high_there : get_or (drop d written) 1 0 ≡ high_of z
-  high_there =
-      get_or-drop d written 1 0 ∙ get_or-set_other high (d + 2) (d + 1) n 0 (λ g. omega (arith, g))
-      ∙ get_or-set_same low (d + 1) (high_of z) 0 (simp length-set (omega (arith, e)))
-
-  count_there : get_or (drop d written) 2 0 ≡ n
-  count_there = get_or-drop d written 2 0 ∙ get_or-set_same high (d + 2) n 0 (simp length-set (omega (arith, e)))
-
-  pub total_put : mag z < 2 ^ 63 → row_of d written ≡ record { codes = take d l; total = record { sum = z; count = n } }
-  total_put h =
-      let s = ap₂ sum_of low_there high_there ∙ sum-words z h in
-      λ j. record { codes = codes_kept j; total = record { sum = s j; count = count_there j } }

@@ -37,8 +37,8 @@ pub fn add_rows(rows: &[u32], words: &mut [u32])
     requires { Names rows.now 1024 × (length words.old ≡ 32) }
     ensures { (length words.new ≡ 32) × ((x : ℕ) → has_row words.new x ≡ some (eqb x) rows.now || has_row words.old x) }
 {
-    for i in 0..rows.len() {
-        rows_bits::add(words, rows[i]);
+    for &row in rows {
+        rows_bits::add(words, row);
     }
 }
 
@@ -48,7 +48,6 @@ pub fn put_words(words: &[u32], set: usize, alone: &mut [u32])
     ensures { Stored words.now alone.old alone.new set }
 {
     let from = set * 32;
-    for i in 0..32 {
-        alone[from + i] = words[i];
-    }
+    let to = from + 32;
+    alone[from..to].copy_from_slice(words);
 }

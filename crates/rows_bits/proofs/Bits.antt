@@ -2,19 +2,21 @@
 use mathlib.Core.Path.{◌≡◌, refl, sym, ap, ap₂, ◌∙◌}
 use mathlib.Core.Logic.{◌≢◌}
 use mathlib.Core.Bool.{Bool, true, false, ◌&&◌, ◌||◌}
+use Rattle.std.proofs.Math.Bool.{and-true, and_assoc}
 use mathlib.Core.List.{List, [], ◌∷◌}
 use Prim.Native.Nat.{ℕ, zero, suc, ◌+◌, ◌*◌, ◌/◌, ◌%◌, ◌^◌, ◌≤◌, ◌<◌, max}
 use native.Mathlib.Nat.{pow-suc, div-eq_of_lt, zero-div, one-mul}
-use native.Mathlib.Numerals.{add-one}
 use native.Mathlib.Omega.{arith}
+use Rattle.std.proofs.lemmas.Nat.{or_comm}
 use lib.Bits.{bit_or, or_shr, or_step, or_add_and, and_le_r}
 use lib.Dec.{eqb, ltb, eqb-suc-suc}
-use lib.ListN.{length, get_or, set, take, length-set, get_or-eq_default}
+use lib.ListN.{length, get_or, set, length-set, get_or-eq_default}
 use lib.Pow.{pow_pos, shl_exact, shr-shr}
-use lib.Seq.{take-suc, take_all, get_or-set_same, get_or-set_other}
+use lib.Seq.{get_or-set_same, get_or-set_other}
 use borrow.Author.Tests.{eq-eqb, ne_eqb, eqb-true, eqb-false, ltb-true, ltb-false}
+use Rattle.std.specs.List.{fold}
 use Rattle.lists.specs.Lists.{every}
-use Rattle.lists.proofs.Tests.{cases, truth, both, every_append}
+use Rattle.lists.proofs.Tests.{cases, truth, both}
 use Rattle.rows_bits.specs.Rowsets.{has, empty}
 
 -- bit i of a word
@@ -56,7 +58,7 @@ has-none words h x = has_word words x (h (x / 32)) ∙ rw (zero-div (2 ^ (x % 32
 
 module _ (words : List ℕ) (row : ℕ) (size : length words ≡ 32) (h : row < 1024) where
   abbrev word : ℕ
-  word = bit_or (1 * 2 ^ (row % 32) % 2 ^ 32) (get_or words (row / 32) 0)
+  word = bit_or (get_or words (row / 32) 0) (1 * 2 ^ (row % 32) % 2 ^ 32)
 
   one : 1 * 2 ^ (row % 32) % 2 ^ 32 ≡ 2 ^ (row % 32)
   one = shl_exact {a = 1} 1 (row % 32) 32 (omega arith) (omega arith) ∙ one-mul (2 ^ (row % 32))
@@ -71,6 +73,7 @@ module _ (words : List ℕ) (row : ℕ) (size : length words ≡ 32) (h : row < 
   has_more x = cases (truth (eqb (x / 32) (row / 32)))
       (λ t. let e = eqb-true (x / 32) (row / 32) t in
       has_word (set words (row / 32) word) x (ap (λ (i : ℕ). get_or (set words (row / 32) word) i 0) e ∙ get_or-set_same words (row / 32) word 0 (omega (arith, size, h)))
+      ∙ ap (λ (w : ℕ). bit w (x % 32)) (or_comm (get_or words (row / 32) 0) (1 * 2 ^ (row % 32) % 2 ^ 32))
       ∙ bit-or (1 * 2 ^ (row % 32) % 2 ^ 32) (get_or words (row / 32) 0) (x % 32)
       ∙ ap₂ ◌||◌ (same_word x e) (sym (has_word words x (ap (λ (i : ℕ). get_or words i 0) e))))
       (λ t. let n = eqb-false (x / 32) (row / 32) t in
@@ -111,14 +114,19 @@ module _ {words others : List ℕ} (size : length words ≡ 32) where
         get_or-eq_default l 0 (omega (arith, j.size, m)) ∙ sym (ap₂ bit_or (get_or-eq_default words 0 (omega (arith, size, m))) (get_or-eq_default others 0 (omega (arith, rest, m))))) in
         has_word l x word ∙ bit-or (get_or words k 0) (get_or others k 0) (x % 32) ∙ sym (ap₂ ◌||◌ (has_word words x refl) (has_word others x refl))
 
--- ---- no row: a word with the bits of all words before place i
+-- ---- no row: a word with the bits of all words
 
-or-none : (v w : ℕ) → eqb (bit_or v w) 0 ≡ eqb v 0 && (eqb 0 w && true)
+or-none : (v w : ℕ) → eqb (bit_or v w) 0 ≡ eqb v 0 && eqb 0 w
 or-none zero zero = refl
-or-none zero (suc w) = ne_eqb (suc w) 0 (λ e. omega (arith, e)) ∙ sym (ap (λ (b : Bool). b && true) (ne_eqb 0 (suc w) (λ e. omega (arith, e))))
+or-none zero (suc w) = ne_eqb (suc w) 0 (λ e. omega (arith, e)) ∙ sym (ne_eqb 0 (suc w) (λ e. omega (arith, e)))
 or-none (suc v) w =
     ne_eqb (bit_or (suc v) w) 0 (λ e. omega (arith, e, or_add_and (suc v) w, and_le_r (suc v) w))
-    ∙ sym (ap (λ (b : Bool). b && (eqb 0 w && true)) (ne_eqb (suc v) 0 (λ e. omega (arith, e))))
+    ∙ sym (ap (λ (b : Bool). b && eqb 0 w) (ne_eqb (suc v) 0 (λ e. omega (arith, e))))
+
+fold-none : (v : ℕ) (words : List ℕ) → eqb (fold bit_or v words) 0 ≡ eqb v 0 && every (eqb 0) words
+fold-none v [] = sym (and-true (eqb v 0))
+fold-none v (w ∷ words) =
+    fold-none (bit_or v w) words ∙ ap (λ (b : Bool). b && every (eqb 0) words) (or-none v w) ∙ and_assoc (eqb v 0) (eqb 0 w) (every (eqb 0) words)
 
 words_zero : (words : List ℕ) → every (eqb 0) words ≡ true → (i : ℕ) → get_or words i 0 ≡ 0
 words_zero [] e i = refl
@@ -126,20 +134,9 @@ words_zero (w ∷ words) e zero = sym (eqb-true 0 w (both (eqb 0 w) (every (eqb 
 words_zero (w ∷ words) e (suc i) = words_zero words (both (eqb 0 w) (every (eqb 0) words) e).1 i
 
 module _ (words : List ℕ) where
-  pub empty-start : eqb 0 0 ≡ empty (take 0 words)
+  pub empty-fold : eqb (fold bit_or 0 words) 0 ≡ empty words
   unfolding empty
-  empty-start = refl
-
-  pub empty-more : (any i : ℕ) → i < length words → eqb any 0 ≡ empty (take i words) → eqb (bit_or any (get_or words i 0)) 0 ≡ empty (take (i + 1) words)
-  unfolding empty
-  empty-more any i h e =
-      let w = get_or words i 0 in
-      or-none any w
-      ∙ ap (λ (b : Bool). b && (eqb 0 w && true)) e
-      ∙ sym (ap (λ (k : ℕ). every (eqb 0) (take k words)) (add-one i) ∙ ap (every (eqb 0)) (take-suc words i 0 h) ∙ every_append (eqb 0) (take i words) (w ∷ []))
-
-  pub empty-done : (any i : ℕ) → length words ≤ i → eqb any 0 ≡ empty (take i words) → eqb any 0 ≡ empty words
-  empty-done any i h e = e ∙ ap empty (take_all i words h)
+  empty-fold = fold-none 0 words
 
   pub empty-none : empty words ≡ true → (x : ℕ) → has words x ≡ false
   unfolding empty

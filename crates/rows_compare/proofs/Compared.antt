@@ -3,7 +3,6 @@ use mathlib.Core.Path.{◌≡◌, refl, sym, ap, ◌∙◌}
 use mathlib.Core.Bool.{true}
 use mathlib.Core.List.{List}
 use Prim.Native.Nat.{ℕ, suc, ◌+◌, ◌/◌, ◌%◌, ◌≤◌, ◌<◌}
-use native.Mathlib.Nat.{zero-add}
 use native.Mathlib.Numerals.{add-one}
 use native.Mathlib.Omega.{arith}
 use lib.ListN.{length, get_or, drop, drop_of_length-le}
@@ -25,12 +24,6 @@ further_next : (k : ℕ) (p : Order) → further (suc k) p ≡ further k (next p
 further_next k (Before i) = let e : suc k + i ≡ k + suc i = omega arith in ap Before e
 further_next k Equal = refl
 further_next k (After i) = let e : suc k + i ≡ k + suc i = omega arith in ap After e
-
--- at the start all dimensions are left
-pub further_none : (p : Order) → further 0 p ≡ p
-further_none (Before i) = ap Before (zero-add i)
-further_none Equal = refl
-further_none (After i) = ap After (zero-add i)
 
 pub alike_in : (n a b : ℕ) → n % 2 ≡ 1 → a ≡ b → alike (n % 2) a b ≡ true
 alike_in n a b h e = rw h (eq-eqb a b e)

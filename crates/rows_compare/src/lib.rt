@@ -6,9 +6,10 @@ ghost use Rattle.lists.specs.Lists.{Distinct};
 ghost use Rattle.cube.specs.Codes.{plain};
 ghost use Rattle.cube.specs.Condensed.{single};
 ghost use Rattle.rows.specs.Rows.{width, cut, row_at};
-ghost use Rattle.rows_compare.specs.Compare.{compared};
+ghost use Rattle.rows_compare.specs.Compare.{compared, is_before, is_equal};
 
 // Whether no other row agrees with `row` on a set: the first other row that agrees settles it.
+// Nested loops, left by label: the form that document 01 names.
 pub fn is_single(rows: &[u32], n: usize, dims: usize, row: usize, set: u32) -> bool
     requires { (n * width dims ≡ length rows.now) × (row < n) × Distinct (cut dims n rows.now) }
     ensures { result ≡ single (plain dims) (cut dims n rows.now) set (row_at (cut dims n rows.now) row) }
@@ -25,7 +26,7 @@ pub fn is_single(rows: &[u32], n: usize, dims: usize, row: usize, set: u32) -> b
             if rest % 2 == 1 && mine[d] != other[d] {
                 continue 'rows;
             }
-            rest = rest / 2;
+            rest /= 2;
         }
         alone = false;
         break 'rows;
@@ -41,7 +42,24 @@ pub enum Order {
     After(usize),
 }
 
+impl Order {
+    // Whether the first of the two rows comes before the second.
+    pub fn is_before(self) -> bool
+        ensures { result ≡ is_before self }
+    {
+        matches!(self, Order::Before(_))
+    }
+
+    // Whether the two rows agree.
+    pub fn is_equal(self) -> bool
+        ensures { result ≡ is_equal self }
+    {
+        matches!(self, Order::Equal)
+    }
+}
+
 // The order of two rows under a set: the first dimension of the set at which they differ decides, and is named.
+// By index and `<`: zip would test two lengths at each dimension, and cmp form an answer before the branch.
 pub fn compare(mine: &[u32], other: &[u32], set: u32) -> Order
     requires { length mine.now ≡ length other.now }
     ensures { result ≡ compared set mine.now other.now }
@@ -58,7 +76,7 @@ pub fn compare(mine: &[u32], other: &[u32], set: u32) -> Order
                 return Order::After(d + 1);
             }
         }
-        rest = rest / 2;
+        rest /= 2;
     }
     Order::Equal
 }

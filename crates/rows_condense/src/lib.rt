@@ -15,6 +15,7 @@ ghost use Rattle.rows_lists.specs.Lists.{lists_of, Short, Fit, noted, our_lists}
 ghost use Rattle.rows_alone.specs.Alone.{is_new, Lower, Told};
 
 // One set more: its slot is filled, and it is put behind the lists of the rows that come out alone there and on no smaller set. Returns how many cells of it rows share. Thirteen parameters: the rows, their lists, and work arrays that are lent once a call.
+#[tactic(auto, using(rows_crowds::proofs::Filling::below_all))]
 fn list_set(
     rows: &[u32],
     n: usize,

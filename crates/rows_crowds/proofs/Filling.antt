@@ -1,15 +1,16 @@
 -- A slot is filled from another one.
-use mathlib.Core.Path.{◌≡◌, sym, ap, ap₂, subst, ◌∙◌}
+use mathlib.Core.Path.{◌≡◌, refl, sym, ap, ap₂, subst, ◌∙◌}
 use mathlib.Core.Bool.{Bool, true, not}
 use mathlib.Core.List.{List, [], ◌∷◌, ◌++◌, map}
 use Prim.Native.Nat.{ℕ, ◌+◌, ◌*◌, ◌^◌, ◌≤◌, ◌<◌}
 use native.Mathlib.Omega.{arith}
-use native.Mathlib.Numerals.{add-one}
 use lib.Dec.{ltb}
 use lib.Pow.{pow_mono}
-use lib.ListN.{length, get_or, take, drop, set, drop_of_length-le, replicate, length-replicate, get_or-replicate, get_or-eq_default}
-use lib.Seq.{get_or-set_same, get_or-set_other, drop-cons}
+use lib.ListN.{length, get_or, take, drop, set, replicate, length-replicate, get_or-replicate, get_or-eq_default}
+use lib.Seq.{get_or-set_same, get_or-set_other}
 use borrow.Author.Tests.{ltb-true, ltb-false}
+use Rattle.std.specs.List.{sum_by}
+use Rattle.std.proofs.lemmas.List.Sums.{sum_by-cons}
 use Rattle.lists.specs.Lists.{◌∈◌, keep}
 use Rattle.lists.specs.Order.{same}
 use Rattle.lists.proofs.Tests.{cases, truth}
@@ -111,11 +112,9 @@ module _ (least d n : ℕ) (ws store sizes p : List ℕ) (s a k len : ℕ) (few 
 
 -- ---- groups counted
 
-pub ends_next : (l : List ℕ) (i : ℕ) → i < length l → ends (drop i l) ≡ end_in (get_or l i 0) + ends (drop (i + 1) l)
-ends_next l i h = rw (add-one, drop-cons l i 0 h)
-
-pub ends-done : (l : List ℕ) (i : ℕ) → length l ≤ i → ends (drop i l) ≡ 0
-ends-done l i h = rw (drop_of_length-le l h)
+pub ends_sum : (l : List ℕ) → sum_by end_in l ≡ ends l
+ends_sum [] = refl
+ends_sum (e ∷ l) = sum_by-cons end_in e l ∙ ap (λ (k : ℕ). end_in e + k) (ends_sum l)
 
 -- ---- no row is passed over
 

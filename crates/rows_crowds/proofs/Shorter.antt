@@ -6,7 +6,7 @@ use mathlib.Core.List.{List, [], ◌∷◌, ◌++◌}
 use Prim.Native.Nat.{ℕ, zero, suc, ◌+◌, ◌*◌, ◌/◌, ◌%◌, ◌^◌, ◌≤◌, ◌<◌}
 use native.Mathlib.Nat.{pow-suc}
 use native.Mathlib.Omega.{arith}
-use lib.Count.{count_leading_zeros, leading_top, ones, ones_step, ones-ones, ones_cat}
+use lib.Count.{leading_top, ones, ones_step, ones-ones, ones_cat}
 use lib.Dec.{ltb}
 use lib.Pow.{pow_mono, pow_pos}
 use borrow.Author.Tests.{le-leb, ltb-true, ltb-false}
@@ -48,8 +48,13 @@ module _ (s : ℕ) (h : 1 ≤ s) (small : s < 256) where
       let e : t.0 ≡ place s = omega (arith, t.1) in
       subst (λ (j : ℕ). (2 ^ j ≤ s) × (s < 2 ^ suc j)) e (t.2, t.3)
 
-  pub shorter_zeros : count_leading_zeros 32 s ≤ 31
-  shorter_zeros = omega (arith, (leading_top 32 s h wide).1)
+  -- no other power of two is next below
+  pub place_log : (k : ℕ) → 2 ^ k ≤ s → s < 2 * 2 ^ k → k ≡ place s
+  place_log k low high = cases (truth (ltb k (place s)))
+      (λ t. absurd (omega (arith, top.0, high, pow-suc 2 k, pow_mono {i = suc k} {j = place s} (ltb-true k (place s) t))))
+      (λ t. cases (truth (ltb (place s) k))
+      (λ u. absurd (omega (arith, top.1, low, pow_mono {i = suc (place s)} {j = k} (ltb-true (place s) k u))))
+      (λ u. omega (arith, ltb-false k (place s) t, ltb-false (place s) k u)))
 
   pub shorter_power : 2 ^ place s ≤ s
   shorter_power = top.0

@@ -13,7 +13,7 @@ use lib.Seq.{drop-cons, drop-drop, get_or-drop, get_or-set_same, get_or-set_othe
 use borrow.Author.Tests.{eqb-true, eqb-false, ltb-true, ltb-false}
 use Rattle.lists.specs.Lists.{some}
 use Rattle.lists.proofs.Tests.{cases, truth}
-use Rattle.rows_lists.specs.Lists.{lists_of, Short, Empty}
+use Rattle.rows_lists.specs.Lists.{lists_of, Short}
 
 -- ---- a test, from a place on
 
@@ -46,13 +46,6 @@ pub list_length : (n i : ℕ) (ls : List ℕ) → i < n → n * 71 ≤ length ls
 list_length n i ls h k f = rw (lists_at n i ls h)
     (length-take-le (get_or ls (i * 71) 0) (drop (i * 71 + 1) ls) (rw length-drop (omega (arith, f i h))))
 
--- ---- lists made empty, one after the other
-
-pub empty-more : (ls : List ℕ) (i : ℕ) → i * 71 < length ls → Empty i ls → Empty (i + 1) (set ls (i * 71) 0)
-empty-more ls i h f k m = cases (truth (eqb k i))
-    (λ q. rw (eqb-true k i q) (get_or-set_same ls (i * 71) 0 0 h))
-    (λ q. let n : k ≢ i = eqb-false k i q in get_or-set_other ls (i * 71) (k * 71) 0 0 (λ e. omega (arith, n, e)) ∙ f k (omega arith))
-
 -- ---- a set put behind the list of a row
 
 -- a part that a place is not in
@@ -81,11 +74,6 @@ module _ (n row s : ℕ) (ls : List ℕ) (room : n * 71 ≤ length ls) (h : row 
   size-other i q =
       get_or-set_other written (row * 71) (i * 71) (get_or ls (row * 71) 0 + 1) 0 (λ e. omega (arith, q, e))
       ∙ get_or-set_other ls place (i * 71) s 0 (λ e. omega (arith, q, k, e))
-
-  pub short_put : Short n longer
-  short_put i l = cases (truth (eqb i row))
-      (λ q. rw (eqb-true i row q, size-here) (omega (arith, k)))
-      (λ q. rw (size-other i (eqb-false i row q)) (f i l))
 
   -- its own list has the set behind it
   put_here : take (get_or longer (row * 71) 0) (drop (row * 71 + 1) longer) ≡ take (get_or ls (row * 71) 0) (drop (row * 71 + 1) ls) ++ s ∷ []

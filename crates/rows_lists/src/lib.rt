@@ -6,13 +6,14 @@ ghost use Rattle.rows_deals.specs.Deals.{Names};
 ghost use Rattle.rows_lists.specs.Lists.{lists_of, Short, Empty, Fit, noted};
 
 // The list of a row.
+#[tactic(auto, using(crate::proofs::Lists::lists_at))]
 pub fn list_of(lists: &[u8], n: usize, row: usize) -> &[u8]
     requires { (n * 71 ≤ length lists.now) × (row < n) × Short n lists.now }
     ensures { result.now ≡ get_or (lists_of n lists.now) row [] }
 {
     let at = row * 71;
     let from = at + 1;
-    let to = from + lists[at] as usize;
+    let to = from + usize::from(lists[at]);
     &lists[from..to]
 }
 
@@ -24,7 +25,7 @@ fn note_at(lists: &mut [u8], n: usize, row: usize, set: u8)
 {
     let at = row * 71;
     let len = lists[at];
-    lists[at + 1 + len as usize] = set;
+    lists[at + 1 + usize::from(len)] = set;
     lists[at] = len + 1;
 }
 
@@ -35,8 +36,8 @@ pub fn note_lone(lone: &[u32], set: u8, lists: &mut [u8], n: usize)
     ensures lists_after { lists_of n lists.new ≡ noted set lone.now (lists_of n lists.old) }
     ensures short { Short n lists.new }
 {
-    for i in 0..lone.len() {
-        note_at(lists, n, lone[i] as usize, set);
+    for &row in lone {
+        note_at(lists, n, row as usize, set);
     }
 }
 

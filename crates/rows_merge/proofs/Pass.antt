@@ -1,4 +1,5 @@
 -- One row of the pass, in flat lists: the row that is stored behind those done is the next one of the merge.
+use Rattle.std.specs.Prelude.{Some, None}
 use mathlib.Core.Path.{◌≡◌, refl, sym, ap, subst, ◌∙◌}
 use mathlib.Core.List.{List, [], ◌∷◌, ◌++◌}
 use Prim.Native.Nat.{ℕ, suc, ◌+◌, ◌*◌, ◌≤◌, ◌<◌}
@@ -109,19 +110,16 @@ module _ {d n : ℕ} {ws : List ℕ} {m : ℕ} {ws' : List ℕ} (p : Pair d n ws
   pub passed_start : Passed d n ws m ws' 0 0 []
   passed_start = record { of_one = omega arith; of_other = omega arith; merging = merging_start sums first second }
 
-  module _ {i j k : ℕ} {cells : List ℕ} (g : Passed d n ws m ws' i j (rows_of d k cells)) where
+  module _ {i j k : ℕ} (cells : List ℕ) (g : Passed d n ws m ws' i j (rows_of d k cells)) where
     -- a full store with a row left
-    pub passed_over : k ≡ 1024 → i + j < n + m → Collected 1024 (merged sums first second) d 1025 cells
+    pub passed_over : k ≡ 1024 → i + j < n + m → Collected 1024 (merged sums first second) d None cells
     passed_over e h =
         let l = merging_longer sums first second (rows_of d k cells) (drop i first) (drop j second) g.merging in
-        record {
-          fits = λ f. absurd (omega (arith, f));
-          more = λ f. omega (arith, l.0, l.1, e, h, rows-length d k cells, length-drop i first, length-drop j second, rows-length d n ws, rows-length d m ws');
-        }
+        omega (arith, l.0, l.1, e, h, rows-length d k cells, length-drop i first, length-drop j second, rows-length d n ws, rows-length d m ws')
 
     -- both lists at their ends
-    pub passed_done : k ≤ 1024 → n + m ≤ i + j → Collected 1024 (merged sums first second) d k cells
+    pub passed_done : k ≤ 1024 → n + m ≤ i + j → Collected 1024 (merged sums first second) d (Some k) cells
     passed_done h e =
         let x : length first ≤ i = omega (arith, e, g.of_one, g.of_other, rows-length d n ws) in
         let y : length second ≤ j = omega (arith, e, g.of_one, g.of_other, rows-length d m ws') in
-        record { fits = λ f. merging-done sums first second (rows_of d k cells) (rw (drop_of_length-le first x, drop_of_length-le second y) at g.merging); more = λ f. absurd (omega (arith, f, h)) }
+        (h, merging-done sums first second (rows_of d k cells) (rw (drop_of_length-le first x, drop_of_length-le second y) at g.merging))

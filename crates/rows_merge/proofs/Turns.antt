@@ -1,4 +1,7 @@
 -- One row of the merge: whose turn it is says what comes first of what is left.
+use Rattle.std.proofs.Common.{Ordering}
+use Rattle.std.specs.Ordering.{nat_cmp, is_lt, is_eq}
+use Rattle.std.specs.Cmp.Lexicographic.{slice_cmp}
 use mathlib.Core.Path.{◌≡◌, refl, sym, ap, ap₂, ◌∙◌}
 use mathlib.Core.Bool.{Bool, true, false, false≢true}
 use mathlib.Core.List.{List, [], ◌∷◌, ◌++◌}
@@ -13,11 +16,11 @@ use Rattle.lists.specs.Order.{earlier, same}
 use Rattle.lists.proofs.Tests.{cases, truth, refuted}
 use Rattle.lists.proofs.Order.{by_codes, same-eq, same_refl}
 use Rattle.cube.specs.Measure.{Measure, Row, codes_of}
-use Rattle.cube.proofs.Codes.{cell-wide, agree_same}
 use Rattle.rows_compare.specs.declared.Order.{Order}
-use Rattle.rows_compare.specs.Compare.{compared, is_before, is_equal}
+use Rattle.rows_compare.specs.Compare.{compared, is_equal}
 use Rattle.rows_compare.proofs.Parting.{compared-agree}
-use Rattle.archive_entries.proofs.After.{earlier-compared}
+use Rattle.archive_entries.proofs.After.{earlier_cmp, same_cmp}
+use Rattle.cube.proofs.Codes.{cell-wide, agree_same}
 use Rattle.rows_merge.specs.declared.Turn.{Turn}
 use Rattle.rows_merge.specs.declared.Turn.TheVariants.{First, Second, Both}
 use Rattle.rows_merge.specs.United.{as_one, merged, Merging}
@@ -39,14 +42,15 @@ module _ (xs ys : List (List ℕ)) (i j : ℕ) where
   unfolding turn
   turn-codes h k = rw (drop-cons xs i [], drop-cons ys j [])
 
--- by a comparison of up to eight codes
+-- up to eight codes that a comparison finds equal
 pub same-compared : (x y : List ℕ) {o : Order} → length x ≤ 8 → length y ≤ 8 → o ≡ compared 255 x y → same x y ≡ is_equal o
 same-compared x y h k e = ap₂ same (sym (cell-wide 8 x h)) (sym (cell-wide 8 y k)) ∙ sym (ap is_equal e ∙ compared-agree 255 x y ∙ agree_same 255 x y)
 
-pub turn-compared : (xs ys : List (List ℕ)) (i j : ℕ) {x y : List ℕ} {o : Order} → i < length xs → j < length ys → x ≡ get_or xs i [] → y ≡ get_or ys j []
-    → length x ≤ 8 → length y ≤ 8 → o ≡ compared 255 x y → turn (drop i xs) (drop j ys) ≡ turn_by (is_before o) (is_equal o)
-turn-compared xs ys i j {x} {y} h k p q m n e =
-    turn-codes xs ys i j h k ∙ ap₂ (λ (v w : List ℕ). turn_by (earlier v w) (same v w)) (sym p) (sym q) ∙ ap₂ turn_by (earlier-compared x y m n e) (same-compared x y m n e)
+-- by a comparison of the codes
+pub turn-compared : (xs ys : List (List ℕ)) (i j : ℕ) {x y : List ℕ} {o : Ordering} → i < length xs → j < length ys → x ≡ get_or xs i [] → y ≡ get_or ys j []
+    → o ≡ slice_cmp nat_cmp x y → turn (drop i xs) (drop j ys) ≡ turn_by (is_lt o) (is_eq o)
+turn-compared xs ys i j {x} {y} {o} h k p q e =
+    turn-codes xs ys i j h k ∙ ap₂ (λ (v w : List ℕ). turn_by (earlier v w) (same v w)) (sym p) (sym q) ∙ sym (ap₂ turn_by (earlier_cmp x y o e) (same_cmp x y o e))
 
 -- ---- what the turn says of the merge
 

@@ -2,8 +2,8 @@
 --
 --   Pair ..             two lists of n and m base rows, of d codes each, whose counts are not too many together
 --   Passed .. i j done  the pass has made the rows `done` of the first i rows of one list and the first j of the other
---   Collected room rows .. a store for `room` rows has all n of them; or n is more, and so are they
-use Rattle.std.specs.Prelude.{◌≡◌, List, ℕ, ◌+◌, ◌≤◌, ◌<◌, length, drop}
+--   Collected room rows .. a store for `room` rows has all n of them; or none is said, and they are more
+use Rattle.std.specs.Prelude.{◌≡◌, List, ℕ, ◌+◌, ◌≤◌, ◌<◌, length, drop, Option, Some, None}
 use Rattle.cube.specs.declared.Total.{Total}
 use Rattle.cube.specs.Measure.{Row, sums}
 use Rattle.cube.specs.Bounds.{most, count_of}
@@ -28,6 +28,6 @@ module _ (d n : ℕ) (ws : List ℕ) (m : ℕ) (ws' : List ℕ) where
     pub of_other : j ≤ m
     pub merging : Merging sums first second done (drop i first) (drop j second)
 
-pub record Collected (room : ℕ) (rows : List (Row Total)) (d n : ℕ) (ws : List ℕ) : Type 0 where
-  pub fits : n ≤ room → rows_of d n ws ≡ rows
-  pub more : room < n → room < length rows
+abbrev pub Collected : ℕ → List (Row Total) → ℕ → Option ℕ → List ℕ → Type 0
+Collected room rows d (Some n) ws = (n ≤ room) × (rows_of d n ws ≡ rows)
+Collected room rows d None ws = room < length rows

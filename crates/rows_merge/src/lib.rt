@@ -9,7 +9,10 @@ ghost use Rattle.rows_merge.specs.United.{merged};
 ghost use Rattle.rows_merge.specs.Turns.{turn};
 ghost use Rattle.rows_merge.specs.Pass.{Pair, Passed, Collected};
 
-use rows_compare::Order;
+use std::cmp::Ordering;
+
+// How many rows an archive has room for.
+const MOST_ROWS: usize = 1024;
 
 // Whose row comes next: the first list's, the second's, or one of each with equal codes.
 #[derive(Clone, Copy)]
@@ -36,7 +39,7 @@ fn next_turn(
     i: usize,
     j: usize,
 ) -> Turn
-    requires { (n * width dims ≡ length first.now) × (m * width dims ≡ length second.now) × (dims ≤ 8) × (i ≤ n) × (j ≤ m) }
+    requires { (n * width dims ≡ length first.now) × (m * width dims ≡ length second.now) × (i ≤ n) × (j ≤ m) }
     ensures { result ≡ turn (drop i (cut dims n first.now)) (drop j (cut dims m second.now)) }
 {
     if i == n {
@@ -47,31 +50,32 @@ fn next_turn(
     }
     let mine = rows::row_of(first, n, dims, i);
     let other = rows::row_of(second, m, dims, j);
-    match rows_compare::compare(mine, other, 255) {
-        Order::Before(_) => Turn::First,
-        Order::Equal => Turn::Both,
-        Order::After(_) => Turn::Second,
+    match mine.cmp(&other) {
+        Ordering::Less => Turn::First,
+        Ordering::Equal => Turn::Both,
+        Ordering::Greater => Turn::Second,
     }
 }
 
-// One row of the merge: the next one of both lists, n rows and m rows, from their rows i and j on, as row k of the array that is lent. Nine parameters: three lists with their places.
+// One row of the merge: the next one of both lists, n rows and m rows, behind those that are done, as row k of the array that is lent. Eight parameters: three lists with their places.
 fn merge_row(
     rows1: &[u32],
     n: usize,
     rows2: &[u32],
     m: usize,
     dims: usize,
-    i: usize,
-    j: usize,
+    done: Places,
     rows: &mut [u32],
     k: usize,
 ) -> Places
-    requires pair { Pair dims n rows1.now m rows2.now × (i + j < n + m) }
+    requires pair { Pair dims n rows1.now m rows2.now × (done.first + done.second < n + m) }
     requires in_bounds { (11264 ≤ length rows.old) × (k < 1024) }
-    requires passed { Passed dims n rows1.now m rows2.now i j (rows_of dims k rows.old) }
+    requires passed { Passed dims n rows1.now m rows2.now done.first done.second (rows_of dims k rows.old) }
     ensures passed_2 { Passed dims n rows1.now m rows2.now result.first result.second (rows_of dims (k + 1) rows.new) }
-    ensures j_bound { i + j < result.first + result.second }
+    ensures j_bound { done.first + done.second < result.first + result.second }
 {
+    let i = done.first;
+    let j = done.second;
     match next_turn(rows1, rows2, n, m, dims, i, j) {
         Turn::First => {
             let row = rows::row_of(rows1, n, dims, i);
@@ -105,7 +109,7 @@ fn merge_row(
     }
 }
 
-// Merges two lists of base rows, n rows and m rows, into the array that is lent. Returns how many rows there are; more than 1,024 if there is no room for all.
+// Merges two lists of base rows, n rows and m rows, into the array that is lent. Returns how many rows there are; none if there is no room for all, which are more than 1,024 then.
 pub fn merge_rows(
     rows1: &[u32],
     n: usize,
@@ -113,23 +117,23 @@ pub fn merge_rows(
     m: usize,
     dims: usize,
     rows: &mut [u32],
-) -> usize
+) -> Option<usize>
     requires { Pair dims n rows1.now m rows2.now × (11264 ≤ length rows.old) }
     ensures { Collected 1024 (merged totals (rows_of dims n rows1.now) (rows_of dims m rows2.now)) dims result rows.new }
 {
-    let mut i = 0;
-    let mut j = 0;
+    let mut done = Places {
+        first: 0,
+        second: 0,
+    };
     let mut k = 0;
-    while i + j < n + m {
-        if k == 1024 {
-            return 1025;
+    while done.first + done.second < n + m {
+        if k == MOST_ROWS {
+            return None;
         }
-        let next = merge_row(rows1, n, rows2, m, dims, i, j, rows, k);
-        i = next.first;
-        j = next.second;
+        done = merge_row(rows1, n, rows2, m, dims, done, rows, k);
         k += 1;
     }
-    k
+    Some(k)
 }
 
 // How many readings rows have.

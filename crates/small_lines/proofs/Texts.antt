@@ -23,6 +23,9 @@ pub gap_is : (n : ℕ) → gap n ≡ (32 ∷ []) ++ decimal n
 unfolding gap
 gap_is n = refl
 
+pub gap_length : (n : ℕ) → length (gap n) ≡ 1 + length (decimal n)
+gap_length n = rw (gap_is n) (omega arith)
+
 pub pair_is : (n c : ℕ) → pair_text n c ≡ gap n ++ gap c
 unfolding pair_text
 pair_is n c = refl

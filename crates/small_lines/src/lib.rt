@@ -7,6 +7,7 @@ ghost use Rattle.small_model.specs.Tally.{tally};
 ghost use Rattle.small_lines.specs.Lines.{gap, pair_text, text_from};
 
 // Writes a space and a number.
+#[tactic(auto, using(crate::proofs::Texts::gap_length))]
 fn put_gap(out: &mut [u8], n: u64) -> usize
     requires { length (gap n) ≤ length out.old }
     ensures { Wrote (gap n) out.old out.new result }
@@ -16,6 +17,7 @@ fn put_gap(out: &mut [u8], n: u64) -> usize
 }
 
 // Writes a number of entries and its tally.
+#[tactic(auto, using(crate::proofs::Texts::pair_length))]
 fn put_pair(out: &mut [u8], n: u64, tally: u64) -> usize
     requires { length (pair_text n tally) ≤ length out.old }
     ensures { Wrote (pair_text n tally) out.old out.new result }
@@ -30,12 +32,11 @@ pub fn put_tallies(out: &mut [u8], tallies: &[u32]) -> usize
     ensures { Wrote (text_from 0 tallies.now) out.old out.new result }
 {
     let mut at = 0;
-    for n in 0..tallies.len() {
-        let tally = tallies[n];
+    for (n, &tally) in tallies.iter().enumerate() {
         if tally == 0 {
             continue;
         }
-        at += put_pair(&mut out[at..], n as u64, tally as u64);
+        at += put_pair(&mut out[at..], n as u64, u64::from(tally));
     }
     at
 }

@@ -7,10 +7,9 @@
 --   rows_at s d n at     the n rows from a place on
 --   Rowed s d n         n rows of d codes stand behind a header, are rows of a table, and can be totalled
 --   base_rows t          the base rows of the table t
---   TableRead           the code's answer: the enum of src/lib.rt
---   table_answer p       the answer's number and values for what was read: the stop's number, or D and the number of base rows
+--   table_answer p       what the code answers for what was read: D and the number of base rows, or the stop's number
 --   Stored p ws         the words ws have the base rows of the table that was read
-use Rattle.std.specs.Prelude.{◌≡◌, List, [], ◌∷◌, ℕ, zero, suc, ◌+◌, ◌*◌, ◌≤◌, length}
+use Rattle.std.specs.Prelude.{◌≡◌, List, [], ◌∷◌, ℕ, zero, suc, ◌+◌, ◌*◌, ◌≤◌, length, Result, Ok, Err}
 use Rattle.fields.specs.Words.{words_at}
 use Rattle.fields_sums.specs.Twos.{reading_at}
 use Rattle.fields_walk.specs.Parsed.{Parsed, stop, got, and_then, many}
@@ -20,8 +19,7 @@ use Rattle.cube.specs.Measure.{sums, Row}
 use Rattle.cube.specs.Bounds.{Summable}
 use Rattle.cube.specs.Table.{Table, folded}
 use Rattle.rows.specs.Rows.{rows_of}
-use Rattle.table.specs.declared.TableRead.{TableRead}
-use Rattle.table.specs.declared.TableRead.TheVariants as Answer
+use Rattle.table.specs.declared.Folded.{Folded}
 use Rattle.table.specs.Layout.{FACT, Records}
 
 unfoldable pub row : List ℕ → List ℕ → Parsed (Row Total)
@@ -55,9 +53,9 @@ pub record Rowed (s : List ℕ) (d n : ℕ) : Type 0 where
 abbrev pub base_rows : Records → List (Row Total)
 base_rows t = folded sums (length t.sizes) t.rows
 
-abbrev pub table_answer : Parsed Records → TableRead
-table_answer (stop n) = Answer.Stop n
-table_answer (got t rest) = Answer.Rows (length t.sizes) (length (base_rows t))
+abbrev pub table_answer : Parsed Records → Result Folded ℕ
+table_answer (stop n) = Err n
+table_answer (got t rest) = Ok (record { dims = length t.sizes; rows = length (base_rows t) })
 
 abbrev pub Stored : Parsed Records → List ℕ → Type 0
 Stored (stop n) ws = Unit {0}

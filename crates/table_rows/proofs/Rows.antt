@@ -1,4 +1,5 @@
 -- The rows of a table that was read stand behind its header, one after the other.
+use Rattle.std.specs.Prelude.{Result, Ok, Err}
 use mathlib.Core.Path.{◌≡◌, refl, sym, ap, ap₂, ◌∙◌, subst}
 use mathlib.Core.List.Memᴰ
 use mathlib.Core.List.{List, [], ◌∷◌}
@@ -26,7 +27,7 @@ use Rattle.table.specs.Layout.{FACT, Records, Reads}
 use Rattle.rows.specs.Rows.{rows_of}
 use Rattle.rows.proofs.Flat.{rows-length}
 use Rattle.cube.specs.Table.{folded}
-use Rattle.table.specs.declared.TableRead.TheVariants as Answer
+use Rattle.table.specs.declared.Folded.{Folded}
 use Rattle.table.specs.Reading.{row, read_table, record_there, rows_at, Rowed, base_rows, table_answer, Stored}
 use Rattle.table.proofs.Accepted.{read, held, rows, table_as, table_forth}
 
@@ -107,15 +108,18 @@ rowed_table s t {rest} b e =
     }
 
 -- the answer for a table that was read, where words have its base rows
+abbrev answer : ℕ → ℕ → Result Folded ℕ
+answer d r = Ok (record { dims = d; rows = r })
+
 pub read_answer : (s : List ℕ) (t : Records) {rest : List ℕ} → read_table s ≡ got t rest → (d n r : ℕ) → d ≡ length t.sizes → n ≡ length t.rows
     → (ws : List ℕ) → rows_of d r ws ≡ folded sums d (rows_at s d n (12 + 4 * d))
-    → (Answer.Rows d r ≡ table_answer (read_table s)) × Stored (read_table s) ws
+    → (answer d r ≡ table_answer (read_table s)) × Stored (read_table s) ws
 read_answer s t {rest} e d n r p q ws f =
     let w = (placed s t e).rows in
     let base : rows_of d r ws ≡ base_rows t
     = f ∙ ap₂ (λ (i j : ℕ). folded sums i (rows_at s i j (12 + 4 * i))) p q ∙ ap (folded sums (length t.sizes)) (sym w) in
     let size : r ≡ length (base_rows t) = sym (rows-length d r ws) ∙ ap length base in
-    rw e (ap₂ Answer.Rows p size, sym (ap₂ (λ (i j : ℕ). rows_of i j ws) p size) ∙ base)
+    rw e (ap₂ answer p size, sym (ap₂ (λ (i j : ℕ). rows_of i j ws) p size) ∙ base)
 
-pub stop-answer : (s : List ℕ) {n : ℕ} → read_table s ≡ stop n → (ws : List ℕ) → (Answer.Stop n ≡ table_answer (read_table s)) × Stored (read_table s) ws
+pub stop-answer : (s : List ℕ) {n : ℕ} → read_table s ≡ stop n → (ws : List ℕ) → (Err n ≡ table_answer (read_table s)) × Stored (read_table s) ws
 stop-answer s e ws = rw e (refl, tt)

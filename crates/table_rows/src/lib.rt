@@ -6,10 +6,11 @@ ghost use Rattle.cube.specs.Measure.{sums as measure};
 ghost use Rattle.cube.specs.Bounds.{Summable};
 ghost use Rattle.cube.specs.Table.{Table, folded};
 ghost use Rattle.rows.specs.Rows.{width, row_of, rows_of};
+ghost use Rattle.stops.specs.Numbers.{numbered};
 ghost use Rattle.table.specs.Reading.{read_table, record_there, rows_at, Rowed, table_answer, Stored};
 
-use fields_walk::Walk;
-use table::TableRead;
+use stops::Stop;
+use table::Folded;
 
 // The row at a place as words: its codes, its reading as a sum, and a count of one.
 fn fill_row(row: &mut [u32], s: &[u8], dims: usize, at: usize)
@@ -39,11 +40,9 @@ fn store_rows(s: &[u8], dims: usize, count: usize, start: usize, rows: &mut [u32
     ensures { rows_of dims count rows.new ≡ rows_at s.now dims count start }
 {
     let mut at = start;
-    let mut i = 0;
-    while i < count {
+    for i in 0..count {
         store_row(s, dims, at, i, rows);
         at += 4 * dims + 4;
-        i += 1;
     }
 }
 
@@ -82,21 +81,17 @@ fn fold_table(s: &[u8], d: usize, n: usize, rows: &mut [u32]) -> usize
 }
 
 // Reads a table: its stops, and its base rows into the array that is lent.
-pub fn read_table(s: &[u8], rows: &mut [u32; rows::ROOM]) -> TableRead
-    ensures value { result ≡ table_answer (read_table s.now) }
+pub fn read_table(s: &[u8], rows: &mut [u32; rows::ROOM]) -> Result<Folded, Stop>
+    ensures value { numbered result ≡ table_answer (read_table s.now) }
     ensures stored { Stored (read_table s.now) rows.new }
 {
-    match table::check_table(s) {
-        Walk::Stop(n) => TableRead::Stop(n),
-        Walk::At(place) => {
-            let dims = fields::word_at(s, 4);
-            let d = dims as usize;
-            let n = fields::word_at(s, 8 + 4 * d) as usize;
-            let count = fold_table(s, d, n, rows);
-            TableRead::Rows {
-                dims,
-                rows: count as u32,
-            }
-        }
-    }
+    table::check_table(s)?;
+    let dims = fields::word_at(s, 4);
+    let d = dims as usize;
+    let n = fields::word_at(s, 8 + 4 * d) as usize;
+    let count = fold_table(s, d, n, rows);
+    Ok(Folded {
+        dims,
+        rows: count as u32,
+    })
 }

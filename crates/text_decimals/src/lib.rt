@@ -1,7 +1,7 @@
 // Numbers as text, written over the front of lent bytes.
 #![tactic(auto)]
 
-ghost use Rattle.std.specs.Prelude.{◌≡◌, [], ◌∷◌, ◌≤◌, length, nat_abs};
+ghost use Rattle.std.specs.Prelude.{◌≡◌, [], ◌∷◌, ◌≤◌, length};
 ghost use Rattle.fields.specs.Written.{Wrote};
 ghost use Rattle.text_decimals.specs.Decimals.{decimal, integer};
 
@@ -15,6 +15,7 @@ pub fn put_character(out: &mut [u8], c: u8) -> usize
 }
 
 // Writes a number: the digits of its tenth part, then its last digit.
+#[tactic(auto, using(crate::proofs::Digits::length_more))]
 pub fn put_decimal(out: &mut [u8], n: u64) -> usize
     requires { length (decimal n) ≤ length out.old }
     ensures { Wrote (decimal n) out.old out.new result }
@@ -26,19 +27,12 @@ pub fn put_decimal(out: &mut [u8], n: u64) -> usize
     at + put_character(&mut out[at..], b'0' + (n % 10) as u8)
 }
 
-// The magnitude of an integer. That of -2^63 is no i64: the last 1 is added to a u64.
-fn magnitude(z: i64) -> u64
-    ensures { result ≡ nat_abs z }
-{
-    if z < 0 { (-1 - z) as u64 + 1 } else { z as u64 }
-}
-
 // Writes an integer.
 pub fn put_integer(out: &mut [u8], z: i64) -> usize
     requires { length (integer z) ≤ length out.old }
     ensures { Wrote (integer z) out.old out.new result }
 {
-    let n = magnitude(z);
+    let n = z.unsigned_abs();
     if z < 0 {
         let at = put_character(out, b'-');
         return at + put_decimal(&mut out[at..], n);

@@ -1,8 +1,8 @@
 // The lister's lines, written over the front of lent bytes.
 #![tactic(auto)]
 
-ghost use mathlib.Core.List.{[], ◌∷◌, ◌++◌, flat_map};
-ghost use Rattle.std.specs.Prelude.{◌+◌, ◌*◌, ◌≤◌, length};
+ghost use mathlib.Core.List.{List, [], ◌∷◌, ◌++◌, flat_map};
+ghost use Rattle.std.specs.Prelude.{ℕ, ◌+◌, ◌*◌, ◌≤◌, length};
 ghost use Rattle.fields.specs.Written.{Wrote};
 ghost use Rattle.text_decimals.specs.Decimals.{decimal};
 ghost use Rattle.fields.specs.Words.{words_at};
@@ -14,7 +14,7 @@ fn put_number(out: &mut [u8], n: u32, end: u8) -> usize
     requires { length (decimal n) + 1 ≤ length out.old }
     ensures { Wrote (decimal n ++ end ∷ []) out.old out.new result }
 {
-    let done = text_decimals::put_decimal(out, n as u64);
+    let done = text_decimals::put_decimal(out, u64::from(n));
     done + text_decimals::put_character(&mut out[done..], end)
 }
 
@@ -30,39 +30,54 @@ fn put_code(out: &mut [u8], c: u32) -> usize
     put_number(out, c, b' ')
 }
 
-// Writes the codes of an entry, from their place on.
-fn put_codes(out: &mut [u8], s: &[u8], at: usize, n: usize) -> usize
-    requires n_in_bounds { at + 4 * n ≤ length s.now }
-    requires at_in_bounds { length (flat_map code_text (words_at s.now n at)) ≤ length out.old }
-    ensures { Wrote (flat_map code_text (words_at s.now n at)) out.old out.new result }
-{
-    let mut done = 0;
-    for i in 0..n {
-        let c = fields::word_at(s, at + 4 * i);
-        done += put_code(&mut out[done..], c);
-    }
-    done
-}
-
 // Writes a space and a set's number.
 fn put_set(out: &mut [u8], set: u32) -> usize
     requires { length (set_text set) ≤ length out.old }
     ensures { Wrote (set_text set) out.old out.new result }
 {
     let done = text_decimals::put_character(out, b' ');
-    done + text_decimals::put_decimal(&mut out[done..], set as u64)
+    done + text_decimals::put_decimal(&mut out[done..], u64::from(set))
 }
 
-// Writes a list of sets, from its place on.
-fn put_sets(out: &mut [u8], s: &[u8], at: usize, n: usize) -> usize
+// A kind of words: the text of one, and how it is written.
+trait Text {
+    ghost text: { ℕ → List ℕ };
+
+    fn put(out: &mut [u8], word: u32) -> usize
+        requires { length (text word) ≤ length out.old }
+        ensures { Wrote (text word) out.old out.new result };
+}
+
+struct Codes;
+
+impl Text for Codes {
+    ghost text = { code_text };
+
+    fn put(out: &mut [u8], word: u32) -> usize {
+        put_code(out, word)
+    }
+}
+
+struct Sets;
+
+impl Text for Sets {
+    ghost text = { set_text };
+
+    fn put(out: &mut [u8], word: u32) -> usize {
+        put_set(out, word)
+    }
+}
+
+// Writes the n words from a place on.
+fn put_words<T: Text>(out: &mut [u8], s: &[u8], at: usize, n: usize) -> usize
     requires n_in_bounds { at + 4 * n ≤ length s.now }
-    requires at_in_bounds { length (flat_map set_text (words_at s.now n at)) ≤ length out.old }
-    ensures { Wrote (flat_map set_text (words_at s.now n at)) out.old out.new result }
+    requires at_in_bounds { length (flat_map T.text (words_at s.now n at)) ≤ length out.old }
+    ensures { Wrote (flat_map T.text (words_at s.now n at)) out.old out.new result }
 {
     let mut done = 0;
     for i in 0..n {
-        let set = fields::word_at(s, at + 4 * i);
-        done += put_set(&mut out[done..], set);
+        let c = fields::word_at(s, at + 4 * i);
+        done += T::put(&mut out[done..], c);
     }
     done
 }
@@ -75,10 +90,10 @@ fn put_row(out: &mut [u8], s: &[u8], at: usize, dims: usize) -> usize
 {
     let sum = fields_sums::sum_at(s, at + 4 * dims);
     let count = fields::word_at(s, at + 4 * dims + 8);
-    let mut done = put_codes(out, s, at, dims);
+    let mut done = put_words::<Codes>(out, s, at, dims);
     done += text_decimals::put_integer(&mut out[done..], sum);
     done += text_decimals::put_character(&mut out[done..], b' ');
-    done + text_decimals::put_decimal(&mut out[done..], count as u64)
+    done + text_decimals::put_decimal(&mut out[done..], u64::from(count))
 }
 
 // Writes the line of the base entry at a place.
@@ -91,7 +106,7 @@ pub fn put_base(out: &mut [u8], s: &[u8], at: usize, dims: usize) -> usize
     let mut done = put_row(out, s, at, dims);
     done += text_decimals::put_character(&mut out[done..], b' ');
     done += text_decimals::put_character(&mut out[done..], b':');
-    done += put_sets(&mut out[done..], s, at + 4 * dims + 16, n);
+    done += put_words::<Sets>(&mut out[done..], s, at + 4 * dims + 16, n);
     done + text_decimals::put_character(&mut out[done..], b'\n')
 }
 

@@ -16,12 +16,10 @@ fn put_bases(out: &mut [u8], s: &[u8], dims: usize, bases: usize) -> usize
 {
     let mut done = 0;
     let mut at = 12 + 4 * dims;
-    let mut i = 0;
-    while i < bases {
+    for _ in 0..bases {
         done += text_lines::put_base(&mut out[done..], s, at, dims);
         let sets = fields::word_at(s, at + 4 * dims + 12) as usize;
         at += 4 * dims + 16 + 4 * sets;
-        i += 1;
     }
     done
 }
@@ -35,11 +33,9 @@ fn put_cells(out: &mut [u8], s: &[u8], dims: usize, cells: usize) -> usize
     let width = 4 * dims + 12;
     let mut done = 0;
     let mut at = s.len() - 4 - cells * width;
-    let mut i = 0;
-    while i < cells {
+    for _ in 0..cells {
         done += text_lines::put_cell(&mut out[done..], s, at, dims);
         at += width;
-        i += 1;
     }
     done
 }

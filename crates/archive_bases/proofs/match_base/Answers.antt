@@ -9,7 +9,6 @@ use Rattle.rows_lists.proofs.Lists.{list_length}
 use Rattle.archive_cells.specs.ListBytes.{list_bytes}
 use Rattle.archive_compare.specs.MatchedLaws.{matched_as}
 use Rattle.archive_bases.proofs.Bases.{base-words}
-use borrow.Author.Rules.{rules}
 use Rattle.archive_bases.proofs.match_base.Goals as goal
 
 pub match_entry-requires : goal.match_entry-requires

@@ -1,14 +1,10 @@
 use mathlib.Core.List.{flat_map}
 use Prim.Native.Nat.{◌-◌, ◌≤◌}
-use native.Mathlib.Omega.{arith}
 use lib.ListN.{drop}
 use Rattle.rows.specs.Rows.{rows_of}
 use Rattle.archive_entries.specs.Layout.{base_bytes}
 use Rattle.archive_compare.specs.Matched.{Matching}
-use Rattle.archive_compare.specs.MatchedLaws.{matching_none}
 use Rattle.archive_bases.specs.Listed.{our_bases}
-use Rattle.archive_bases.proofs.Loops.{match_more, match_off, match_done}
-use borrow.Author.Rules.{rules}
 use Rattle.archive_bases.proofs.match_bases.Given as goal
 
 abbrev pub invariant-loop-row : goal.invariant-loop-row

@@ -9,7 +9,6 @@ use Rattle.rows_lists.proofs.Lists.{list_length}
 use Rattle.archive_cells.specs.ListBytes.{list_bytes}
 use Rattle.archive_cells.specs.WritingLaws.{wrote_as}
 use Rattle.archive_bases.proofs.Bases.{base-words, base-bytes}
-use borrow.Author.Rules.{rules}
 use Rattle.archive_bases.proofs.put_base.Goals as goal
 
 pub put_entry-requires : goal.put_entry-requires

@@ -1,13 +1,11 @@
 -- `archive_bases::put_bases` meets its contract. The invariant: the entries from a row on are left to write.
-use mathlib.Core.List.{flat_map}
-use Prim.Native.Nat.{◌+◌, ◌-◌, ◌≤◌}
+use Prim.Native.Nat.{◌+◌, ◌≤◌}
 use native.Mathlib.Omega.{arith}
-use lib.ListN.{length, drop, length-take, length-drop}
+use lib.ListN.{length, length-take, length-drop}
 use Rattle.rows.specs.Rows.{rows_of}
 use Rattle.archive_entries.specs.Layout.{base_bytes}
-use Rattle.archive_cells.specs.Writing.{Writing}
 use Rattle.archive_cells.specs.WritingLaws.{writing_none}
-use Rattle.archive_bases.specs.Listed.{our_base, our_bases}
+use Rattle.archive_bases.specs.Listed.{our_base}
 use Rattle.archive_bases.proofs.Loops.{write_room, write_more, write_done}
 use borrow.Author.Rules.{rules}
 use Rattle.archive_bases.proofs.put_bases.Goals as goal

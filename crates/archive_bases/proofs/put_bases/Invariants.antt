@@ -1,14 +1,10 @@
 use mathlib.Core.List.{flat_map}
-use Prim.Native.Nat.{◌+◌, ◌-◌, ◌≤◌}
-use native.Mathlib.Omega.{arith}
-use lib.ListN.{length, drop, length-take, length-drop}
+use Prim.Native.Nat.{◌-◌, ◌≤◌}
+use lib.ListN.{drop}
 use Rattle.rows.specs.Rows.{rows_of}
 use Rattle.archive_entries.specs.Layout.{base_bytes}
 use Rattle.archive_cells.specs.Writing.{Writing}
-use Rattle.archive_cells.specs.WritingLaws.{writing_none}
-use Rattle.archive_bases.specs.Listed.{our_base, our_bases}
-use Rattle.archive_bases.proofs.Loops.{write_room, write_more, write_done}
-use borrow.Author.Rules.{rules}
+use Rattle.archive_bases.specs.Listed.{our_bases}
 use Rattle.archive_bases.proofs.put_bases.Given as goal
 
 abbrev pub invariant-loop-row : goal.invariant-loop-row

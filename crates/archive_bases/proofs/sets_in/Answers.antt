@@ -1,24 +1,16 @@
 -- `archive_bases::sets_in` meets its contract. The invariant: with the sets of the entries from row i on, those counted so far are all.
-use mathlib.Core.Path.{◌≡◌}
-use Prim.Native.Nat.{◌+◌, ◌*◌, ◌-◌, ◌≤◌}
+use Prim.Native.Nat.{◌*◌, ◌≤◌}
 use native.Mathlib.Omega.{arith}
-use lib.ListN.{get_or, drop}
-use Rattle.rows.specs.Rows.{rows_of}
-use Rattle.archive_entries.specs.Layout.{sets_in}
-use Rattle.archive_bases.specs.Listed.{our_bases}
+use lib.ListN.{get_or}
 use Rattle.archive_bases.proofs.Bases.{sets-next, sets-none}
-use borrow.Author.Rules.{rules}
 use Rattle.archive_bases.proofs.sets_in.Goals as goal
 
 -- no list is long
-short : (c : goal.After-shared_slice_known-1) → get_or c.args.lists.now (c.loop-i.i * 71) 0 ≤ 70
+short : (c : goal.After-from-all) → get_or c.args.lists.now (c.loop-i.i * 71) 0 ≤ 70
 short c = c.requires.short c.loop-i.i c.loop-i-test.true
 
 pub loop-i-init : goal.loop-i-init
 loop-i-init c = (omega arith, omega arith, omega arith)
-
-pub overflow_cast-all : goal.overflow_cast-all
-overflow_cast-all c = omega (arith, short c)
 
 pub overflow_add-all : goal.overflow_add-all
 overflow_add-all c = omega (arith, short c, c.requires.ready.few)

@@ -1,12 +1,9 @@
 use mathlib.Core.Path.{◌≡◌}
 use Prim.Native.Nat.{◌+◌, ◌*◌, ◌-◌, ◌≤◌}
-use native.Mathlib.Omega.{arith}
-use lib.ListN.{get_or, drop}
+use lib.ListN.{drop}
 use Rattle.rows.specs.Rows.{rows_of}
 use Rattle.archive_entries.specs.Layout.{sets_in}
 use Rattle.archive_bases.specs.Listed.{our_bases}
-use Rattle.archive_bases.proofs.Bases.{sets-next, sets-none}
-use borrow.Author.Rules.{rules}
 use Rattle.archive_bases.proofs.sets_in.Given as goal
 
 abbrev pub invariant-loop-i : goal.invariant-loop-i

@@ -1,11 +1,14 @@
-use Prim.Native.Nat.{◌-◌, ◌≤◌}
-use lib.ListN.{length, drop}
+use mathlib.Core.Path.{◌≡◌}
+use mathlib.Core.List.{map}
+use Prim.Native.Nat.{ℕ, ◌-◌, ◌≤◌}
+use lib.ListN.{length}
 use Rattle.fields.specs.Words.{words_bytes}
+use Rattle.archive_cells.proofs.Words.{from}
 use Rattle.archive_compare.specs.Matched.{Matching}
 use Rattle.archive_compare.proofs.match_words.Given as goal
 
-abbrev pub invariant-loop-i : goal.invariant-loop-i
-invariant-loop-i l = (l.i ≤ length l.ws) × Matching (words_bytes l.ws) (words_bytes (drop l.i l.ws)) l.s l.start l.at
+abbrev pub invariant-loop-x : goal.invariant-loop-x
+invariant-loop-x g l = (l.at ≤ length l.s) × ((word : g.row.T.Denot → ℕ) → ((x : g.row.T.Denot) (n : ℕ) → g.T.Into.converts x n → n ≡ word x) → Matching (words_bytes (map word l.xs)) (from word l.xs l.x-index) l.s l.start l.at)
 
-abbrev pub decreases-loop-i : goal.decreases-loop-i
-decreases-loop-i l = length l.ws - l.i
+abbrev pub decreases-loop-x : goal.decreases-loop-x
+decreases-loop-x g l = length l.xs - l.x-index

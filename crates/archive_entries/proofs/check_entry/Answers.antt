@@ -1,31 +1,31 @@
 -- `archive_entries::check_entry` meets its contract: the codes, the sum and count, and the list, one behind the other.
 use borrow.Author.Rules.{rules}
-use lib.ListN.{drop}
-use Rattle.fields.specs.Words.{words_at}
-use Rattle.fields_walk.proofs.Steps.{seen}
+use lib.ListN.{length, drop}
+use Rattle.archive_entries.specs.Places.{codes_before}
+use Rattle.stops.proofs.Handed.{handed}
 use Rattle.archive_entries.proofs.Entries.{entry-off, entry-ended, entry_on}
 use Rattle.archive_entries.proofs.check_entry.Goals as goal
 
 pub check_amount-requires : goal.check_amount-requires
-check_amount-requires c = (search rules, (seen c.in-At.is c.check_rising.ensures).2)
+check_amount-requires c = (search rules, c.in_ok-q.ensures.says.2)
 
 pub check_list-requires : goal.check_list-requires
-check_list-requires c = (seen c.in-At-check_amount.is c.check_amount.ensures).2
+check_list-requires c = c.in_ok-next.ensures.says.2
 
-pub returns-in-Stop : goal.returns-in-Stop
-returns-in-Stop c =
+pub returns-in_err-q : goal.returns-in_err-q
+returns-in_err-q c =
     let a = c.args in
-    record { says = entry-off a.sizes.now (words_at a.s.now a.n a.p) a.total (drop a.at a.s.now) (seen c.in-Stop.is c.check_rising.ensures) }
+    rw (handed c.from_residual.result c.from_residual.ensures.1) (record { says = entry-off a.sizes.now (codes_before a.s.now (length a.sizes.now) a.before) a.total (drop a.at a.s.now) c.in_err-q.ensures.says })
 
-pub returns-in-Stop-check_amount : goal.returns-in-Stop-check_amount
-returns-in-Stop-check_amount c =
+pub returns-in_err-next : goal.returns-in_err-next
+returns-in_err-next c =
     let a = c.args in
-    let f = seen c.in-At.is c.check_rising.ensures in
-    record { says = entry-ended a.sizes.now (words_at a.s.now a.n a.p) a.total (drop a.at a.s.now) f.1 (seen c.in-Stop-check_amount.is c.check_amount.ensures) }
+    let f = c.in_ok-q.ensures.says in
+    rw (handed c.from_residual-in_err-next.result c.from_residual-in_err-next.ensures.1) (record { says = entry-ended a.sizes.now (codes_before a.s.now (length a.sizes.now) a.before) a.total (drop a.at a.s.now) f.1 c.in_err-next.ensures.says })
 
-pub returns-in-At-check_amount : goal.returns-in-At-check_amount
-returns-in-At-check_amount c =
+pub returns : goal.returns
+returns c =
     let a = c.args in
-    let f = seen c.in-At.is c.check_rising.ensures in
-    let g = seen c.in-At-check_amount.is c.check_amount.ensures in
-    entry_on a.sizes.now (words_at a.s.now a.n a.p) a.total (drop a.at a.s.now) f.1 g.1 c.check_list.ensures
+    let f = c.in_ok-q.ensures.says in
+    let g = c.in_ok-next.ensures.says in
+    entry_on a.sizes.now (codes_before a.s.now (length a.sizes.now) a.before) a.total (drop a.at a.s.now) f.1 g.1 c.check_list.ensures

@@ -10,7 +10,7 @@ use Rattle.archive_entries.proofs.Storing.{turn-start, turn-whole, turn_on, turn
 use Rattle.archive_entries.proofs.store_rows.Goals as goal
 
 pub loop-i-init : goal.loop-i-init
-loop-i-init c = let a = c.args in (refl, turn-start _ _ _ _ (accepted a.s.now a.dims a.bases c.requires.by_index.1))
+loop-i-init c = let a = c.args in (refl, turn-start _ _ _ _ (accepted a.s.now _ c.requires.by_index.1))
 
 pub store_row-requires : goal.store_row-requires
 store_row-requires c =

@@ -1,8 +1,7 @@
 -- `archive_groups::mask_of` meets its contract. The invariant: the places before dimension d are right.
 use mathlib.Core.Path.{◌≡◌, refl, ◌∙◌}
-use Prim.Native.Nat.{ℕ, ◌-◌, ◌≤◌, ◌<◌}
 use native.Mathlib.Omega.{arith}
-use lib.ListN.{length, get_or, length-set}
+use lib.ListN.{length-set}
 use Rattle.rows_deals.proofs.Sums.{fill_more}
 use Rattle.archive_groups.specs.Masks.{missing_of}
 use borrow.Author.Rules.{rules}

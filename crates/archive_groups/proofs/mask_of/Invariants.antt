@@ -1,10 +1,7 @@
-use mathlib.Core.Path.{◌≡◌, refl, ◌∙◌}
+use mathlib.Core.Path.{◌≡◌}
 use Prim.Native.Nat.{ℕ, ◌-◌, ◌≤◌, ◌<◌}
-use native.Mathlib.Omega.{arith}
-use lib.ListN.{length, get_or, length-set}
-use Rattle.rows_deals.proofs.Sums.{fill_more}
+use lib.ListN.{length, get_or}
 use Rattle.archive_groups.specs.Masks.{missing_of}
-use borrow.Author.Rules.{rules}
 use Rattle.archive_groups.proofs.mask_of.Given as goal
 
 abbrev pub invariant-loop-d : goal.invariant-loop-d

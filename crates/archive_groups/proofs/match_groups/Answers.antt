@@ -1,18 +1,18 @@
 -- `archive_groups::match_groups` meets its contract. The invariant: the groups from place i on are left to compare, and their rows can be added.
 use mathlib.Core.Path.{sym, ap, ap₂, ◌∙◌}
 use mathlib.Core.List.{List, ◌++◌}
-use Prim.Native.Nat.{ℕ, ◌+◌, ◌-◌, ◌≤◌, ◌<◌}
+use Prim.Native.Nat.{ℕ, ◌+◌, ◌<◌}
 use native.Mathlib.Omega.{arith}
 use lib.ListN.{length, get_or}
 use Rattle.cube.specs.declared.Total.{Total}
 use Rattle.cube.specs.Measure.{Row, nothing}
 use Rattle.rows.specs.Rows.{cut, row_at, row_total}
 use Rattle.rows_order.specs.Index.{key}
-use Rattle.rows_runs.proofs.Totals.{Room}
 use Rattle.archive_entries.specs.Layout.{cell_bytes}
 use Rattle.rows_slots.specs.Slots.{row_in}
 use Rattle.rows_slots.specs.Summed.{plus_row}
-use Rattle.rows_slots.proofs.Summing.{rows_from, adding_none, adding_bounds, adding_on, adding_end, entry_named}
+use Rattle.rows_slots.proofs.Summing.{adding_none, adding_bounds, adding_on, adding_end, entry_named}
+use Rattle.stops.proofs.Handed.{handed}
 use Rattle.archive_compare.specs.Matched.{Matched, Matching}
 use Rattle.archive_compare.specs.MatchedLaws.{matching_none, matching_more, matching_off, matching_done, matched_as, matched_told}
 use Rattle.archive_groups.specs.Masks.{masked}
@@ -25,36 +25,36 @@ use Rattle.archive_groups.proofs.match_groups.Goals.{After-match_group, After-ro
 
 -- the row in hand
 named : (c : goal.After-row_in-row) → c.row_in-row.result < c.args.n
-named c = rw c.row_in-row.ensures.0 (entry_named c.args.slot.now c.args.n c.loop-i.i c.requires.0.names c.loop-i-test.true)
+named c = rw c.row_in-row.ensures.0 (entry_named c.args.slot.now c.args.n c.loop-e.e-index c.requires.0.names c.loop-e-test.true)
 
 -- the group that ends here, and its bytes
 abbrev ended : (c : goal.After-match_group) → Row Total
 ended c =
     let a = c.args in
-    let l = c.loop-i in
-    let row = row_in (get_or a.slot.now l.i 0) in
+    let l = c.loop-e in
+    let row = row_in (get_or a.slot.now l.e-index 0) in
     record { codes = key a.set (cut a.dims a.n a.rows.now) row; total = plus_row (row_total a.dims a.n a.rows.now) l.total row }
 
 matching : (c : goal.After-match_group) → let a = c.args in
-    let l = c.loop-i in
+    let l = c.loop-e in
     let keys = key a.set (cut a.dims a.n a.rows.now) in
-    Matching (group_bytes (row_total a.dims a.n a.rows.now) keys a.slot.now) (cell_bytes (ended c) ++ left (row_total a.dims a.n a.rows.now) keys a.slot.now nothing (l.i + 1)) a.s.now a.start l.at
+    Matching (group_bytes (row_total a.dims a.n a.rows.now) keys a.slot.now) (cell_bytes (ended c) ++ left (row_total a.dims a.n a.rows.now) keys a.slot.now nothing (l.e-index + 1)) a.s.now a.start l.at
 matching c =
     let a = c.args in
-    let l = c.loop-i in
+    let l = c.loop-e in
     let keys = key a.set (cut a.dims a.n a.rows.now) in
-    rw (left_end (row_total a.dims a.n a.rows.now) keys a.slot.now l.total l.i c.loop-i-test.true (λ z. c.if-end_in-eq0.false (c.end_in.ensures.0 ∙ z))) at l.invariant.2
+    rw (left_end (row_total a.dims a.n a.rows.now) keys a.slot.now l.total l.e-index c.loop-e-test.true (λ z. c.if-end_in-eq0.false (c.end_in.ensures.0 ∙ z))) at l.invariant.2
 
 -- what was compared is that group
-matched : (c : goal.After-match_group) → Matched c.args.s.now c.loop-i.at (cell_bytes (ended c)) c.match_group.result
+matched : (c : goal.After-match_group) → Matched c.args.s.now c.loop-e.at (cell_bytes (ended c)) c.match_group.result
 matched c =
     let a = c.args in
-    let l = c.loop-i in
+    let l = c.loop-e in
     let e = c.row_in-row.ensures.0 in
-    let r = row_in (get_or a.slot.now l.i 0) in
+    let r = row_in (get_or a.slot.now l.e-index 0) in
     let m = c.mask_of-missing.result in
     let p = c.requires.0 in
-    let n = entry_named a.slot.now a.n l.i p.names c.loop-i-test.true in
+    let n = entry_named a.slot.now a.n l.e-index p.names c.loop-e-test.true in
     let codes =
     ap (masked m) c.row_of-mine.ensures.0
     ∙ ap (λ (z : ℕ). masked m (row_at (cut a.dims a.n a.rows.now) z)) e
@@ -62,9 +62,9 @@ matched c =
     let total = c.add_row-total.ensures ∙ ap (plus_row (row_total a.dims a.n a.rows.now) l.total) e in
     matched_as (ap₂ (λ (x : List ℕ) (t : Total). cell_bytes (record { codes = x; total = t })) codes total) c.match_group.ensures
 
-pub loop-i-init : goal.loop-i-init
+pub loop-e-init : goal.loop-e-init
 unfolding left group_bytes
-loop-i-init c =
+loop-e-init c =
     let a = c.args in
     (search rules, adding_none (row_total a.dims a.n a.rows.now) (key a.set (cut a.dims a.n a.rows.now)) a.slot.now c.requires.0.summable, matching_none _ _ _ c.requires.1)
 
@@ -72,47 +72,44 @@ pub add_row-total-requires : goal.add_row-total-requires
 add_row-total-requires c =
     let a = c.args in
     let p = c.requires.0 in
-    let l = c.loop-i in
-    let h : l.i < length a.slot.now = c.loop-i-test.true in
-    let n = entry_named a.slot.now a.n l.i p.names h in
-    let b = adding_bounds (row_total a.dims a.n a.rows.now) (key a.set (cut a.dims a.n a.rows.now)) a.slot.now l.total l.i h l.invariant.1 in
+    let l = c.loop-e in
+    let h : l.e-index < length a.slot.now = c.loop-e-test.true in
+    let n = entry_named a.slot.now a.n l.e-index p.names h in
+    let b = adding_bounds (row_total a.dims a.n a.rows.now) (key a.set (cut a.dims a.n a.rows.now)) a.slot.now l.total l.e-index h l.invariant.1 in
     rw c.row_in-row.ensures.0 (p.size, n, b.0, b.1, b.2)
 
-pub loop-i-preserved-then-end_in-eq0 : goal.loop-i-preserved-then-end_in-eq0
-loop-i-preserved-then-end_in-eq0 c =
+pub loop-e-preserved-then-end_in-eq0 : goal.loop-e-preserved-then-end_in-eq0
+loop-e-preserved-then-end_in-eq0 c =
     let a = c.args in
-    let l = c.loop-i in
+    let l = c.loop-e in
     let keys = key a.set (cut a.dims a.n a.rows.now) in
-    let h : l.i < length a.slot.now = c.loop-i-test.true in
+    let h : l.e-index < length a.slot.now = c.loop-e-test.true in
     rw (c.add_row-total.ensures, c.row_in-row.ensures.0) (
       search rules,
-      adding_on (row_total a.dims a.n a.rows.now) keys a.slot.now l.total l.i h l.invariant.1,
-      rw (left_on (row_total a.dims a.n a.rows.now) keys a.slot.now l.total l.i h (sym c.end_in.ensures.0 ∙ c.if-end_in-eq0.true)) at l.invariant.2,
+      adding_on (row_total a.dims a.n a.rows.now) keys a.slot.now l.total l.e-index h l.invariant.1,
+      rw (left_on (row_total a.dims a.n a.rows.now) keys a.slot.now l.total l.e-index h (sym c.end_in.ensures.0 ∙ c.if-end_in-eq0.true)) at l.invariant.2,
     )
 
 pub row_of-mine-requires : goal.row_of-mine-requires
 row_of-mine-requires c = (c.requires.0.size, named (goal.at.row_of-mine-requires c).After-row_in-row)
 
 pub match_group-requires : goal.match_group-requires
-match_group-requires c = (omega (arith, c.row_of-mine.ensures.1, c.requires.0.dims), c.loop-i.invariant.2.within)
+match_group-requires c = (omega (arith, c.row_of-mine.ensures.1, c.requires.0.dims), c.loop-e.invariant.2.within)
 
-pub returns-in-Stop : goal.returns-in-Stop
-returns-in-Stop c = matching_off (cell_bytes (ended (goal.at.returns-in-Stop c).After-match_group)) _ (matching (goal.at.returns-in-Stop c).After-match_group) (matched_told c.in-Stop.is (matched (goal.at.returns-in-Stop c).After-match_group))
+pub returns-in_err-at : goal.returns-in_err-at
+returns-in_err-at c = rw (handed c.from_residual.result c.from_residual.ensures.1) (matching_off (cell_bytes (ended (goal.at.returns-in_err-at c).After-match_group)) _ (matching (goal.at.returns-in_err-at c).After-match_group) (matched_told c.in_err-at.was (matched (goal.at.returns-in_err-at c).After-match_group)))
 
-pub overflow_step-i-in-loop-i : goal.overflow_step-i-in-loop-i
-overflow_step-i-in-loop-i c = omega (arith, c.loop-i-test.true, c.requires.0.few)
-
-pub loop-i-preserved : goal.loop-i-preserved
-loop-i-preserved c =
+pub loop-e-preserved : goal.loop-e-preserved
+loop-e-preserved c =
     let a = c.args in
-    let l = c.loop-i in (
+    let l = c.loop-e in (
       search rules,
-      adding_end (row_total a.dims a.n a.rows.now) (key a.set (cut a.dims a.n a.rows.now)) a.slot.now l.total l.i c.loop-i-test.true l.invariant.1,
-      matching_more (cell_bytes (ended (goal.at.loop-i-preserved c).After-match_group)) _ (matching (goal.at.loop-i-preserved c).After-match_group) (matched_told c.in-At.is (matched (goal.at.loop-i-preserved c).After-match_group)),
+      adding_end (row_total a.dims a.n a.rows.now) (key a.set (cut a.dims a.n a.rows.now)) a.slot.now l.total l.e-index c.loop-e-test.true l.invariant.1,
+      matching_more (cell_bytes (ended (goal.at.loop-e-preserved c).After-match_group)) _ (matching (goal.at.loop-e-preserved c).After-match_group) (matched_told c.in_ok-at.was (matched (goal.at.loop-e-preserved c).After-match_group)),
     )
 
 pub returns : goal.returns
 returns c =
     let a = c.args in
-    let l = c.loop-i in
-    matching_done (rw (left-none (row_total a.dims a.n a.rows.now) (key a.set (cut a.dims a.n a.rows.now)) a.slot.now l.total l.i c.loop-i-test.false) at l.invariant.2)
+    let l = c.loop-e in
+    matching_done (rw (left-none (row_total a.dims a.n a.rows.now) (key a.set (cut a.dims a.n a.rows.now)) a.slot.now l.total l.e-index c.loop-e-test.false) at l.invariant.2)

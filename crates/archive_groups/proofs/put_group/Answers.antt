@@ -9,7 +9,6 @@ use mir.Facts.{to_z-of_z}
 use Rattle.fields.specs.WrittenLaws.{wrote_then}
 use Rattle.archive_entries.specs.Layout.{cell_bytes}
 use Rattle.archive_groups.proofs.Shown.{shown-length}
-use borrow.Author.Rules.{rules}
 use Rattle.archive_groups.proofs.put_group.Goals as goal
 use Rattle.archive_groups.proofs.put_group.Goals.{After-put_shown-at}
 

@@ -1,23 +1,20 @@
 -- `archive_groups::put_groups` meets its contract. The invariant: the groups from place i on are left to write, and their rows can be added.
 use mathlib.Core.Path.{◌≡◌, sym, ap, ap₂, ◌∙◌}
 use mathlib.Core.List.{List, ◌++◌}
-use Prim.Native.Nat.{ℕ, ◌+◌, ◌-◌, ◌*◌, ◌≤◌, ◌<◌}
+use Prim.Native.Nat.{ℕ, ◌+◌, ◌*◌, ◌≤◌, ◌<◌}
 use native.Mathlib.Omega.{arith}
 use lib.ListN.{length, get_or, length-take, length-drop}
 use Rattle.cube.specs.declared.Total.{Total}
 use Rattle.cube.specs.Measure.{Row, nothing}
-use Rattle.fields.specs.Written.{Wrote}
-use borrow.Rule.Slice.PartMut.{mid_of}
 use Rattle.cube.proofs.Codes.{length-cell}
 use Rattle.rows.specs.Rows.{cut, row_at, row_total}
 use Rattle.rows.proofs.Rows.{row-length}
 use Rattle.rows_order.specs.Index.{key}
-use Rattle.rows_runs.proofs.Totals.{Room}
 use Rattle.archive_entries.specs.Layout.{cell_bytes}
 use Rattle.archive_entries.proofs.Lengths.{cell-length}
 use Rattle.rows_slots.specs.Slots.{row_in}
 use Rattle.rows_slots.specs.Summed.{plus_row}
-use Rattle.rows_slots.proofs.Summing.{rows_from, adding_none, adding_bounds, adding_on, adding_end, entry_named}
+use Rattle.rows_slots.proofs.Summing.{adding_none, adding_bounds, adding_on, adding_end, entry_named}
 use Rattle.archive_cells.specs.Writing.{Writing}
 use Rattle.archive_cells.specs.WritingLaws.{writing_none, writing_more, writing_room, writing_done, wrote_as}
 use Rattle.archive_groups.specs.Masks.{masked, Mask}
@@ -30,38 +27,38 @@ use Rattle.archive_groups.proofs.put_groups.Goals.{After-row_in-row, After-row_o
 
 -- the row in hand
 named : (c : goal.After-row_in-row) → c.row_in-row.result < c.args.n
-named c = rw c.row_in-row.ensures.0 (entry_named c.args.slot.now c.args.n c.loop-i.i c.requires.groupable.names c.loop-i-test.true)
+named c = rw c.row_in-row.ensures.0 (entry_named c.args.slot.now c.args.n c.loop-e.e-index c.requires.groupable.names c.loop-e-test.true)
 
 -- the group that ends here, and its bytes
 abbrev ended : (c : goal.After-row_of-mine) → Row Total
 ended c =
     let a = c.args in
-    let l = c.loop-i in
-    let row = row_in (get_or a.slot.now l.i 0) in
+    let l = c.loop-e in
+    let row = row_in (get_or a.slot.now l.e-index 0) in
     record { codes = key a.set (cut a.dims a.n a.rows.now) row; total = plus_row (row_total a.dims a.n a.rows.now) l.total row }
 
 writing : (c : goal.After-row_of-mine) → let a = c.args in
-    let l = c.loop-i in
+    let l = c.loop-e in
     let keys = key a.set (cut a.dims a.n a.rows.now) in
-    Writing (group_bytes (row_total a.dims a.n a.rows.now) keys a.slot.now) (cell_bytes (ended c) ++ left (row_total a.dims a.n a.rows.now) keys a.slot.now nothing (l.i + 1)) a.out.now l.out l.at
+    Writing (group_bytes (row_total a.dims a.n a.rows.now) keys a.slot.now) (cell_bytes (ended c) ++ left (row_total a.dims a.n a.rows.now) keys a.slot.now nothing (l.e-index + 1)) a.out.now l.out l.at
 writing c =
     let a = c.args in
-    let l = c.loop-i in
+    let l = c.loop-e in
     let keys = key a.set (cut a.dims a.n a.rows.now) in
-    rw (left_end (row_total a.dims a.n a.rows.now) keys a.slot.now l.total l.i c.loop-i-test.true (λ z. c.if-end_in-eq0.false (c.end_in.ensures.0 ∙ z))) at l.invariant.2
+    rw (left_end (row_total a.dims a.n a.rows.now) keys a.slot.now l.total l.e-index c.loop-e-test.true (λ z. c.if-end_in-eq0.false (c.end_in.ensures.0 ∙ z))) at l.invariant.2
 
 -- the cell has a code for each dimension
 long : (c : goal.After-row_of-mine) → length (cell_bytes (ended c)) ≡ 4 * c.args.dims + 12
 unfolding key
 long c =
     let a = c.args in
-    let l = c.loop-i in
-    let row = row_in (get_or a.slot.now l.i 0) in
-    let n = entry_named a.slot.now a.n l.i c.requires.groupable.names c.loop-i-test.true in
+    let l = c.loop-e in
+    let row = row_in (get_or a.slot.now l.e-index 0) in
+    let n = entry_named a.slot.now a.n l.e-index c.requires.groupable.names c.loop-e-test.true in
     cell-length a.dims (ended c) (length-cell a.set (row_at (cut a.dims a.n a.rows.now) row) ∙ row-length a.dims a.n row a.rows.now n c.requires.groupable.size)
 
 -- there is room for it
-room : (c : goal.After-row_of-mine) → c.loop-i.at + (4 * c.args.dims + 12) ≤ length c.loop-i.out
+room : (c : goal.After-row_of-mine) → c.loop-e.at + (4 * c.args.dims + 12) ≤ length c.loop-e.out
 room c = omega (arith, long c, writing_room (cell_bytes (ended c)) _ (writing c) c.requires.slot_in_bounds)
 
 -- the codes under the mask and the total in hand are that group
@@ -74,9 +71,9 @@ told d n s ws slot m mine total t i r p h v e row sum =
     ∙ masked-key d n s (row_in (get_or slot i 0)) ws m p.dims p.valid v (entry_named slot n i p.names h) in
     ap₂ (λ (x : List ℕ) (t : Total). cell_bytes (record { codes = x; total = t })) codes (sum ∙ ap (plus_row (row_total d n ws) total) e)
 
-pub loop-i-init : goal.loop-i-init
+pub loop-e-init : goal.loop-e-init
 unfolding left group_bytes
-loop-i-init c =
+loop-e-init c =
     let a = c.args in
     (search rules, adding_none (row_total a.dims a.n a.rows.now) (key a.set (cut a.dims a.n a.rows.now)) a.slot.now c.requires.groupable.summable, writing_none _ _)
 
@@ -84,22 +81,22 @@ pub add_row-total-requires : goal.add_row-total-requires
 add_row-total-requires c =
     let a = c.args in
     let p = c.requires.groupable in
-    let l = c.loop-i in
-    let h : l.i < length a.slot.now = c.loop-i-test.true in
-    let n = entry_named a.slot.now a.n l.i p.names h in
-    let b = adding_bounds (row_total a.dims a.n a.rows.now) (key a.set (cut a.dims a.n a.rows.now)) a.slot.now l.total l.i h l.invariant.1 in
+    let l = c.loop-e in
+    let h : l.e-index < length a.slot.now = c.loop-e-test.true in
+    let n = entry_named a.slot.now a.n l.e-index p.names h in
+    let b = adding_bounds (row_total a.dims a.n a.rows.now) (key a.set (cut a.dims a.n a.rows.now)) a.slot.now l.total l.e-index h l.invariant.1 in
     rw c.row_in-row.ensures.0 (p.size, n, b.0, b.1, b.2)
 
-pub loop-i-preserved-then-end_in-eq0 : goal.loop-i-preserved-then-end_in-eq0
-loop-i-preserved-then-end_in-eq0 c =
+pub loop-e-preserved-then-end_in-eq0 : goal.loop-e-preserved-then-end_in-eq0
+loop-e-preserved-then-end_in-eq0 c =
     let a = c.args in
-    let l = c.loop-i in
+    let l = c.loop-e in
     let keys = key a.set (cut a.dims a.n a.rows.now) in
-    let h : l.i < length a.slot.now = c.loop-i-test.true in
+    let h : l.e-index < length a.slot.now = c.loop-e-test.true in
     rw (c.add_row-total.ensures, c.row_in-row.ensures.0) (
       search rules,
-      adding_on (row_total a.dims a.n a.rows.now) keys a.slot.now l.total l.i h l.invariant.1,
-      rw (left_on (row_total a.dims a.n a.rows.now) keys a.slot.now l.total l.i h (sym c.end_in.ensures.0 ∙ c.if-end_in-eq0.true)) at l.invariant.2,
+      adding_on (row_total a.dims a.n a.rows.now) keys a.slot.now l.total l.e-index h l.invariant.1,
+      rw (left_on (row_total a.dims a.n a.rows.now) keys a.slot.now l.total l.e-index h (sym c.end_in.ensures.0 ∙ c.if-end_in-eq0.true)) at l.invariant.2,
     )
 
 pub row_of-mine-requires : goal.row_of-mine-requires
@@ -117,28 +114,25 @@ put_group-at-requires c = (omega (arith, c.row_of-mine.ensures.1, c.requires.gro
 pub overflow_add-at : goal.overflow_add-at
 overflow_add-at c =
     let a = c.args in
-    let l = c.loop-i in
-    let wrote = wrote_as (told a.dims a.n a.set a.rows.now a.slot.now c.mask_of-missing.result c.row_of-mine.result.now l.total c.add_row-total.result l.i c.row_in-row.result c.requires.groupable c.loop-i-test.true c.mask_of-missing.ensures c.row_in-row.ensures.0 c.row_of-mine.ensures.0 c.add_row-total.ensures) c.put_group-at.ensures in
+    let l = c.loop-e in
+    let wrote = wrote_as (told a.dims a.n a.set a.rows.now a.slot.now c.mask_of-missing.result c.row_of-mine.result.now l.total c.add_row-total.result l.e-index c.row_in-row.result c.requires.groupable c.loop-e-test.true c.mask_of-missing.ensures c.row_in-row.ensures.0 c.row_of-mine.ensures.0 c.add_row-total.ensures) c.put_group-at.ensures in
     omega (arith, room (goal.at.overflow_add-at c).After-row_of-mine, long (goal.at.overflow_add-at c).After-row_of-mine, wrote.count)
 
-pub overflow_step-i-in-loop-i : goal.overflow_step-i-in-loop-i
-overflow_step-i-in-loop-i c = omega (arith, c.loop-i-test.true, c.requires.groupable.few)
-
-pub loop-i-preserved : goal.loop-i-preserved
-loop-i-preserved c =
+pub loop-e-preserved : goal.loop-e-preserved
+loop-e-preserved c =
     let a = c.args in
-    let l = c.loop-i in
-    let wrote = wrote_as (told a.dims a.n a.set a.rows.now a.slot.now c.mask_of-missing.result c.row_of-mine.result.now l.total c.add_row-total.result l.i c.row_in-row.result c.requires.groupable c.loop-i-test.true c.mask_of-missing.ensures c.row_in-row.ensures.0 c.row_of-mine.ensures.0 c.add_row-total.ensures) c.put_group-at.ensures in (
+    let l = c.loop-e in
+    let wrote = wrote_as (told a.dims a.n a.set a.rows.now a.slot.now c.mask_of-missing.result c.row_of-mine.result.now l.total c.add_row-total.result l.e-index c.row_in-row.result c.requires.groupable c.loop-e-test.true c.mask_of-missing.ensures c.row_in-row.ensures.0 c.row_of-mine.ensures.0 c.add_row-total.ensures) c.put_group-at.ensures in (
       search rules,
-      adding_end (row_total a.dims a.n a.rows.now) (key a.set (cut a.dims a.n a.rows.now)) a.slot.now l.total l.i c.loop-i-test.true l.invariant.1,
-      writing_more (cell_bytes (ended (goal.at.loop-i-preserved c).After-row_of-mine)) _ (writing (goal.at.loop-i-preserved c).After-row_of-mine) wrote,
+      adding_end (row_total a.dims a.n a.rows.now) (key a.set (cut a.dims a.n a.rows.now)) a.slot.now l.total l.e-index c.loop-e-test.true l.invariant.1,
+      writing_more (cell_bytes (ended (goal.at.loop-e-preserved c).After-row_of-mine)) _ (writing (goal.at.loop-e-preserved c).After-row_of-mine) wrote,
     )
 
 pub shape_of-out : goal.shape_of-out
-shape_of-out c = c.loop-i.invariant.2.wrote.same
+shape_of-out c = c.loop-e.invariant.2.wrote.same
 
 pub returns : goal.returns
 returns c =
     let a = c.args in
-    let l = c.loop-i in
-    writing_done (rw (left-none (row_total a.dims a.n a.rows.now) (key a.set (cut a.dims a.n a.rows.now)) a.slot.now l.total l.i c.loop-i-test.false) at l.invariant.2)
+    let l = c.loop-e in
+    writing_done (rw (left-none (row_total a.dims a.n a.rows.now) (key a.set (cut a.dims a.n a.rows.now)) a.slot.now l.total l.e-index c.loop-e-test.false) at l.invariant.2)

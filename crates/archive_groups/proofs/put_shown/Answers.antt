@@ -1,6 +1,6 @@
 -- `archive_groups::put_shown` meets its contract. The invariant: the words from dimension d on are left to write.
 use mathlib.Core.List.{◌++◌}
-use Prim.Native.Nat.{◌+◌, ◌-◌, ◌≤◌}
+use Prim.Native.Nat.{◌+◌, ◌≤◌}
 use native.Mathlib.Omega.{arith}
 use lib.ListN.{length, length-take, length-drop}
 use Rattle.fields.specs.Words.{words_bytes}

@@ -1,13 +1,9 @@
-use mathlib.Core.List.{◌++◌}
-use Prim.Native.Nat.{◌+◌, ◌-◌, ◌≤◌}
-use native.Mathlib.Omega.{arith}
-use lib.ListN.{length, length-take, length-drop}
+use Prim.Native.Nat.{◌-◌, ◌≤◌}
+use lib.ListN.{length}
 use Rattle.fields.specs.Words.{words_bytes}
 use Rattle.archive_cells.specs.Writing.{Writing}
-use Rattle.archive_cells.specs.WritingLaws.{writing_none, writing_more, writing_room, writing_done}
 use Rattle.archive_groups.specs.Masks.{masked}
-use Rattle.archive_groups.proofs.Shown.{shown_from, word_of, shown-length, shown-all, shown_on, shown-none}
-use borrow.Author.Rules.{rules}
+use Rattle.archive_groups.proofs.Shown.{shown_from}
 use Rattle.archive_groups.proofs.put_shown.Given as goal
 
 abbrev pub invariant-loop-d : goal.invariant-loop-d

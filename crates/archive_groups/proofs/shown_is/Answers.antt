@@ -1,12 +1,10 @@
 -- `archive_groups::shown_is` meets its contract. The invariant: whether all words stand there is whether those before dimension d do, and those from it on.
-use mathlib.Core.Path.{◌≡◌, sym, ap, ◌∙◌}
+use mathlib.Core.Path.{sym, ap, ◌∙◌}
 use mathlib.Core.Bool.{Bool, ◌&&◌, and_assoc, and-true}
-use Prim.Native.Nat.{◌+◌, ◌*◌, ◌-◌, ◌≤◌}
+use Prim.Native.Nat.{◌+◌}
 use native.Mathlib.Omega.{arith}
-use lib.ListN.{length, drop}
-use Rattle.fields.specs.Words.{words_bytes}
+use lib.ListN.{drop}
 use Rattle.fields.specs.Opening.{starts_with}
-use Rattle.archive_groups.specs.Masks.{masked}
 use Rattle.archive_groups.proofs.Shown.{shown_from, shown-all, shown-compared, shown-none}
 use borrow.Author.Rules.{rules}
 use Rattle.archive_groups.proofs.shown_is.Goals as goal

@@ -1,13 +1,11 @@
-use mathlib.Core.Path.{◌≡◌, sym, ap, ◌∙◌}
-use mathlib.Core.Bool.{Bool, ◌&&◌, and_assoc, and-true}
+use mathlib.Core.Path.{◌≡◌}
+use mathlib.Core.Bool.{◌&&◌}
 use Prim.Native.Nat.{◌+◌, ◌*◌, ◌-◌, ◌≤◌}
-use native.Mathlib.Omega.{arith}
 use lib.ListN.{length, drop}
 use Rattle.fields.specs.Words.{words_bytes}
 use Rattle.fields.specs.Opening.{starts_with}
 use Rattle.archive_groups.specs.Masks.{masked}
-use Rattle.archive_groups.proofs.Shown.{shown_from, shown-all, shown-compared, shown-none}
-use borrow.Author.Rules.{rules}
+use Rattle.archive_groups.proofs.Shown.{shown_from}
 use Rattle.archive_groups.proofs.shown_is.Given as goal
 
 abbrev pub invariant-loop-d : goal.invariant-loop-d

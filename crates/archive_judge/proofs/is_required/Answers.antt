@@ -2,7 +2,6 @@
 use native.Mathlib.Omega.{arith}
 use Rattle.fields_walk.proofs.Limits.{bytes_of}
 use Rattle.archive_judge.proofs.Judged.{read-ready}
-use borrow.Author.Rules.{rules}
 use Rattle.archive_judge.proofs.is_required.Goals as goal
 
 pub judge-requires : goal.judge-requires

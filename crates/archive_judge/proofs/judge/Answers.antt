@@ -4,7 +4,6 @@ use Rattle.rows_ready.proofs.Ready.{ready-base}
 use Rattle.archive_compare.specs.MatchedLaws.{matched_told}
 use Rattle.fields_walk.proofs.Limits.{bytes_of}
 use Rattle.archive_judge.proofs.Judged.{read-ready, read-start, other_of, judged_of}
-use borrow.Author.Rules.{rules}
 use Rattle.archive_judge.proofs.judge.Goals as goal
 
 pub condense_rows-cells-requires : goal.condense_rows-cells-requires
@@ -35,20 +34,20 @@ match_sections-requires c =
     }
 
 pub overflow_sub-result : goal.overflow_sub-result
-overflow_sub-result c = omega (arith, (matched_told c.in-At.is c.match_sections.ensures).meets.2)
+overflow_sub-result c = omega (arith, (matched_told c.in-Ok.is c.match_sections.ensures).meets.2)
 
-pub returns-in-Stop : goal.returns-in-Stop
-returns-in-Stop c =
+pub returns-in-Err : goal.returns-in-Err
+returns-in-Err c =
     let bytes = bytes_of c.args.s.now (λ i. omega (arith, c.type_inv.s i)) in
     record {
-      value = other_of bytes c.requires.0 (matched_told c.in-Stop.is c.match_sections.ensures);
+      value = other_of bytes c.requires.0 (matched_told c.in-Err.is c.match_sections.ensures);
       grouped = record { ready = read-ready bytes c.requires.0; room = omega arith; sets = omega arith; slots = c.condense_rows-cells.ensures.all_hold };
     }
 
-pub returns-in-At : goal.returns-in-At
-returns-in-At c =
+pub returns-in-Ok : goal.returns-in-Ok
+returns-in-Ok c =
     let bytes = bytes_of c.args.s.now (λ i. omega (arith, c.type_inv.s i)) in
     record {
-      value = judged_of bytes c.requires.0 (matched_told c.in-At.is c.match_sections.ensures);
+      value = judged_of bytes c.requires.0 (matched_told c.in-Ok.is c.match_sections.ensures);
       grouped = record { ready = read-ready bytes c.requires.0; room = omega arith; sets = omega arith; slots = c.condense_rows-cells.ensures.all_hold };
     }

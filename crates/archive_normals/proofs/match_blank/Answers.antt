@@ -3,7 +3,6 @@ use mathlib.Core.Path.{sym}
 use mathlib.Core.List.{[]}
 use Rattle.archive_compare.specs.MatchedLaws.{matching_none, matching_done, matched_as}
 use Rattle.archive_normals.proofs.Sections.{blank_none, blank-one}
-use borrow.Author.Rules.{rules}
 use Rattle.archive_normals.proofs.match_blank.Goals as goal
 
 pub returns-then-n-ne0 : goal.returns-then-n-ne0

@@ -1,18 +1,17 @@
 -- `archive_normals::match_common` meets its contract: the normal entries of the sets from the present place on are left to compare.
 use mathlib.Core.Path.{sym, subst}
-use Prim.Native.Nat.{◌-◌, ◌≤◌, ◌<◌}
+use Prim.Native.Nat.{◌<◌}
 use native.Mathlib.Omega.{arith}
 use mathlib.Core.List.{List}
 use lib.Pow.{pow_pos}
 use Rattle.lattice.specs.Sets.{full}
+use Rattle.stops.proofs.Handed.{handed}
 use Rattle.rows.specs.Rows.{rows_of}
 use Rattle.archive_compare.specs.Matched.{Matching}
-use Rattle.archive_compare.specs.MatchedLaws.{matching_none, matched_told}
-use Rattle.archive_cells.proofs.Turns.{turns}
+use Rattle.archive_compare.specs.MatchedLaws.{matching_none}
 use Rattle.archive_compare.proofs.Turns.{match_skip, match_more, match_off, match_done}
-use Rattle.archive_normals.specs.Normals.{shared_bytes, common_bytes}
+use Rattle.archive_normals.specs.Normals.{common_bytes}
 use Rattle.archive_normals.proofs.Sections.{turns_start}
-use borrow.Author.Rules.{rules}
 use Rattle.archive_normals.proofs.match_common.Goals as goal
 use Rattle.archive_normals.proofs.match_common.Goals.{Else-all-set}
 
@@ -44,13 +43,13 @@ loop-k-preserved-then-all-set c =
 pub match_shared-requires : goal.match_shared-requires
 match_shared-requires c = (c.requires.0, has-turn c, c.loop-k.invariant.1.within)
 
-pub returns-in-Stop : goal.returns-in-Stop
-returns-in-Stop c = match_off _ (full c.args.dims) c.loop-k-test.true c.set_at-set.ensures c.loop-k.invariant.1 (has-turn (goal.at.returns-in-Stop c).Else-all-set) (matched_told c.in-Stop.is c.match_shared.ensures)
+pub returns-in_err-at : goal.returns-in_err-at
+returns-in_err-at c = rw (handed c.from_residual.result c.from_residual.ensures.1) (match_off _ (full c.args.dims) c.loop-k-test.true c.set_at-set.ensures c.loop-k.invariant.1 (has-turn (goal.at.returns-in_err-at c).Else-all-set) c.in_err-at.ensures)
 
 pub loop-k-preserved : goal.loop-k-preserved
 loop-k-preserved c =
     let k = c.loop-k-test.true in
-    (omega (arith, k), match_more _ (full c.args.dims) k c.set_at-set.ensures c.loop-k.invariant.1 (has-turn (goal.at.loop-k-preserved c).Else-all-set) (matched_told c.in-At.is c.match_shared.ensures))
+    (omega (arith, k), match_more _ (full c.args.dims) k c.set_at-set.ensures c.loop-k.invariant.1 (has-turn (goal.at.loop-k-preserved c).Else-all-set) c.in_ok-at.ensures)
 
 pub returns : goal.returns
 returns c = match_done _ (full c.args.dims) c.loop-k.invariant.1 c.loop-k-test.false

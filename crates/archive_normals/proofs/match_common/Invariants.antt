@@ -1,17 +1,9 @@
-use mathlib.Core.Path.{sym, subst}
-use Prim.Native.Nat.{◌-◌, ◌≤◌, ◌<◌}
-use native.Mathlib.Omega.{arith}
-use mathlib.Core.List.{List}
-use lib.Pow.{pow_pos}
+use Prim.Native.Nat.{◌-◌, ◌≤◌}
 use Rattle.lattice.specs.Sets.{full}
 use Rattle.rows.specs.Rows.{rows_of}
 use Rattle.archive_compare.specs.Matched.{Matching}
-use Rattle.archive_compare.specs.MatchedLaws.{matching_none, matched_told}
 use Rattle.archive_cells.proofs.Turns.{turns}
-use Rattle.archive_compare.proofs.Turns.{match_skip, match_more, match_off, match_done}
 use Rattle.archive_normals.specs.Normals.{shared_bytes, common_bytes}
-use Rattle.archive_normals.proofs.Sections.{turns_start}
-use borrow.Author.Rules.{rules}
 use Rattle.archive_normals.proofs.match_common.Given as goal
 
 abbrev pub invariant-loop-k : goal.invariant-loop-k

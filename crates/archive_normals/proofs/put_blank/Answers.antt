@@ -4,7 +4,6 @@ use native.Mathlib.Omega.{arith}
 use Rattle.fields.specs.WrittenLaws.{wrote_none}
 use Rattle.archive_cells.specs.WritingLaws.{wrote_as}
 use Rattle.archive_normals.proofs.Sections.{blank_long, blank_none, blank-one}
-use borrow.Author.Rules.{rules}
 use Rattle.archive_normals.proofs.put_blank.Goals as goal
 
 pub returns-then-n-ne0 : goal.returns-then-n-ne0

@@ -1,6 +1,6 @@
 -- `archive_normals::put_common` meets its contract: the normal entries of the sets from the present place on are left to write.
 use mathlib.Core.Path.{sym, subst}
-use Prim.Native.Nat.{◌+◌, ◌-◌, ◌≤◌, ◌<◌}
+use Prim.Native.Nat.{◌+◌, ◌≤◌, ◌<◌}
 use native.Mathlib.Omega.{arith}
 use mathlib.Core.List.{List}
 use lib.Pow.{pow_pos}
@@ -9,10 +9,9 @@ use Rattle.lattice.specs.Sets.{full}
 use Rattle.rows.specs.Rows.{rows_of}
 use Rattle.archive_cells.specs.Writing.{Writing}
 use Rattle.archive_cells.specs.WritingLaws.{writing_none}
-use Rattle.archive_cells.proofs.Turns.{turns, write_skip, write_room, write_more, write_done}
+use Rattle.archive_cells.proofs.Turns.{write_skip, write_room, write_more, write_done}
 use Rattle.archive_normals.specs.Normals.{shared_bytes, common_bytes}
 use Rattle.archive_normals.proofs.Sections.{turns_start}
-use borrow.Author.Rules.{rules}
 use Rattle.archive_normals.proofs.put_common.Goals as goal
 use Rattle.archive_normals.proofs.put_common.Goals.{Else-all-set}
 

@@ -1,17 +1,9 @@
-use mathlib.Core.Path.{sym, subst}
-use Prim.Native.Nat.{◌+◌, ◌-◌, ◌≤◌, ◌<◌}
-use native.Mathlib.Omega.{arith}
-use mathlib.Core.List.{List}
-use lib.Pow.{pow_pos}
-use lib.ListN.{length, length-take, length-drop}
+use Prim.Native.Nat.{◌-◌, ◌≤◌}
 use Rattle.lattice.specs.Sets.{full}
 use Rattle.rows.specs.Rows.{rows_of}
 use Rattle.archive_cells.specs.Writing.{Writing}
-use Rattle.archive_cells.specs.WritingLaws.{writing_none}
-use Rattle.archive_cells.proofs.Turns.{turns, write_skip, write_room, write_more, write_done}
+use Rattle.archive_cells.proofs.Turns.{turns}
 use Rattle.archive_normals.specs.Normals.{shared_bytes, common_bytes}
-use Rattle.archive_normals.proofs.Sections.{turns_start}
-use borrow.Author.Rules.{rules}
 use Rattle.archive_normals.proofs.put_common.Given as goal
 
 abbrev pub invariant-loop-k : goal.invariant-loop-k

@@ -10,7 +10,6 @@ use Rattle.rows.proofs.Flat.{rows-length}
 use Rattle.archive_cells.specs.WritingLaws.{wrote_as}
 use Rattle.archive_normals.specs.Normals.{common_bytes, blank_bytes, normal_bytes}
 use Rattle.archive_normals.proofs.Sections.{normal-parts}
-use borrow.Author.Rules.{rules}
 use Rattle.archive_normals.proofs.put_normals.Goals as goal
 use Rattle.archive_normals.proofs.put_normals.Goals.{Start}
 

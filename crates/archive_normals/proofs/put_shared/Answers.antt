@@ -4,7 +4,6 @@ use native.Mathlib.Omega.{arith}
 use lib.ListN.{length}
 use Rattle.archive_cells.specs.WritingLaws.{wrote_as}
 use Rattle.archive_normals.proofs.Slotted.{slot-place, slot_groupable, slot-bytes}
-use borrow.Author.Rules.{rules}
 use Rattle.archive_normals.proofs.put_shared.Goals as goal
 
 pub slot_of-slot-requires : goal.slot_of-slot-requires

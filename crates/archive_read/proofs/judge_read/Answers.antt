@@ -1,14 +1,8 @@
 -- `archive_read::judge_read` meets its contract: the base rows fill the front of the array, and the archive is the one they require, or stop 12.
 use mathlib.Core.Path.{sym, ◌∙◌}
-use mathlib.Core.List.{List}
-use Prim.Native.Nat.{ℕ, ◌*◌, ◌≤◌}
 use native.Mathlib.Omega.{arith}
-use lib.ListN.{length, take}
-use Rattle.rows.specs.Rows.{width}
-use Rattle.archive_judge.specs.Read.{Read}
 use Rattle.fields_walk.proofs.Limits.{bytes_of}
 use Rattle.archive_read.proofs.Reading.{read_small, read_of, passed_required, stopped_required}
-use borrow.Author.Rules.{rules}
 use Rattle.archive_read.proofs.judge_read.Goals as goal
 
 pub overflow_mul-size : goal.overflow_mul-size

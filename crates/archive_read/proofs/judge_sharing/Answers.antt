@@ -1,7 +1,6 @@
 -- `archive_read::judge_sharing` meets its contract: the slots tell how many rows share a cell.
 use Rattle.archive_entries.specs.Reading.{walk_archive}
 use Rattle.archive_read.proofs.Reading.{sharing_held, shares-told, shares-required}
-use borrow.Author.Rules.{rules}
 use Rattle.archive_read.proofs.judge_sharing.Goals as goal
 
 pub returns : goal.returns

@@ -1,5 +1,4 @@
 -- `archive_read::read_required` meets its contract: how many rows share a cell is not asked.
-use borrow.Author.Rules.{rules}
 use Rattle.archive_read.proofs.read_required.Goals as goal
 
 pub returns : goal.returns

@@ -1,16 +1,16 @@
 -- `archive_read::read_sharing` meets its contract: the walk answers for its stops, and what has right fields is stored and judged.
-use mathlib.Core.Path.{sym, ◌∙◌}
+use mathlib.Core.Path.{sym}
+use Rattle.stops.proofs.Handed.{handed}
 use Rattle.archive_entries.specs.Reading.{walk_archive}
 use Rattle.archive_entries.proofs.Fields.{stopped_stored}
 use Rattle.archive_read.proofs.Reading.{stop-required, stored-required, shares-stop}
-use borrow.Author.Rules.{rules}
 use Rattle.archive_read.proofs.read_sharing.Goals as goal
 
 pub judge_sharing-requires : goal.judge_sharing-requires
-judge_sharing-requires c = sym c.check_archive.ensures ∙ c.in-Entries.is
+judge_sharing-requires c = sym c.in_ok-shape.ensures
 
-pub returns-in-Stop : goal.returns-in-Stop
-returns-in-Stop c =
+pub returns-in_err-shape : goal.returns-in_err-shape
+returns-in_err-shape c =
     let s = c.args.s.now in
-    let e = sym c.check_archive.ensures ∙ c.in-Stop.is in
-    record { value = stop-required s e; stored = stored-required s _ (stopped_stored (walk_archive s) _ e); shares = shares-stop s _ _ e }
+    let e = sym c.in_err-shape.ensures in
+    rw (handed c.from_residual.result c.from_residual.ensures.1) (record { value = stop-required s e; stored = stored-required s _ (stopped_stored (walk_archive s) _ e); shares = shares-stop s _ _ e })

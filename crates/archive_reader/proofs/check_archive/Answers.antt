@@ -3,6 +3,7 @@ use mathlib.Core.Path.{◌≡◌, ap, ◌∙◌, subst}
 use mathlib.Core.List.{List}
 use Prim.Native.Nat.{ℕ}
 use denote.Ref.{Bor}
+use Rattle.stops.proofs.Handed.{handed}
 use Rattle.archive_sections.proofs.Outline.{Head, Base, Cell, Close, Word, header_halts, bases_halts, cells_halts, close_halts, counted}
 use Rattle.archive_reader.specs.Place.{reader_at}
 use Rattle.archive_reader.specs.declared.Reader.{Reader}
@@ -15,29 +16,33 @@ there Φ {x = x} e h = subst (λ (y : Reader). Φ y.src.now y.at x) e h
 moved-from : {s : Bor (List ℕ)} {m n : ℕ} {r r' : Reader} → r ≡ reader_at s m → r' ≡ reader_at r.src n → r' ≡ reader_at s n
 moved-from {n = n} e h = h ∙ ap (λ (y : Reader). reader_at y.src n) e
 
-pub returns-in-Stop : goal.returns-in-Stop
-returns-in-Stop c = header_halts c.args.s.now (there Head c.start-r.ensures c.in-Stop.ensures)
+pub returns-in_err-header : goal.returns-in_err-header
+returns-in_err-header c =
+    rw (handed c.from_residual.result c.from_residual.ensures.1) (header_halts c.args.s.now (there Head c.start-r.ensures c.in_err-header.ensures))
 
-pub returns-in-Stop-bases : goal.returns-in-Stop-bases
-returns-in-Stop-bases c =
+pub returns-in_err-bases : goal.returns-in_err-bases
+returns-in_err-bases c =
     let e = c.start-r.ensures in
     let f = moved-from e c.moved-base.ensures in
-    bases_halts c.args.s.now (there Head e c.in-At.ensures) (there Base f c.in-Stop-bases.ensures)
+    rw (handed c.from_residual-in_err-bases.result c.from_residual-in_err-bases.ensures.1)
+    (bases_halts c.args.s.now (there Head e c.in_ok-header.ensures) (there Base f c.in_err-bases.ensures))
 
-pub returns-in-Stop-cells : goal.returns-in-Stop-cells
-returns-in-Stop-cells c =
+pub returns-in_err-cells : goal.returns-in_err-cells
+returns-in_err-cells c =
     let e = c.start-r.ensures in
     let f = moved-from e c.moved-base.ensures in
     let g = moved-from f c.moved-normal.ensures in
-    cells_halts c.args.s.now (there Head e c.in-At.ensures) (there Base f c.in-At-bases.ensures) (there Cell g c.in-Stop-cells.ensures)
+    rw (handed c.from_residual-in_err-cells.result c.from_residual-in_err-cells.ensures.1)
+    (cells_halts c.args.s.now (there Head e c.in_ok-header.ensures) (there Base f c.in_ok-bases.ensures) (there Cell g c.in_err-cells.ensures))
 
-pub returns-in-Stop-close : goal.returns-in-Stop-close
-returns-in-Stop-close c =
+pub returns-in_err-close : goal.returns-in_err-close
+returns-in_err-close c =
     let e = c.start-r.ensures in
     let f = moved-from e c.moved-base.ensures in
     let g = moved-from f c.moved-normal.ensures in
     let h = moved-from g c.moved-check.ensures in
-    close_halts c.args.s.now (there Head e c.in-At.ensures) (there Base f c.in-At-bases.ensures) (there Cell g c.in-At-cells.ensures) (there Close h c.in-Stop-close.ensures)
+    rw (handed c.from_residual-in_err-close.result c.from_residual-in_err-close.ensures.1)
+    (close_halts c.args.s.now (there Head e c.in_ok-header.ensures) (there Base f c.in_ok-bases.ensures) (there Cell g c.in_ok-cells.ensures) (there Close h c.in_err-close.ensures))
 
 pub returns : goal.returns
 returns c =
@@ -45,5 +50,5 @@ returns c =
     let f = moved-from e c.moved-base.ensures in
     let g = moved-from f c.moved-normal.ensures in
     let h = moved-from g c.moved-check.ensures in
-    counted c.args.s.now (there Head e c.in-At.ensures) (there Base f c.in-At-bases.ensures) (there Cell g c.in-At-cells.ensures) (there Close h c.in_default.ensures)
+    counted c.args.s.now (there Head e c.in_ok-header.ensures) (there Base f c.in_ok-bases.ensures) (there Cell g c.in_ok-cells.ensures) (there Close h c.in_ok-close.ensures)
     (there Word (moved-from e c.moved.ensures) c.word.ensures) (there Word f c.word-2.ensures) (there Word g c.word-3.ensures)

@@ -6,7 +6,8 @@ use native.Mathlib.Omega.{arith}
 use lib.ListN.{drop}
 use lib.Seq.{length-take-le}
 use borrow.Author.Rules.{rules}
-use Rattle.fields_walk.proofs.Steps.{seen, walked_as}
+use Rattle.stops.proofs.Handed.{handed}
+use Rattle.fields_walk.proofs.Steps.{walked_as}
 use Rattle.fields_walk.proofs.Places.{header_read}
 use Rattle.archive_entries.specs.Layout.{CUBE}
 use Rattle.archive_entries.specs.Reading.{bases}
@@ -19,17 +20,19 @@ use Rattle.archive_sections.proofs.bases_at.Goals.{After-word_at-d}
 abbrev zeros : List ℕ
 zeros = 0 ∷ 0 ∷ 0 ∷ 0 ∷ 0 ∷ 0 ∷ 0 ∷ 0 ∷ []
 
-front : (c : goal.After-word_at-d) → Opened c.args.s.now c.word_at-d.result c.in-At.field-0
-front c = opened c.args.s.now (seen c.in-At.is c.check_header.ensures) c.word_at-d.ensures
+front : (c : goal.After-word_at-d) → Opened c.args.s.now c.word_at-d.result c.in_ok-check_header.field-0
+front c = opened c.args.s.now c.in_ok-check_header.ensures.says c.word_at-d.ensures
 
-pub returns-in-Stop : goal.returns-in-Stop
-returns-in-Stop c = let a = c.args in record { says = bases-off a.s.now a.at (seen c.in-Stop.is c.check_header.ensures) }
+pub returns-in_err-check_header : goal.returns-in_err-check_header
+returns-in_err-check_header c =
+    let a = c.args in
+    rw (handed c.from_residual.result c.from_residual.ensures.1) (record { says = bases-off a.s.now a.at c.in_err-check_header.ensures.says })
 
 pub returns-then-s-at : goal.returns-then-s-at
-returns-then-s-at c = let a = c.args in record { says = bases_past a.s.now a.at (seen c.in-At.is c.check_header.ensures).1 c.if-s-at.true }
+returns-then-s-at c = let a = c.args in record { says = bases_past a.s.now a.at c.in_ok-check_header.ensures.says.1 c.if-s-at.true }
 
 pub word_at-d-requires : goal.word_at-d-requires
-word_at-d-requires c = omega (arith, (header_read c.args.s.now CUBE (seen c.in-At.is c.check_header.ensures).1).whole)
+word_at-d-requires c = omega (arith, (header_read c.args.s.now CUBE c.in_ok-check_header.ensures.says.1).whole)
 
 pub slice_bounds-sizes-end : goal.slice_bounds-sizes-end
 slice_bounds-sizes-end c = (front c).few

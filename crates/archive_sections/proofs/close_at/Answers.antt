@@ -4,6 +4,3 @@ use Rattle.archive_sections.proofs.close_at.Goals as goal
 
 pub returns-then-s-at : goal.returns-then-s-at
 returns-then-s-at c = let a = c.args in record { says = close_past a.s.now a.at c.if-s-at.true }
-
-pub returns : goal.returns
-returns c = c.check_close.ensures

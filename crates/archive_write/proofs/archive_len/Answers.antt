@@ -1,7 +1,6 @@
 -- `archive_write::archive_len` meets its contract: the sections have the lengths of their entries, and no sum or product overflows.
 use native.Mathlib.Omega.{arith}
 use Rattle.archive_write.proofs.Archive.{archive_long, normals-most}
-use borrow.Author.Rules.{rules}
 use Rattle.archive_write.proofs.archive_len.Goals as goal
 
 pub overflow_mul-result-6 : goal.overflow_mul-result-6

@@ -12,7 +12,6 @@ use Rattle.archive_cells.specs.WritingLaws.{wrote_as}
 use Rattle.archive_bases.specs.Listed.{our_bases}
 use Rattle.archive_normals.specs.Normals.{normal_bytes}
 use Rattle.archive_write.proofs.Archive.{archive_parts, archive_sum, cells-few}
-use borrow.Author.Rules.{rules}
 use Rattle.archive_write.proofs.put_archive.Goals as goal
 use Rattle.archive_write.proofs.put_archive.Goals.{After-put_header-at}
 

@@ -2,7 +2,6 @@
 use mathlib.Core.Path.{refl}
 use native.Mathlib.Omega.{arith}
 use Rattle.rows_ready.proofs.Ready.{ready-base}
-use borrow.Author.Rules.{rules}
 use Rattle.archive_write.proofs.write_archive.Goals as goal
 
 pub condense_rows-cells-requires : goal.condense_rows-cells-requires

@@ -4,7 +4,7 @@ use mathlib.Core.Bool.{true}
 use Prim.Native.Nat.{◌≤◌}
 use native.Mathlib.Omega.{arith}
 use mir.Syntax.{w32, w64}
-use mir.Val.{SFits, to_z, of_z}
+use mir.Val.{to_z, of_z}
 use mir.Facts.{to_z-of_z}
 use lib.IntN.{ℤ}
 use lib.ListN.{length, take}
@@ -20,22 +20,20 @@ use borrow.Author.Rules.{rules}
 use Rattle.call_add.proofs.add_row.Goals as goal
 use Rattle.call_add.proofs.add_row.Goals.{After-put_row, Else-not-codes_fit}
 
--- a reading of 32 bits is the same in 64
-widened : (z : ℤ) → SFits w32 z → ◌≡◌ {A = Total} (record { sum = to_z w64 (of_z w64 (to_z w32 (of_z w32 z))); count = 1 }) (record { sum = z; count = 1 })
-widened z f = ap (λ (y : ℤ). record { sum = y; count = 1 }) (ap (λ (y : ℤ). to_z w64 (of_z w64 y)) (to_z-of_z {w = w32} f) ∙ to_z-of_z {w = w64} (record { sfits = omega (arith, f.sfits) }))
-
 small : (c : goal.Else-not-codes_fit) → width (length c.args.codes.now) ≤ 11
 small c = record_small c.requires.0 c.args.codes.now c.args.reading c.ranges.reading.sfits (sym c.if-not-codes_fit.false ∙ c.codes_fit.ensures)
 
+-- a reading of 32 bits is the same in 64
+widened : (c : goal.After-put_row) → ◌≡◌ {A = Total} (record { sum = to_z w64 (of_z w64 c.from-sum.result); count = 1 }) (record { sum = c.args.reading; count = 1 })
+widened c = ap (λ (y : ℤ). record { sum = y; count = 1 })
+    (ap (λ (y : ℤ). to_z w64 (of_z w64 y)) (c.from-sum.ensures ∙ to_z-of_z {w = w32} c.ranges.reading) ∙ to_z-of_z {w = w64} (record { sfits = omega (arith, c.ranges.reading.sfits) }))
+
 -- the record in the front of the array
 stored : (c : goal.After-put_row) → (let a = c.args in Store a.sizes.now 1 (take (width (length a.codes.now)) c.put_row.new.cells))
-stored c = record_store c.requires.0 c.args.codes.now c.args.reading c.ranges.reading.sfits (sym c.if-not-codes_fit.false ∙ c.codes_fit.ensures) _ c.put_row.new.cells (search rules) (widened c.args.reading c.ranges.reading) c.put_row.ensures
+stored c = record_store c.requires.0 c.args.codes.now c.args.reading c.ranges.reading.sfits (sym c.if-not-codes_fit.false ∙ c.codes_fit.ensures) _ c.put_row.new.cells (search rules) (widened c) c.put_row.ensures
 
 pub returns-then-not-codes_fit : goal.returns-then-not-codes_fit
 returns-then-not-codes_fit c = let a = c.args in stopped a.out.now (added_stopped a.sizes.now (rows_of (length a.sizes.now) a.n a.rows.now) a.codes.now a.reading (sym c.if-not-codes_fit.true ∙ c.codes_fit.ensures))
-
-pub overflow_cast-sum : goal.overflow_cast-sum
-overflow_cast-sum c = rw (to_z-of_z {w = w32} {z = c.args.reading} c.ranges.reading) (record { sfits = omega (arith, c.ranges.reading.sfits) })
 
 pub put_row-requires : goal.put_row-requires
 put_row-requires c = omega (arith, small (goal.at.put_row-requires c).Else-not-codes_fit)
@@ -50,4 +48,4 @@ pub join_rows-requires : goal.join_rows-requires
 join_rows-requires c = (c.requires.0, stored (goal.at.join_rows-requires c).After-put_row, search rules)
 
 pub returns : goal.returns
-returns c = answered_as (added-filed c.requires.0 c.args.codes.now c.args.reading c.ranges.reading.sfits (sym c.if-not-codes_fit.false ∙ c.codes_fit.ensures) _ c.put_row.new.cells (search rules) (widened c.args.reading c.ranges.reading) c.put_row.ensures) c.join_rows.ensures
+returns c = answered_as (added-filed c.requires.0 c.args.codes.now c.args.reading c.ranges.reading.sfits (sym c.if-not-codes_fit.false ∙ c.codes_fit.ensures) _ c.put_row.new.cells (search rules) (widened (goal.at.returns c).After-put_row) c.put_row.ensures) c.join_rows.ensures

@@ -1,11 +1,8 @@
--- `call_ask::fit_cuboid` meets its contract: what was needed tells whether it was written.
+-- `call_ask::fit_cuboid` meets its contract: the cuboid was written just if its length is no more than the output's.
 use mathlib.Core.Path.{refl}
-use Rattle.call_answers.proofs.Fitted.{fitted_short, fitted_done}
+use Rattle.call_answers.proofs.Fitted.{fitted}
 use borrow.Author.Rules.{rules}
 use Rattle.call_ask.proofs.fit_cuboid.Goals as goal
 
-pub returns-then-out-needed : goal.returns-then-out-needed
-returns-then-out-needed c = fitted_short refl c.write_cuboid-needed.ensures (search rules) c.if-out-needed.true
-
 pub returns : goal.returns
-returns c = fitted_done refl c.write_cuboid-needed.ensures (search rules) c.if-out-needed.false
+returns c = rw c.fitting.ensures (fitted refl c.write_cuboid-needed.ensures (search rules))

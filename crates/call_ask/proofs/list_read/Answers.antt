@@ -1,26 +1,25 @@
 -- `call_ask::list_read` meets its contract: the set's number is tested, then the cuboid is written where there is room.
 use native.Mathlib.Omega.{arith}
-use Rattle.fields_walk.proofs.Limits.{bytes_of}
 use Rattle.call_answers.proofs.Answers.{stopped, answered_as}
-use Rattle.call_ask.proofs.Opened.{OpenedIn, opened, opened_small}
+use Rattle.call_ask.proofs.Opened.{opened_by, opened_small}
 use Rattle.call_ask.proofs.Outcomes.{list_stopped, list-bytes}
 use borrow.Author.Rules.{rules}
 use Rattle.call_ask.proofs.list_read.Goals as goal
 
 pub sets_of-requires : goal.sets_of-requires
-sets_of-requires c = (opened (bytes_of c.args.s.now (λ i. omega (arith, c.type_inv.s i))) c.requires).ready.dims
+sets_of-requires c = (opened_by c.type_inv.s c.requires).ready.dims
 
 pub returns-then-sets_of-set : goal.returns-then-sets_of-set
-returns-then-sets_of-set c = stopped c.args.out.now (list_stopped (opened (bytes_of c.args.s.now (λ i. omega (arith, c.type_inv.s i))) c.requires) (omega (arith, c.if-sets_of-set.true, c.sets_of.ensures)))
+returns-then-sets_of-set c = stopped c.args.out.now (list_stopped (opened_by c.type_inv.s c.requires) (omega (arith, c.if-sets_of-set.true, c.sets_of.ensures)))
 
 pub overflow_mul-size : goal.overflow_mul-size
-overflow_mul-size c = omega (arith, opened_small (opened (bytes_of c.args.s.now (λ i. omega (arith, c.type_inv.s i))) c.requires))
+overflow_mul-size c = omega (arith, opened_small (opened_by c.type_inv.s c.requires))
 
 pub slice_bounds-fit_cuboid-end : goal.slice_bounds-fit_cuboid-end
-slice_bounds-fit_cuboid-end c = (opened (bytes_of c.args.s.now (λ i. omega (arith, c.type_inv.s i))) c.requires).ready.size
+slice_bounds-fit_cuboid-end c = (opened_by c.type_inv.s c.requires).ready.size
 
 pub fit_cuboid-requires : goal.fit_cuboid-requires
-fit_cuboid-requires c = (opened (bytes_of c.args.s.now (λ i. omega (arith, c.type_inv.s i))) c.requires).ready
+fit_cuboid-requires c = (opened_by c.type_inv.s c.requires).ready
 
 pub returns : goal.returns
-returns c = answered_as (list-bytes (opened (bytes_of c.args.s.now (λ i. omega (arith, c.type_inv.s i))) c.requires) (omega (arith, c.if-sets_of-set.false, c.sets_of.ensures))) c.fit_cuboid.ensures
+returns c = answered_as (list-bytes (opened_by c.type_inv.s c.requires) (omega (arith, c.if-sets_of-set.false, c.sets_of.ensures))) c.fit_cuboid.ensures

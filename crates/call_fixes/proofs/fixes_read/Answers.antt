@@ -1,18 +1,16 @@
 -- `call_fixes::fixes_read` meets its contract: the set's number is tested, then the dimension's; a key fixes each, and otherwise the rows tell.
 use mathlib.Core.Path.{◌≡◌, refl, sym, ap, ◌∙◌}
 use mathlib.Core.Bool.{true, false}
-use Prim.Native.Nat.{ℕ, ◌*◌, ◌^◌, ◌<◌}
+use Prim.Native.Nat.{ℕ, ◌*◌}
 use native.Mathlib.Omega.{arith}
 use lib.ListN.{take}
-use Rattle.fields_walk.proofs.Limits.{bytes_of}
 use Rattle.lattice.proofs.Sets.{sets_of}
 use Rattle.cube.specs.Codes.{plain}
 use Rattle.cube.specs.Keys.{fixes, dimension}
 use Rattle.cube.proofs.Keys.{key-fixes}
 use Rattle.rows.specs.Rows.{width, cut}
-use Rattle.archive_read.specs.Sharing.{Sharing}
 use Rattle.call_answers.proofs.Outcomes.{fixes_no_set, fixes_zero, fixes-high, fixes-told}
-use Rattle.call_ask.proofs.Opened.{OpenedIn, opened, opened_small}
+use Rattle.call_ask.proofs.Opened.{opened_by, opened_small}
 use Rattle.call_keys.proofs.Bare.{bare-key}
 use Rattle.call_keys.proofs.Outcomes.{laid, shared_in}
 use borrow.Author.Rules.{rules}
@@ -21,50 +19,47 @@ use Rattle.call_fixes.proofs.fixes_read.Goals.{After-rows_fix}
 
 -- what the rows tell, of the dimension
 told : (c : goal.After-rows_fix) → (let a = c.args in
-    c.rows_fix.result ≡ fixes (plain a.dims) (cut a.dims a.bases (take (a.bases * width a.dims) a.rows.now)) a.set (dimension a.dimension))
+    c.rows_fix.result ≡ fixes (plain a.shape.dims) (cut a.shape.dims a.shape.bases (take (a.shape.bases * width a.shape.dims) a.rows.now)) a.set (dimension a.dimension))
 told c =
     let a = c.args in
-    c.rows_fix.ensures ∙ ap (λ (t : ℕ). fixes (plain a.dims) (cut a.dims a.bases (take (a.bases * width a.dims) a.rows.now)) a.set t) c.sets_of-fixed.ensures
+    c.rows_fix.ensures ∙ ap (λ (t : ℕ). fixes (plain a.shape.dims) (cut a.shape.dims a.shape.bases (take (a.shape.bases * width a.shape.dims) a.rows.now)) a.set t) c.sets_of-fixed.ensures
 
 pub sets_of-requires : goal.sets_of-requires
-sets_of-requires c = (opened (bytes_of c.args.s.now (λ i. omega (arith, c.type_inv.s i))) c.requires.0).ready.dims
+sets_of-requires c = (opened_by c.type_inv.s c.requires.0).ready.dims
 
 pub returns-then-sets_of-set : goal.returns-then-sets_of-set
-returns-then-sets_of-set c = fixes_no_set (opened (bytes_of c.args.s.now (λ i. omega (arith, c.type_inv.s i))) c.requires.0) c.args.dimension (omega (arith, c.if-sets_of-set.true, c.sets_of.ensures))
+returns-then-sets_of-set c = fixes_no_set (opened_by c.type_inv.s c.requires.0) c.args.dimension (omega (arith, c.if-sets_of-set.true, c.sets_of.ensures))
 
 pub returns-then-dimension-eq0 : goal.returns-then-dimension-eq0
-returns-then-dimension-eq0 c = fixes_zero (opened (bytes_of c.args.s.now (λ i. omega (arith, c.type_inv.s i))) c.requires.0) (omega (arith, c.if-sets_of-set.false, c.sets_of.ensures)) c.if-dimension-eq0.true
+returns-then-dimension-eq0 c = fixes_zero (opened_by c.type_inv.s c.requires.0) (omega (arith, c.if-sets_of-set.false, c.sets_of.ensures)) c.if-dimension-eq0.true
 
-pub returns-then-dims-dimension : goal.returns-then-dims-dimension
-returns-then-dims-dimension c = fixes-high (opened (bytes_of c.args.s.now (λ i. omega (arith, c.type_inv.s i))) c.requires.0) (omega (arith, c.if-sets_of-set.false, c.sets_of.ensures)) c.if-dims-dimension.true
+pub returns-then-shape-dimension : goal.returns-then-shape-dimension
+returns-then-shape-dimension c = fixes-high (opened_by c.type_inv.s c.requires.0) (omega (arith, c.if-sets_of-set.false, c.sets_of.ensures)) c.if-shape-dimension.true
 
 pub is_bare-requires : goal.is_bare-requires
-is_bare-requires c = ((opened (bytes_of c.args.s.now (λ i. omega (arith, c.type_inv.s i))) c.requires.0).ready.dims, (shared_in (opened (bytes_of c.args.s.now (λ i. omega (arith, c.type_inv.s i))) c.requires.0) c.args.rows.now c.args.used.now refl c.requires.1).sets, omega (arith, c.if-sets_of-set.false, c.sets_of.ensures))
+is_bare-requires c = ((opened_by c.type_inv.s c.requires.0).ready.dims, (shared_in (opened_by c.type_inv.s c.requires.0) c.args.rows.now c.args.used.now refl c.requires.1).sets, omega (arith, c.if-sets_of-set.false, c.sets_of.ensures))
 
 -- a key
 pub returns-then-is_bare : goal.returns-then-is_bare
 returns-then-is_bare c =
     let a = c.args in
-    let o = opened (bytes_of c.args.s.now (λ i. omega (arith, c.type_inv.s i))) c.requires.0 in
+    let o = opened_by c.type_inv.s c.requires.0 in
     let l = laid o in
-    let key = sym (bare-key l (shared_in (opened (bytes_of c.args.s.now (λ i. omega (arith, c.type_inv.s i))) c.requires.0) c.args.rows.now c.args.used.now refl c.requires.1) (sets_of a.dims (omega (arith, c.if-sets_of-set.false, c.sets_of.ensures)))) ∙ sym c.is_bare.ensures ∙ c.if-is_bare.true in
-    fixes-told o (omega (arith, c.if-sets_of-set.false, c.sets_of.ensures)) c.if-dimension-eq0.false c.if-dims-dimension.false {b = true}
-    (sym ((key-fixes a.dims (cut a.dims a.bases (take (a.bases * width a.dims) a.rows.now)) l.base.valid a.set).0 key a.dimension (omega (arith, c.if-dimension-eq0.false)) c.if-dims-dimension.false))
+    let key = sym (bare-key l (shared_in (opened_by c.type_inv.s c.requires.0) c.args.rows.now c.args.used.now refl c.requires.1) (sets_of a.shape.dims (omega (arith, c.if-sets_of-set.false, c.sets_of.ensures)))) ∙ sym c.is_bare.ensures ∙ c.if-is_bare.true in
+    fixes-told o (omega (arith, c.if-sets_of-set.false, c.sets_of.ensures)) c.if-dimension-eq0.false c.if-shape-dimension.false {b = true}
+    (sym ((key-fixes a.shape.dims (cut a.shape.dims a.shape.bases (take (a.shape.bases * width a.shape.dims) a.rows.now)) l.base.valid a.set).0 key a.dimension (omega (arith, c.if-dimension-eq0.false)) c.if-shape-dimension.false))
 
 pub overflow_mul-size : goal.overflow_mul-size
-overflow_mul-size c = omega (arith, opened_small (opened (bytes_of c.args.s.now (λ i. omega (arith, c.type_inv.s i))) c.requires.0))
+overflow_mul-size c = omega (arith, opened_small (opened_by c.type_inv.s c.requires.0))
 
 pub sets_of-fixed-requires : goal.sets_of-fixed-requires
-sets_of-fixed-requires c = omega (arith, c.if-dims-dimension.false, (opened (bytes_of c.args.s.now (λ i. omega (arith, c.type_inv.s i))) c.requires.0).ready.dims)
+sets_of-fixed-requires c = omega (arith, c.if-shape-dimension.false, (opened_by c.type_inv.s c.requires.0).ready.dims)
 
 pub slice_bounds-rows_fix-end : goal.slice_bounds-rows_fix-end
-slice_bounds-rows_fix-end c = (opened (bytes_of c.args.s.now (λ i. omega (arith, c.type_inv.s i))) c.requires.0).ready.size
+slice_bounds-rows_fix-end c = (opened_by c.type_inv.s c.requires.0).ready.size
 
 pub rows_fix-requires : goal.rows_fix-requires
-rows_fix-requires c = laid (opened (bytes_of c.args.s.now (λ i. omega (arith, c.type_inv.s i))) c.requires.0)
+rows_fix-requires c = laid (opened_by c.type_inv.s c.requires.0)
 
-pub returns-then-rows_fix : goal.returns-then-rows_fix
-returns-then-rows_fix c = fixes-told (opened (bytes_of c.args.s.now (λ i. omega (arith, c.type_inv.s i))) c.requires.0) (omega (arith, c.if-sets_of-set.false, c.sets_of.ensures)) c.if-dimension-eq0.false c.if-dims-dimension.false {b = true} (sym c.if-rows_fix.true ∙ told (goal.at.returns-then-rows_fix c).After-rows_fix)
-
-pub returns-else-rows_fix : goal.returns-else-rows_fix
-returns-else-rows_fix c = fixes-told (opened (bytes_of c.args.s.now (λ i. omega (arith, c.type_inv.s i))) c.requires.0) (omega (arith, c.if-sets_of-set.false, c.sets_of.ensures)) c.if-dimension-eq0.false c.if-dims-dimension.false {b = false} (sym c.if-rows_fix.false ∙ told (goal.at.returns-else-rows_fix c).After-rows_fix)
+pub returns : goal.returns
+returns c = fixes-told (opened_by c.type_inv.s c.requires.0) (omega (arith, c.if-sets_of-set.false, c.sets_of.ensures)) c.if-dimension-eq0.false c.if-shape-dimension.false (told (goal.at.returns c).After-rows_fix)

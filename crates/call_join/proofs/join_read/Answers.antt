@@ -24,65 +24,65 @@ alike : {s : List ℕ} {d e n m : ℕ} (ws : List ℕ) → d ≡ e → OpenedIn 
 alike {s} {n = n} {m = m} ws h o = subst (λ (k : ℕ). OpenedIn s k n m ws) (sym h) o
 
 -- whether the sizes are the same, and the first's in the buffer
-told : (c : goal.After-same_sizes) → c.args.dims1 ≤ 8 → (let a = c.args in c.same_sizes.result ≡ same (words_at a.first.now a.dims1 8) (words_at a.second.now a.dims1 8))
-told c h = let a = c.args in subst (λ (n : ℕ). c.same_sizes.result ≡ same (words_at a.first.now n 8) (words_at a.second.now n 8)) (length-take-le a.dims1 zeros h) c.same_sizes.ensures.1
+told : (c : goal.After-same_sizes) → c.args.shape1.dims ≤ 8 → (let a = c.args in c.same_sizes.result ≡ same (words_at a.first.now a.shape1.dims 8) (words_at a.second.now a.shape1.dims 8))
+told c h = let a = c.args in subst (λ (n : ℕ). c.same_sizes.result ≡ same (words_at a.first.now n 8) (words_at a.second.now n 8)) (length-take-le a.shape1.dims zeros h) c.same_sizes.ensures.1
 
-sizes : (c : goal.After-same_sizes) → c.args.dims1 ≤ 8 → (let a = c.args in take a.dims1 (c.same_sizes.new.sizes ++ drop a.dims1 zeros) ≡ words_at a.first.now a.dims1 8)
-sizes c h = front_is c.args.first.now zeros c.args.dims1 8 h c.same_sizes.ensures.0
+sizes : (c : goal.After-same_sizes) → c.args.shape1.dims ≤ 8 → (let a = c.args in take a.shape1.dims (c.same_sizes.new.sizes ++ drop a.shape1.dims zeros) ≡ words_at a.first.now a.shape1.dims 8)
+sizes c h = front_is c.args.first.now zeros c.args.shape1.dims 8 h c.same_sizes.ensures.0
 
-pub returns-then-dims1-dims2 : goal.returns-then-dims1-dims2
-returns-then-dims1-dims2 c = stopped c.args.out.now (joins-dims (opened (bytes_of c.args.first.now (λ i. omega (arith, c.type_inv.first i))) c.requires.0.accepts) (opened (bytes_of c.args.second.now (λ i. omega (arith, c.type_inv.second i))) c.requires.1.accepts) c.if-dims1-dims2.true)
+pub returns-then-shape1-shape2 : goal.returns-then-shape1-shape2
+returns-then-shape1-shape2 c = stopped c.args.out.now (joins-dims (opened (bytes_of c.args.first.now (λ i. omega (arith, c.type_inv.first i))) c.requires.0) (opened (bytes_of c.args.second.now (λ i. omega (arith, c.type_inv.second i))) c.requires.1) c.if-shape1-shape2.true)
 
 pub overflow_mul-size1 : goal.overflow_mul-size1
-overflow_mul-size1 c = omega (arith, opened_small (opened (bytes_of c.args.first.now (λ i. omega (arith, c.type_inv.first i))) c.requires.0.accepts))
+overflow_mul-size1 c = omega (arith, opened_small (opened (bytes_of c.args.first.now (λ i. omega (arith, c.type_inv.first i))) c.requires.0))
 
 pub overflow_mul-size2 : goal.overflow_mul-size2
-overflow_mul-size2 c = omega (arith, opened_small (alike c.args.rows2.now c.if-dims1-dims2.false (opened (bytes_of c.args.second.now (λ i. omega (arith, c.type_inv.second i))) c.requires.1.accepts)))
+overflow_mul-size2 c = omega (arith, opened_small (alike c.args.rows2.now c.if-shape1-shape2.false (opened (bytes_of c.args.second.now (λ i. omega (arith, c.type_inv.second i))) c.requires.1)))
 
 pub slice_bounds-sizes-end : goal.slice_bounds-sizes-end
-slice_bounds-sizes-end c = (opened (bytes_of c.args.first.now (λ i. omega (arith, c.type_inv.first i))) c.requires.0.accepts).ready.dims
+slice_bounds-sizes-end c = (opened (bytes_of c.args.first.now (λ i. omega (arith, c.type_inv.first i))) c.requires.0).ready.dims
 
 pub slice_bounds-same_sizes-end : goal.slice_bounds-same_sizes-end
-slice_bounds-same_sizes-end c = sym (length-take-le c.args.dims1 zeros (opened (bytes_of c.args.first.now (λ i. omega (arith, c.type_inv.first i))) c.requires.0.accepts).ready.dims)
+slice_bounds-same_sizes-end c = sym (length-take-le c.args.shape1.dims zeros (opened (bytes_of c.args.first.now (λ i. omega (arith, c.type_inv.first i))) c.requires.0).ready.dims)
 
 pub slice_bounds-others-end : goal.slice_bounds-others-end
-slice_bounds-others-end c = (opened (bytes_of c.args.first.now (λ i. omega (arith, c.type_inv.first i))) c.requires.0.accepts).ready.dims
+slice_bounds-others-end c = (opened (bytes_of c.args.first.now (λ i. omega (arith, c.type_inv.first i))) c.requires.0).ready.dims
 
 pub slice_bounds-same_sizes-end-2 : goal.slice_bounds-same_sizes-end-2
-slice_bounds-same_sizes-end-2 c = sym (length-take-le c.args.dims1 zeros (opened (bytes_of c.args.first.now (λ i. omega (arith, c.type_inv.first i))) c.requires.0.accepts).ready.dims)
+slice_bounds-same_sizes-end-2 c = sym (length-take-le c.args.shape1.dims zeros (opened (bytes_of c.args.first.now (λ i. omega (arith, c.type_inv.first i))) c.requires.0).ready.dims)
 
 pub same_sizes-requires : goal.same_sizes-requires
 same_sizes-requires c =
-    let o = opened (bytes_of c.args.first.now (λ i. omega (arith, c.type_inv.first i))) c.requires.0.accepts in
-    let p = alike c.args.rows2.now c.if-dims1-dims2.false (opened (bytes_of c.args.second.now (λ i. omega (arith, c.type_inv.second i))) c.requires.1.accepts) in
-    let e = length-take-le c.args.dims1 zeros o.ready.dims in
+    let o = opened (bytes_of c.args.first.now (λ i. omega (arith, c.type_inv.first i))) c.requires.0 in
+    let p = alike c.args.rows2.now c.if-shape1-shape2.false (opened (bytes_of c.args.second.now (λ i. omega (arith, c.type_inv.second i))) c.requires.1) in
+    let e = length-take-le c.args.shape1.dims zeros o.ready.dims in
     record { sizes_len_bound = rw e (o.ready.dims, refl); sizes_in_bounds = rw e (opened_sizes o, opened_sizes p) }
 
 pub slice_bounds-sizes-end-then-same_sizes : goal.slice_bounds-sizes-end-then-same_sizes
-slice_bounds-sizes-end-then-same_sizes c = front-room c.args.first.now zeros c.args.dims1 8 (opened (bytes_of c.args.first.now (λ i. omega (arith, c.type_inv.first i))) c.requires.0.accepts).ready.dims c.same_sizes.ensures.0
+slice_bounds-sizes-end-then-same_sizes c = front-room c.args.first.now zeros c.args.shape1.dims 8 (opened (bytes_of c.args.first.now (λ i. omega (arith, c.type_inv.first i))) c.requires.0).ready.dims c.same_sizes.ensures.0
 
 pub slice_bounds-join_rows-end : goal.slice_bounds-join_rows-end
-slice_bounds-join_rows-end c = front_length c.args.first.now zeros c.args.dims1 8 (opened (bytes_of c.args.first.now (λ i. omega (arith, c.type_inv.first i))) c.requires.0.accepts).ready.dims c.same_sizes.ensures.0
+slice_bounds-join_rows-end c = front_length c.args.first.now zeros c.args.shape1.dims 8 (opened (bytes_of c.args.first.now (λ i. omega (arith, c.type_inv.first i))) c.requires.0).ready.dims c.same_sizes.ensures.0
 
 pub slice_bounds-join_rows-end-then-same_sizes : goal.slice_bounds-join_rows-end-then-same_sizes
-slice_bounds-join_rows-end-then-same_sizes c = (opened (bytes_of c.args.first.now (λ i. omega (arith, c.type_inv.first i))) c.requires.0.accepts).ready.size
+slice_bounds-join_rows-end-then-same_sizes c = (opened (bytes_of c.args.first.now (λ i. omega (arith, c.type_inv.first i))) c.requires.0).ready.size
 
 pub slice_bounds-join_rows-end-then-same_sizes-2 : goal.slice_bounds-join_rows-end-then-same_sizes-2
-slice_bounds-join_rows-end-then-same_sizes-2 c = (alike c.args.rows2.now c.if-dims1-dims2.false (opened (bytes_of c.args.second.now (λ i. omega (arith, c.type_inv.second i))) c.requires.1.accepts)).ready.size
+slice_bounds-join_rows-end-then-same_sizes-2 c = (alike c.args.rows2.now c.if-shape1-shape2.false (opened (bytes_of c.args.second.now (λ i. omega (arith, c.type_inv.second i))) c.requires.1)).ready.size
 
 pub join_rows-requires : goal.join_rows-requires
 join_rows-requires c =
-    let e = sym c.if-same_sizes.true ∙ told (goal.at.join_rows-requires c).After-same_sizes (opened (bytes_of c.args.first.now (λ i. omega (arith, c.type_inv.first i))) c.requires.0.accepts).ready.dims in
-    let o = opened (bytes_of c.args.first.now (λ i. omega (arith, c.type_inv.first i))) c.requires.0.accepts in
-    let p = alike c.args.rows2.now c.if-dims1-dims2.false (opened (bytes_of c.args.second.now (λ i. omega (arith, c.type_inv.second i))) c.requires.1.accepts) in
-    (opened_store o (sizes (goal.at.join_rows-requires c).After-same_sizes (opened (bytes_of c.args.first.now (λ i. omega (arith, c.type_inv.first i))) c.requires.0.accepts).ready.dims), opened_other o p e (sizes (goal.at.join_rows-requires c).After-same_sizes (opened (bytes_of c.args.first.now (λ i. omega (arith, c.type_inv.first i))) c.requires.0.accepts).ready.dims), c.requires.2)
+    let e = sym c.if-same_sizes.true ∙ told (goal.at.join_rows-requires c).After-same_sizes (opened (bytes_of c.args.first.now (λ i. omega (arith, c.type_inv.first i))) c.requires.0).ready.dims in
+    let o = opened (bytes_of c.args.first.now (λ i. omega (arith, c.type_inv.first i))) c.requires.0 in
+    let p = alike c.args.rows2.now c.if-shape1-shape2.false (opened (bytes_of c.args.second.now (λ i. omega (arith, c.type_inv.second i))) c.requires.1) in
+    (opened_store o (sizes (goal.at.join_rows-requires c).After-same_sizes (opened (bytes_of c.args.first.now (λ i. omega (arith, c.type_inv.first i))) c.requires.0).ready.dims), opened_other o p e (sizes (goal.at.join_rows-requires c).After-same_sizes (opened (bytes_of c.args.first.now (λ i. omega (arith, c.type_inv.first i))) c.requires.0).ready.dims), c.requires.2)
 
 pub returns-then-same_sizes : goal.returns-then-same_sizes
 returns-then-same_sizes c =
-    let e = sym c.if-same_sizes.true ∙ told (goal.at.returns-then-same_sizes c).After-same_sizes (opened (bytes_of c.args.first.now (λ i. omega (arith, c.type_inv.first i))) c.requires.0.accepts).ready.dims in
-    let o = opened (bytes_of c.args.first.now (λ i. omega (arith, c.type_inv.first i))) c.requires.0.accepts in
-    let p = alike c.args.rows2.now c.if-dims1-dims2.false (opened (bytes_of c.args.second.now (λ i. omega (arith, c.type_inv.second i))) c.requires.1.accepts) in
-    answered_as (joins-filed o p e (sizes (goal.at.returns-then-same_sizes c).After-same_sizes (opened (bytes_of c.args.first.now (λ i. omega (arith, c.type_inv.first i))) c.requires.0.accepts).ready.dims)) c.join_rows.ensures
+    let e = sym c.if-same_sizes.true ∙ told (goal.at.returns-then-same_sizes c).After-same_sizes (opened (bytes_of c.args.first.now (λ i. omega (arith, c.type_inv.first i))) c.requires.0).ready.dims in
+    let o = opened (bytes_of c.args.first.now (λ i. omega (arith, c.type_inv.first i))) c.requires.0 in
+    let p = alike c.args.rows2.now c.if-shape1-shape2.false (opened (bytes_of c.args.second.now (λ i. omega (arith, c.type_inv.second i))) c.requires.1) in
+    answered_as (joins-filed o p e (sizes (goal.at.returns-then-same_sizes c).After-same_sizes (opened (bytes_of c.args.first.now (λ i. omega (arith, c.type_inv.first i))) c.requires.0).ready.dims)) c.join_rows.ensures
 
 pub returns-else-same_sizes : goal.returns-else-same_sizes
-returns-else-same_sizes c = stopped c.args.out.now (joins-sizes (opened (bytes_of c.args.first.now (λ i. omega (arith, c.type_inv.first i))) c.requires.0.accepts) (alike c.args.rows2.now c.if-dims1-dims2.false (opened (bytes_of c.args.second.now (λ i. omega (arith, c.type_inv.second i))) c.requires.1.accepts)) (sym c.if-same_sizes.false ∙ told (goal.at.returns-else-same_sizes c).After-same_sizes (opened (bytes_of c.args.first.now (λ i. omega (arith, c.type_inv.first i))) c.requires.0.accepts).ready.dims))
+returns-else-same_sizes c = stopped c.args.out.now (joins-sizes (opened (bytes_of c.args.first.now (λ i. omega (arith, c.type_inv.first i))) c.requires.0) (alike c.args.rows2.now c.if-shape1-shape2.false (opened (bytes_of c.args.second.now (λ i. omega (arith, c.type_inv.second i))) c.requires.1)) (sym c.if-same_sizes.false ∙ told (goal.at.returns-else-same_sizes c).After-same_sizes (opened (bytes_of c.args.first.now (λ i. omega (arith, c.type_inv.first i))) c.requires.0).ready.dims))

@@ -1,24 +1,19 @@
 -- `call_keys::keys_read` meets its contract: the smallest keys are the smallest sets of which no cell is shared, and are written where there is room.
 use mathlib.Core.Path.{refl, sym, ap, ◌∙◌}
 use mathlib.Core.List.{List}
-use Prim.Native.Nat.{ℕ, ◌*◌}
-use native.Mathlib.Omega.{arith}
-use lib.ListN.{take}
-use Rattle.fields_walk.proofs.Limits.{bytes_of}
+use Prim.Native.Nat.{ℕ}
 use Rattle.call_answers.specs.Answers.{bytes}
 use Rattle.call_answers.proofs.Answers.{answered_as}
 use Rattle.call_answers.proofs.Outcomes.{keys-bytes}
 use Rattle.archive_cells.specs.ListBytes.{list_bytes}
-use Rattle.archive_read.specs.Sharing.{Sharing}
-use Rattle.call_ask.proofs.Opened.{OpenedIn, opened}
-use Rattle.rows.specs.Rows.{width}
+use Rattle.call_ask.proofs.Opened.{opened_by}
 use Rattle.call_keys.proofs.Bare.{least-bare, bare-short}
 use Rattle.call_keys.proofs.Outcomes.{laid, shared_in}
 use borrow.Author.Rules.{rules}
 use Rattle.call_keys.proofs.keys_read.Goals as goal
 
 pub fit_bare-requires : goal.fit_bare-requires
-fit_bare-requires c = ((opened (bytes_of c.args.s.now (λ i. omega (arith, c.type_inv.s i))) c.requires.0).ready.dims, (shared_in (opened (bytes_of c.args.s.now (λ i. omega (arith, c.type_inv.s i))) c.requires.0) c.args.rows.now c.args.used.now refl c.requires.1).sets, bare-short (laid (opened (bytes_of c.args.s.now (λ i. omega (arith, c.type_inv.s i))) c.requires.0)) (shared_in (opened (bytes_of c.args.s.now (λ i. omega (arith, c.type_inv.s i))) c.requires.0) c.args.rows.now c.args.used.now refl c.requires.1))
+fit_bare-requires c = ((opened_by c.type_inv.s c.requires.0).ready.dims, (shared_in (opened_by c.type_inv.s c.requires.0) c.args.rows.now c.args.used.now refl c.requires.1).sets, bare-short (laid (opened_by c.type_inv.s c.requires.0)) (shared_in (opened_by c.type_inv.s c.requires.0) c.args.rows.now c.args.used.now refl c.requires.1))
 
 pub returns : goal.returns
-returns c = answered_as (keys-bytes (opened (bytes_of c.args.s.now (λ i. omega (arith, c.type_inv.s i))) c.requires.0) ∙ ap (λ (l : List ℕ). bytes (list_bytes l)) (sym (least-bare (laid (opened (bytes_of c.args.s.now (λ i. omega (arith, c.type_inv.s i))) c.requires.0)) (shared_in (opened (bytes_of c.args.s.now (λ i. omega (arith, c.type_inv.s i))) c.requires.0) c.args.rows.now c.args.used.now refl c.requires.1)))) c.fit_bare.ensures
+returns c = answered_as (keys-bytes (opened_by c.type_inv.s c.requires.0) ∙ ap (λ (l : List ℕ). bytes (list_bytes l)) (sym (least-bare (laid (opened_by c.type_inv.s c.requires.0)) (shared_in (opened_by c.type_inv.s c.requires.0) c.args.rows.now c.args.used.now refl c.requires.1)))) c.fit_bare.ensures

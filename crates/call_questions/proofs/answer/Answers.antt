@@ -1,34 +1,27 @@
 -- `call_questions::answer` meets its contract. No row falls in the cell, or the first that does is single on the cell's set and answers, or two or more do:
 -- the cell is then a normal cell, and the search finds the entry at it.
 use mathlib.Core.Path.{◌≡◌, sym, ap, ap₂, subst, ◌∙◌}
-use Prim.Native.Nat.{ℕ, ◌+◌, ◌*◌, ◌<◌}
+use Prim.Native.Nat.{ℕ, ◌+◌, ◌*◌}
 use native.Mathlib.Omega.{arith}
 use lib.IntN.{ℤ}
 use mir.Syntax.{w64}
 use mir.Facts.{to_z-of_z}
+use Rattle.std.specs.Prelude.{Some}
 use Rattle.cube.specs.declared.Total.{Total}
 use Rattle.cube.specs.Codes.{set-of, plain}
 use Rattle.cube.specs.Condensed.{single}
 use Rattle.rows.specs.Rows.{cut, row_at}
-use Rattle.rows.proofs.Rows.{cut-length}
-use Rattle.call_questions.specs.declared.Look.TheVariants.{Cell}
 use Rattle.call_questions.specs.Questions.{looked, rowless, First}
-use Rattle.call_questions.proofs.Asked.{Entry, asked, asked-room, asked-none, asked-row, asked-normal}
+use Rattle.call_questions.proofs.Asked.{Entry, asked, asked-room, asked-below, asked-none, asked-row, asked-normal}
 use borrow.Author.Rules.{rules, sfits_of}
 use Rattle.call_questions.proofs.answer.Goals as goal
-use Rattle.call_questions.proofs.answer.Goals.{After-find_cell-k, After-is_single, Else-i-n}
+use Rattle.call_questions.proofs.answer.Goals.{After-find_cell-k, After-is_single}
 
--- the first row that falls in the cell is a row
-inside : (c : goal.Else-i-n) → c.first_row-i.result < c.args.n
-inside c =
-    let a = c.args in
-    omega (arith, c.if-i-n.false, c.first_row-i.ensures.within, cut-length a.dims a.n a.rows.now)
-
--- whether it is single on the cell's set
+-- whether the row is single
 alone : (c : goal.After-is_single)
     → (let a = c.args in
     let xs = cut a.dims a.n a.rows.now in
-    c.is_single.result ≡ single (plain a.dims) xs (set-of a.cell.now) (row_at xs c.first_row-i.result))
+    c.is_single.result ≡ single (plain a.dims) xs (set-of a.cell.now) (row_at xs c.in-Some.i))
 alone c = rw c.set_of.ensures at c.is_single.ensures
 
 -- where it is not, the normal entry that was found answers
@@ -38,35 +31,33 @@ entry : (c : goal.After-find_cell-k)
     Entry a.s.now (a.at + k * (4 * a.dims + 12)) a.dims (a.n + k) (asked c.requires.ready.0 a.cell.now))
 entry c =
     let a = c.args in
-    let f = c.first_row-i in
-    let inside : f.result < a.n = omega (arith, c.if-i-n.false, f.ensures.within, cut-length a.dims a.n a.rows.now) in
-    asked-normal c.requires.ready.0 a.cell.now f.result inside f.ensures c.requires.normals_at c.requires.ready.1 c.find_cell-k.ensures
+    asked-normal c.requires.ready.0 a.cell.now c.in-Some.ensures c.requires.normals_at c.requires.ready.1 c.find_cell-k.ensures
     (sym (rw c.set_of.ensures at c.is_single.ensures) ∙ c.if-is_single.false)
 
-pub returns-then-i-n : goal.returns-then-i-n
-returns-then-i-n c =
+pub returns-in_default : goal.returns-in_default
+returns-in_default c =
     let a = c.args in
     c.without_rows.ensures ∙ ap (λ (d : ℕ). looked (rowless d a.n a.cell.now)) c.requires.ready.1
-    ∙ asked-none c.requires.ready.0 a.cell.now (subst (First a.cell.now (cut a.dims a.n a.rows.now)) c.if-i-n.true c.first_row-i.ensures)
+    ∙ asked-none c.requires.ready.0 a.cell.now (subst (First a.cell.now (cut a.dims a.n a.rows.now)) c.in_default.is c.first_row.ensures)
 
 pub is_single-requires : goal.is_single-requires
 is_single-requires c =
     let ready = c.requires.ready.0 in
-    (ready.size, inside (goal.at.is_single-requires c).Else-i-n, ready.distinct)
+    (ready.size, asked-below ready c.args.cell.now c.in-Some.ensures, ready.distinct)
 
 pub total_at-total-requires : goal.total_at-total-requires
-total_at-total-requires c = (c.requires.ready.0.size, inside (goal.at.total_at-total-requires c).Else-i-n)
+total_at-total-requires c = (c.requires.ready.0.size, asked-below c.requires.ready.0 c.args.cell.now c.in-Some.ensures)
 
-pub overflow_cast-entry : goal.overflow_cast-entry
-overflow_cast-entry c = omega (arith, inside (goal.at.overflow_cast-entry c).Else-i-n, c.requires.ready.0.few)
+pub overflow_cast-result : goal.overflow_cast-result
+overflow_cast-result c = omega (arith, asked-below c.requires.ready.0 c.args.cell.now c.in-Some.ensures, c.requires.ready.0.few)
 
 pub returns-then-is_single : goal.returns-then-is_single
 returns-then-is_single c =
-    let f = c.first_row-i in
+    let i = c.in-Some.i in
     let t = c.total_at-total in
-    ap (λ (z : ℤ). Cell z t.result.count f.result) (to_z-of_z {w = w64} (record { sfits = c.struct_told-1.given.0.1 }))
-    ∙ ap (λ (u : Total). Cell u.sum u.count f.result) t.ensures
-    ∙ asked-row c.requires.ready.0 c.args.cell.now f.result (inside (goal.at.returns-then-is_single c).Else-i-n) f.ensures (sym (alone (goal.at.returns-then-is_single c).After-is_single) ∙ c.if-is_single.true)
+    ap (λ (z : ℤ). Some (record { sum = z; count = t.result.count; entry = i })) (to_z-of_z {w = w64} (record { sfits = c.struct_told-1.given.0.1 }))
+    ∙ ap (λ (u : Total). Some (record { sum = u.sum; count = u.count; entry = i })) t.ensures
+    ∙ asked-row c.requires.ready.0 c.args.cell.now c.in-Some.ensures (sym (alone (goal.at.returns-then-is_single c).After-is_single) ∙ c.if-is_single.true)
 
 pub find_cell-k-requires : goal.find_cell-k-requires
 find_cell-k-requires c =
@@ -93,11 +84,11 @@ word_at-count-requires c = omega (arith, (entry (goal.at.word_at-count-requires 
 pub overflow_add-entry : goal.overflow_add-entry
 overflow_add-entry c = omega (arith, (entry (goal.at.overflow_add-entry c).After-find_cell-k).fits)
 
-pub overflow_cast-entry-2 : goal.overflow_cast-entry-2
-overflow_cast-entry-2 c = omega (arith, (entry (goal.at.overflow_cast-entry-2 c).After-find_cell-k).fits)
+pub overflow_cast-entry : goal.overflow_cast-entry
+overflow_cast-entry c = omega (arith, (entry (goal.at.overflow_cast-entry c).After-find_cell-k).fits)
 
 pub returns : goal.returns
 returns c =
     let k = c.find_cell-k.result in
-    ap₂ (λ (z : ℤ) (m : ℕ). Cell z m (c.args.n + k)) (to_z-of_z {w = w64} (sfits_of c.sum_at-sum.type_inv) ∙ c.sum_at-sum.ensures) c.word_at-count.ensures
+    ap₂ (λ (z : ℤ) (m : ℕ). Some (record { sum = z; count = m; entry = c.args.n + k })) (to_z-of_z {w = w64} (sfits_of c.sum_at-sum.type_inv) ∙ c.sum_at-sum.ensures) c.word_at-count.ensures
     ∙ (entry (goal.at.returns c).After-find_cell-k).answers

@@ -31,4 +31,4 @@ loop-i-preserved c =
 pub returns : goal.returns
 returns c =
     let a = c.args in
-    first-none (cut-length a.dims a.n a.rows.now) c.loop-i-test.false c.loop-i.invariant.1
+    first-none a.cell.now (cut a.dims a.n a.rows.now) (cut-length a.dims a.n a.rows.now) c.loop-i-test.false c.loop-i.invariant.1

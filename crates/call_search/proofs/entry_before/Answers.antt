@@ -4,7 +4,6 @@ use mathlib.Core.List.{List, [], ◌∷◌}
 use Prim.Native.Nat.{ℕ}
 use lib.ListN.{length}
 use lib.Seq.{length-take-le}
-use borrow.Author.Rules.{rules}
 use Rattle.lists.specs.Order.{earlier}
 use Rattle.cube.specs.Codes.{keys}
 use Rattle.archive_entries.proofs.Front.{front_is, front_length, front-room}

@@ -1,6 +1,6 @@
 use mathlib.Core.Path.{◌≡◌}
 use mathlib.Core.List.{map}
-use Prim.Native.Nat.{◌-◌, ◌≤◌}
+use Prim.Native.Nat.{◌≤◌}
 use lib.ListN.{length, take}
 use Rattle.fee_shares.specs.Shares.{quota, rest}
 use Rattle.fee_shares.proofs.divide.Given as goal
@@ -9,6 +9,3 @@ abbrev pub invariant-loop-i : goal.invariant-loop-i
 invariant-loop-i l =
     (l.i ≤ length l.counts) × (length l.shares ≡ length l.counts) × (length l.rests ≡ length l.counts)
     × (take l.i l.shares ≡ map (quota l.total l.fee) (take l.i l.counts)) × (take l.i l.rests ≡ map (rest l.total l.fee) (take l.i l.counts))
-
-abbrev pub decreases-loop-i : goal.decreases-loop-i
-decreases-loop-i l = length l.counts - l.i

@@ -1,9 +1,6 @@
 -- `fee_shares::share_by` meets its contract: the fee is divided, a threshold found for the cents left, and these are given out by it.
-use native.Mathlib.Omega.{arith}
-use mathlib.Core.Path.{sym, ◌∙◌, ap}
-use lib.ListN.{length, length-map}
-use Rattle.fee_shares.specs.Shares.{quota, rest}
-use Rattle.fee_shares.proofs.Sharing.{Divided, divided_le, divided_few, divided_low, divided_above, divided_given}
+use mathlib.Core.Path.{◌∙◌}
+use Rattle.fee_shares.proofs.Sharing.{Divided, divided_le, divided_few, divided_low, divided_given}
 use borrow.Author.Rules.{rules}
 use Rattle.fee_shares.proofs.share_by.Goals as goal
 use Rattle.fee_shares.proofs.share_by.Goals.{After-total_of}
@@ -23,20 +20,6 @@ overflow_sub-left c = divided_le (divided c)
 
 pub threshold-v-requires : goal.threshold-v-requires
 threshold-v-requires c = let d = divided (goal.at.threshold-v-requires c).After-total_of in (search rules, divided_few d, divided_low d)
-
-pub overflow_add-v : goal.overflow_add-v
-overflow_add-v c = omega (arith, c.threshold-v.ensures.1, c.total_of-total.ensures, c.requires.fee_bound.3)
-
-pub overflow_sub-left-2 : goal.overflow_sub-left-2
-overflow_sub-left-2 c = divided_above (divided (goal.at.overflow_sub-left-2 c).After-total_of) c.threshold-v.ensures.0 c.at_least-above.ensures
-
-pub give-requires : goal.give-requires
-give-requires c =
-    let a = c.args in
-    let e = c.divide.ensures in (
-      ap length e.shares_after.0 ∙ length-map a.counts.now (quota c.total_of-total.result a.fee) ∙ sym (ap length e.shares_after.1 ∙ length-map a.counts.now (rest c.total_of-total.result a.fee)),
-      e.low,
-    )
 
 pub returns : goal.returns
 returns c = c.give.ensures ∙ divided_given (divided (goal.at.returns c).After-total_of) c.threshold-v.ensures.0 c.at_least-above.ensures

@@ -1,17 +1,8 @@
--- `fee_shares::total_of` meets its contract: what is added and what is left to be added is the total of all.
-use native.Mathlib.Omega.{arith}
-use Rattle.fee_shares.proofs.Walking.{sum-next, sum_done}
-use borrow.Author.Rules.{rules}
+-- `fee_shares::total_of` meets its contract: the total of a list is the library's.
+use Rattle.std.proofs.Common.{rules, refl}
+use Rattle.std.proofs.lemmas.List.Recursion.{is_sum_by}
+use Rattle.lists.specs.Lists.{sum}
 use Rattle.fee_shares.proofs.total_of.Goals as goal
 
-pub overflow_cast-total : goal.overflow_cast-total
-overflow_cast-total c = omega (arith, c.type_inv.list c.loop-i.i)
-
-pub overflow_add-total : goal.overflow_add-total
-overflow_add-total c = omega (arith, c.type_inv.list c.loop-i.i)
-
-pub loop-i-preserved : goal.loop-i-preserved
-loop-i-preserved c = omega (arith, c.type_inv.list c.loop-i.i, sum-next c.args.list.now c.loop-i.i (search rules))
-
 pub returns : goal.returns
-returns c = omega (arith, sum_done c.args.list.now c.loop-i.i (search rules))
+returns c = rw (is_sum_by sum (λ x. x) refl (λ _ _. refl) c.args.list.now) (search rules)

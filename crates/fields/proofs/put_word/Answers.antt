@@ -1,19 +1,8 @@
--- `fields::put_word` meets its contract. The four stores put the word's bytes from place 0 on.
-use mathlib.Core.Path.{refl}
-use native.Mathlib.Omega.{arith}
-use lib.ListN.{length-set}
-use lib.Seq.{sets-eq}
-use Rattle.fields.specs.Words.{word_bytes}
-use Rattle.fields.specs.Written.{written}
-use borrow.Author.Rules.{rules}
+-- `fields::put_word` meets its contract: the library's bytes of a word are those of `word_bytes`.
+use mathlib.Core.Path.{◌∙◌}
+use Rattle.fields.specs.WrittenLaws.{wrote_over}
+use Rattle.fields.proofs.Stands.{le-bytes}
 use Rattle.fields.proofs.put_word.Goals as goal
 
-pub bounds-out-1 : goal.bounds-out-1
-bounds-out-1 c = simp length-set (omega arith)
-
-pub bounds-out-2 : goal.bounds-out-2
-bounds-out-2 c = simp length-set (omega arith)
-
 pub returns : goal.returns
-unfolding written
-returns c = record { count = refl; same = simp length-set; list = sets-eq (word_bytes c.args.w) c.args.out.now 0 (omega arith) }
+returns c = wrote_over c.requires (c.copy_from_slice.ensures.after ∙ c.to_le_bytes.ensures ∙ le-bytes c.args.w)

@@ -1,11 +1,8 @@
 -- `fields_check::put_check` meets its contract. The check word is that of the front, and goes straight after it.
-use Rattle.std.proofs.Common.{sym, length-take-le, rules}
+use Rattle.std.proofs.Common.{rules}
 use Rattle.fields.specs.Words.{word_bytes}
 use Rattle.fields.specs.WrittenLaws.{lent_at}
 use Rattle.fields_check.proofs.put_check.Goals as goal
-
-pub slice_bounds-check_word-end-2 : goal.slice_bounds-check_word-end-2
-slice_bounds-check_word-end-2 c = sym (length-take-le c.args.at c.args.out.now (search rules))
 
 pub returns : goal.returns
 returns c =

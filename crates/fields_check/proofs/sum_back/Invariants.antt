@@ -1,8 +1,7 @@
-use Rattle.fields_check.proofs.Summed.{Behind}
+use Rattle.std.proofs.Common.{◌≡◌, ◌+◌, ◌%◌, length}
+use Rattle.fields_check.proofs.Summed.{Summed}
 use Rattle.fields_check.proofs.sum_back.Given as goal
 
-abbrev pub invariant-loop-at : goal.invariant-loop-at
-invariant-loop-at l = Behind l.s l.sum l.first l.second l.third l.fourth l.at
-
-abbrev pub decreases-loop-at : goal.decreases-loop-at
-decreases-loop-at l = l.at
+abbrev pub invariant-loop-four : goal.invariant-loop-four
+invariant-loop-four l =
+    (l.four-iterator.size ≡ 16) × (length l.four-iterator.rest.now % 16 ≡ 0) × Summed l.initial.four-iterator.rest.now (l.first + l.second + l.third + l.fourth) l.four-iterator.rest.now

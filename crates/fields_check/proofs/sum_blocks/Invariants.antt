@@ -1,9 +1,7 @@
-use Rattle.std.proofs.Common.{◌-◌, length}
-use Rattle.fields_check.proofs.Summed.{Blocks}
+use Rattle.std.proofs.Common.{◌≡◌, ◌%◌, length}
+use Rattle.fields_check.proofs.Summed.{Summed}
 use Rattle.fields_check.proofs.sum_blocks.Given as goal
 
-abbrev pub invariant-loop-at : goal.invariant-loop-at
-invariant-loop-at l = Blocks l.s l.sum l.at
-
-abbrev pub decreases-loop-at : goal.decreases-loop-at
-decreases-loop-at l = length l.s - l.at
+abbrev pub invariant-loop-block : goal.invariant-loop-block
+invariant-loop-block l =
+    (l.block-iterator.size ≡ 1024) × (length l.block-iterator.rest.now % 1024 ≡ 0) × Summed l.initial.block-iterator.rest.now l.sum l.block-iterator.rest.now

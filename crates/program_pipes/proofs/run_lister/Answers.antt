@@ -1,11 +1,7 @@
--- `program_pipes::run_lister` stays within its arrays: the lister prints no more than it is lent.
-use lib.Seq.{length-take-le}
-use mathlib.Core.Path.{sym}
+-- `program_pipes::run_lister` prints no more than it is lent.
+use Rattle.std.proofs.Common.{arith}
 use Rattle.fields.specs.WrittenLaws.{wrote_within}
 use Rattle.program_pipes.proofs.run_lister.Goals as goal
 
-pub slice_bounds-out-end : goal.slice_bounds-out-end
-slice_bounds-out-end g c = wrote_within c.list_text-done.ensures
-
-pub slice_bounds-write_all-end : goal.slice_bounds-write_all-end
-slice_bounds-write_all-end g c = sym (length-take-le _ _ (wrote_within c.list_text-done.ensures))
+pub run-requires-clause-within : goal.run-requires-clause-within
+run-requires-clause-within g c = λ input out n after e w. omega (arith, e, w.same, wrote_within w)

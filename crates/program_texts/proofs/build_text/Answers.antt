@@ -9,11 +9,11 @@ returns-then-input-gt-LONGEST c =
     let s = c.args.input.now in
     wrote_as (sym (builder_long s c.if-input-gt-LONGEST.true)) c.put_too_long.ensures
 
-pub returns-in-Length : goal.returns-in-Length
-returns-in-Length c =
-    builder-wrote c.args.input.now c.if-input-gt-LONGEST.false c.requires c.build.ensures c.in-Length.is
+pub returns-in-Ok : goal.returns-in-Ok
+returns-in-Ok c =
+    builder-wrote c.args.input.now c.if-input-gt-LONGEST.false c.requires c.build.ensures c.in-Ok.is
 
-pub returns-in-Stop : goal.returns-in-Stop
-returns-in-Stop c =
-    let r = builder-refused c.args.input.now c.if-input-gt-LONGEST.false c.requires c.build.ensures c.in-Stop.is in
+pub returns-in-Err : goal.returns-in-Err
+returns-in-Err c =
+    let r = builder-refused c.args.input.now c.if-input-gt-LONGEST.false c.requires c.build.ensures c.in-Err.is in
     wrote_as (sym r.0) (rw r.1 at c.put_refused.ensures)

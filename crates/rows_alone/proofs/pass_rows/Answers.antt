@@ -6,11 +6,9 @@ use Prim.Native.Nat.{ℕ, ◌-◌, ◌^◌}
 use native.Mathlib.Omega.{arith}
 use lib.ListN.{length}
 use Rattle.lattice.specs.Sets.{holds}
-use Rattle.lattice.proofs.Less.{less_within}
 use Rattle.rows_bits.specs.Rowsets.{has}
-use Rattle.rows_alone.specs.Alone.{words_of, passes}
+use Rattle.rows_alone.specs.Alone.{words_of}
 use Rattle.rows_alone.proofs.Words.{words-length, cleared_none, passes-start, passes-off, passes_on}
-use borrow.Author.Rules.{rules}
 use Rattle.rows_alone.proofs.pass_rows.Goals as goal
 use Rattle.rows_alone.proofs.pass_rows.Goals.{After-holds_set, Else-not-holds_set}
 
@@ -26,25 +24,19 @@ pub loop-d-init : goal.loop-d-init
 loop-d-init c =
     let a = c.args in
     let r = c.clear.ensures in
-    (omega arith, r.0 ∙ c.requires.2, λ x. cleared_none c.clear.new.next r.1 x ∙ sym (passes-start a.alone.now a.set x))
+    (r.0 ∙ c.requires.2, λ x. cleared_none c.clear.new.next r.1 x ∙ sym (passes-start a.alone.now a.set x))
 
 pub loop-d-preserved-then-not-holds_set : goal.loop-d-preserved-then-not-holds_set
 loop-d-preserved-then-not-holds_set c =
     let a = c.args in
     let l = c.loop-d in
-    (search rules, l.invariant.1, λ x. l.invariant.2 x ∙ sym (passes-off a.alone.now a.set x l.d (sym (tested (goal.at.loop-d-preserved-then-not-holds_set c).After-holds_set) ∙ c.if-not-holds_set.true)))
-
-pub overflow_sub-set : goal.overflow_sub-set
-overflow_sub-set c = omega (arith, c.sets_of-one.ensures, less_within 32 c.loop-d.d c.args.set (omega (arith, c.loop-d-test.true)) (had (goal.at.overflow_sub-set c).Else-not-holds_set))
-
-pub words_of-requires : goal.words_of-requires
-words_of-requires c = let p = c.requires in (p.0, omega (arith, p.1))
+    (l.invariant.0, λ x. l.invariant.1 x ∙ sym (passes-off a.alone.now a.set x l.d (sym (tested (goal.at.loop-d-preserved-then-not-holds_set c).After-holds_set) ∙ c.if-not-holds_set.true)))
 
 pub join-requires : goal.join-requires
 join-requires c =
     let a = c.args in
     let p = c.requires in
-    (c.loop-d.invariant.1, ap length c.words_of.ensures ∙ words-length a.alone.now (a.set - c.sets_of-one.result) (omega (arith, p.1)) p.0)
+    (c.loop-d.invariant.0, ap length c.words_of.ensures ∙ words-length a.alone.now (a.set - c.sets_of-one.result) (omega (arith, p.1)) p.0)
 
 pub loop-d-preserved : goal.loop-d-preserved
 loop-d-preserved c =
@@ -52,11 +44,4 @@ loop-d-preserved c =
     let l = c.loop-d in
     let r = c.join.ensures in
     let less = c.words_of.ensures ∙ ap (λ (u : ℕ). words_of a.alone.now (a.set - u)) c.sets_of-one.ensures in
-    (search rules, r.0, λ x. r.1 x ∙ ap₂ ◌||◌ (l.invariant.2 x) (ap (λ (w : List ℕ). has w x) less) ∙ sym (passes_on a.alone.now a.set x l.d (had (goal.at.loop-d-preserved c).Else-not-holds_set)))
-
-pub returns : goal.returns
-returns c =
-    let a = c.args in
-    let l = c.loop-d in
-    let e : l.d ≡ 8 = omega (arith, l.invariant.0, c.loop-d-test.false) in
-    (l.invariant.1, λ x. l.invariant.2 x ∙ ap (λ (d : ℕ). passes d a.alone.now a.set x) e)
+    (r.0, λ x. r.1 x ∙ ap₂ ◌||◌ (l.invariant.1 x) (ap (λ (w : List ℕ). has w x) less) ∙ sym (passes_on a.alone.now a.set x l.d (had (goal.at.loop-d-preserved c).Else-not-holds_set)))

@@ -1,12 +1,7 @@
--- `rows_alone::put_words` meets its contract: those before place i are written.
-use Rattle.rows_alone.proofs.Words.{storing_start, storing_more, storing_done}
+-- `rows_alone::put_words` meets its contract: the words of the set are copied, and those of the other sets stand elsewhere.
+use native.Mathlib.Omega.{arith}
+use Rattle.rows_alone.proofs.Words.{words_stored}
 use Rattle.rows_alone.proofs.put_words.Goals as goal
 
-pub loop-i-init : goal.loop-i-init
-loop-i-init c = storing_start c.requires.1 c.requires.0 c.requires.2
-
-pub loop-i-preserved : goal.loop-i-preserved
-loop-i-preserved c = let p = c.requires in storing_more p.1 p.0 p.2 c.loop-i.invariant c.loop-i-test.true
-
 pub returns : goal.returns
-returns c = let p = c.requires in storing_done p.1 p.0 p.2 c.loop-i.invariant c.loop-i-test.false
+returns c = let p = c.requires in rw c.copy_from_slice.ensures.after (words_stored c.args.words.now c.args.alone.now c.args.set _ p.1 p.2 p.0 (omega arith))

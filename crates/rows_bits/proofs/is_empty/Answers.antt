@@ -1,13 +1,12 @@
--- `rows_bits::is_empty` meets its contract: a word has the bits of all words before place i.
-use Rattle.rows_bits.proofs.Bits.{empty-start, empty-more, empty-done}
+-- `rows_bits::is_empty` meets its contract: a word with the bits of all words is 0 where each of them is.
+use mathlib.Core.Path.{◌≡◌}
+use lib.Bits.{bit_or}
 use borrow.Author.Rules.{rules}
+use Rattle.std.specs.List.{fold}
+use Rattle.rows_bits.proofs.Bits.{empty-fold}
 use Rattle.rows_bits.proofs.is_empty.Goals as goal
 
-pub loop-i-init : goal.loop-i-init
-loop-i-init c = (search rules, empty-start c.args.words.now)
-
-pub loop-i-preserved : goal.loop-i-preserved
-loop-i-preserved c = (search rules, empty-more c.args.words.now c.loop-i.any c.loop-i.i c.loop-i-test.true c.loop-i.invariant.1)
-
 pub returns : goal.returns
-returns c = empty-done c.args.words.now c.loop-i.any c.loop-i.i c.loop-i-test.false c.loop-i.invariant.1
+returns c =
+    let e : c.fold.result ≡ fold bit_or 0 c.args.words.now = search rules in
+    rw e (empty-fold c.args.words.now)

@@ -3,11 +3,8 @@ use mathlib.Core.Path.{sym, ◌∙◌}
 use native.Mathlib.Omega.{arith}
 use borrow.Author.Rules.{rules}
 use Rattle.rows_compare.proofs.Agree.{alike-out}
-use Rattle.rows_compare.proofs.Compared.{further_none, alike_in, compared_skip, compared_less, compared-more, compared-done}
+use Rattle.rows_compare.proofs.Compared.{alike_in, compared_skip, compared_less, compared-more, compared-done}
 use Rattle.rows_compare.proofs.compare.Goals as goal
-
-pub loop-d-init : goal.loop-d-init
-loop-d-init c = (omega arith, further_none _)
 
 pub returns-then-x-y : goal.returns-then-x-y
 returns-then-x-y c =

@@ -1,16 +1,15 @@
 -- `rows_compare::is_single` meets its contract. The row loop: no row so far agrees, and the row is single among the rows from i on just where it is among all.
 -- The dimension loop: what is left of two rows agrees on the rest of the set just where they agree on the set; `continue 'rows` steps i, so i is among its variables.
-use mathlib.Core.Path.{refl, sym, ap, ◌∙◌}
+use mathlib.Core.Path.{sym, ap, ◌∙◌}
 use mathlib.Core.List.{[]}
 use mathlib.Core.Path.{◌≡◌}
 use native.Mathlib.Omega.{arith}
 use Prim.Native.Nat.{◌<◌, ◌%◌}
 use Rattle.rows_compare.proofs.Compared.{alike_in}
 use borrow.Author.Rules.{rules}
-use borrow.Author.Tests.{eq-eqb, ne_eqb}
+use borrow.Author.Tests.{ne_eqb}
 use lib.ListN.{length}
 use Rattle.cube.specs.Codes.{plain}
-use Rattle.cube.specs.Condensed.{single}
 use Rattle.rows.specs.Rows.{cut, row_at}
 use Rattle.rows.proofs.Rows.{cut-length}
 use Rattle.rows_compare.proofs.Agree.{alike-out, agree_skip, agree-stop, agree-done}
@@ -24,11 +23,6 @@ within : (c : goal.In-rows)
     → (let a = c.args in
     c.rows.i < length (cut a.dims a.n a.rows.now))
 within c = rw cut-length (search rules)
-
-pub rows-init : goal.rows-init
-rows-init c =
-    let a = c.args in
-    (refl, search rules, ap (single (plain a.dims) (cut a.dims a.n a.rows.now) a.set) c.row_of-mine.ensures.0)
 
 pub rows-preserved-then-i-row : goal.rows-preserved-then-i-row
 rows-preserved-then-i-row c =

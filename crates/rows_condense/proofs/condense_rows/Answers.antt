@@ -1,9 +1,9 @@
 -- `rows_condense::condense_rows` meets its contract: before the set at place k the slots of the sets that had a turn are filled, the rows that are single on these are told, the
 -- lists are ours for these, and so many shared cells have been counted as these have.
-use mathlib.Core.Path.{refl, sym, ap, ap₂, ◌∙◌}
+use mathlib.Core.Path.{sym, ap, ap₂, ◌∙◌}
 use Prim.Native.Nat.{ℕ, zero, suc, ◌+◌, ◌≤◌, ◌<◌}
 use native.Mathlib.Omega.{arith}
-use lib.Pow.{pow_pos, pow_mono}
+use lib.Pow.{pow_mono}
 use Rattle.lattice.specs.Sets.{full}
 use Rattle.lattice.proofs.Sets.{full-lt}
 use Rattle.cube.specs.Codes.{plain}
@@ -37,24 +37,10 @@ all_listed : (c : goal.After-blanks) → blanks c.args.n + c.loop-k.cells ≤ 26
 all_listed c =
     let p = c.requires.n_bound in
     let g : Given c.args.dims c.args.n c.args.rows.now = record { dims = p.1; few = p.0; size = p.2; base = p.3 } in
-    omega (arith, one c.args.n, listing-few g c.loop-k.invariant.9)
-
-pub read_columns-requires : goal.read_columns-requires
-read_columns-requires c = let p = c.requires in (p.n_bound.2, p.n_bound.0, p.n_bound.1, search rules, p.n_bound.3.valid)
-
-pub overflow_cast-dims : goal.overflow_cast-dims
-overflow_cast-dims c = omega (arith, c.requires.n_bound.1)
-
-pub sets_of-all-requires : goal.sets_of-all-requires
-sets_of-all-requires c = c.requires.n_bound.1
-
-pub overflow_sub-all : goal.overflow_sub-all
-overflow_sub-all c = omega (arith, c.sets_of-all.ensures, pow_pos c.args.dims)
+    omega (arith, one c.args.n, listing-few g c.loop-k.invariant.1)
 
 pub loop-k-init : goal.loop-k-init
-loop-k-init c =
-    let a = c.args in
-    (refl, refl, search rules, search rules, search rules, search rules, search rules, search rules, filling_start (few c) a.store.now a.sizes.now, listing_start (base c) _ _ c.clear_lists.ensures)
+loop-k-init c = (filling_start (few c) c.args.store.now c.args.sizes.now, listing_start (base c) _ _ c.clear_lists.ensures)
 
 pub loop-k-preserved-then-all-set : goal.loop-k-preserved-then-all-set
 loop-k-preserved-then-all-set c =
@@ -62,24 +48,41 @@ loop-k-preserved-then-all-set c =
     let h = c.loop-k-test.true in
     let e = c.set_at-set.ensures in
     let f : full c.args.dims ≤ c.set_at-set.result = omega (arith, c.if-all-set.true, c.sets_of-all.ensures) in
-    (v.0, v.1, v.2, v.3, v.4, v.5, v.6, v.7, filling_skip (few (goal.at.loop-k-preserved-then-all-set c).After-sets_of-all) v.8 h e f, listing_skip (base (goal.at.loop-k-preserved-then-all-set c).After-sets_of-all) v.9 h e f)
+    let all = (goal.at.loop-k-preserved-then-all-set c).After-sets_of-all in
+    (filling_skip (few all) v.0 h e f, listing_skip (base all) v.1 h e f)
 
 pub list_set-cells-requires : goal.list_set-cells-requires
 list_set-cells-requires c =
     let p = c.requires in
-    let v = c.loop-k.invariant in
+    let l = c.loop-k in
+    let v = l.invariant in
     let h = c.loop-k-test.true in
     let e = c.set_at-set.ensures in
     let f = below (goal.at.list_set-cells-requires c).Else-all-set in
-    let g = base (goal.at.list_set-cells-requires c).After-sets_of-all in record { n_bound = (p.n_bound.0, p.n_bound.3.valid, p.n_bound.1, c.read_columns.ensures, omega (arith, f, full-lt c.args.dims), filling_shorter (few (goal.at.list_set-cells-requires c).After-sets_of-all) v.8 h e f); in_bounds = (omega (arith, v.0, p.in_bounds.0), omega (arith, v.1, p.in_bounds.1), v.5, v.6, v.7); in_bounds_2 = (omega (arith, v.3), v.4, listing_lower g v.9 h e f); n_in_bounds = (omega (arith, v.2, p.in_bounds.2), v.9.short, listing_fit g v.9 h e f) }
+    let all = (goal.at.list_set-cells-requires c).After-sets_of-all in
+    let g = base all in
+    record {
+      n_bound = (p.n_bound.0, p.n_bound.3.valid, p.n_bound.1, c.read_columns.ensures, omega (arith, f, full-lt c.args.dims), filling_shorter (few all) v.0 h e f);
+      in_bounds = search rules;
+      in_bounds_2 = (search rules, search rules, listing_lower g v.1 h e f);
+      n_in_bounds = (omega (arith, l.auto.lists, p.in_bounds.2), v.1.short, listing_fit g v.1 h e f);
+    }
 
 pub overflow_add-cells : goal.overflow_add-cells
-overflow_add-cells c = omega (arith, listing-few (base (goal.at.overflow_add-cells c).After-sets_of-all) (listing-more (base (goal.at.overflow_add-cells c).After-sets_of-all) c.loop-k.invariant.9 c.loop-k-test.true c.set_at-set.ensures (below (goal.at.overflow_add-cells c).Else-all-set) c.list_set-cells.ensures.told c.list_set-cells.ensures.lists_after c.list_set-cells.ensures.value))
+overflow_add-cells c =
+    let all = (goal.at.overflow_add-cells c).After-sets_of-all in
+    let r = c.list_set-cells.ensures in
+    omega (arith, listing-few (base all) (listing-more (base all) c.loop-k.invariant.1 c.loop-k-test.true c.set_at-set.ensures (below (goal.at.overflow_add-cells c).Else-all-set) r.told r.lists_after r.value))
 
 pub loop-k-preserved : goal.loop-k-preserved
 loop-k-preserved c =
     let v = c.loop-k.invariant in
-    (search rules, search rules, search rules, search rules, search rules, search rules, search rules, search rules, filling_more (few (goal.at.loop-k-preserved c).After-sets_of-all) v.8 c.loop-k-test.true c.set_at-set.ensures (below (goal.at.loop-k-preserved c).Else-all-set) c.list_set-cells.ensures.filled, listing-more (base (goal.at.loop-k-preserved c).After-sets_of-all) c.loop-k.invariant.9 c.loop-k-test.true c.set_at-set.ensures (below (goal.at.loop-k-preserved c).Else-all-set) c.list_set-cells.ensures.told c.list_set-cells.ensures.lists_after c.list_set-cells.ensures.value)
+    let h = c.loop-k-test.true in
+    let e = c.set_at-set.ensures in
+    let f = below (goal.at.loop-k-preserved c).Else-all-set in
+    let all = (goal.at.loop-k-preserved c).After-sets_of-all in
+    let r = c.list_set-cells.ensures in
+    (filling_more (few all) v.0 h e f r.filled, listing-more (base all) v.1 h e f r.told r.lists_after r.value)
 
 pub overflow_add-result : goal.overflow_add-result
 overflow_add-result c = omega (arith, all_listed c, c.blanks.ensures)
@@ -88,4 +91,10 @@ pub returns : goal.returns
 returns c =
     let a = c.args in
     let v = c.loop-k.invariant in
-    let r = listing-done (base (goal.at.returns c).After-sets_of-all) v.9 c.loop-k-test.false in record { all_hold = filling_done (few (goal.at.returns c).After-sets_of-all) v.8 c.loop-k-test.false; lists_after = (r.0, v.9.short); value = ap₂ ◌+◌ (c.blanks.ensures ∙ ap blanks (sym (cut-length a.dims a.n a.rows.now))) r.1 ∙ sym (normals-count (plain a.dims) (cut a.dims a.n a.rows.now)) }
+    let all = (goal.at.returns c).After-sets_of-all in
+    let r = listing-done (base all) v.1 c.loop-k-test.false in
+    record {
+      all_hold = filling_done (few all) v.0 c.loop-k-test.false;
+      lists_after = (r.0, v.1.short);
+      value = ap₂ ◌+◌ (c.blanks.ensures ∙ ap blanks (sym (cut-length a.dims a.n a.rows.now))) r.1 ∙ sym (normals-count (plain a.dims) (cut a.dims a.n a.rows.now));
+    }

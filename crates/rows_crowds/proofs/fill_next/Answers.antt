@@ -1,5 +1,5 @@
 -- `rows_crowds::fill_next` meets its contract: the rows of the set without its last dimension are split, and their groups are packed.
-use mathlib.Core.Path.{◌≡◌, refl, sym, ap, subst, ◌∙◌}
+use mathlib.Core.Path.{◌≡◌, refl, sym, ap, ◌∙◌}
 use mathlib.Core.List.{List, ◌++◌, map}
 use mathlib.Core.Bool.{Bool}
 use Prim.Native.Nat.{ℕ, ◌+◌, ◌-◌, ◌*◌}
@@ -11,9 +11,7 @@ use lib.Seq.{length-take-le, take-append-le, take_all}
 use Rattle.lists.specs.Lists.{◌∈◌}
 use Rattle.rows_bits.specs.Rowsets.{stays}
 use Rattle.rows_slots.specs.Slots.{row_in, out, mark_in}
-use Rattle.rows_columns.specs.Columns.{part}
-use Rattle.rows_crowds.specs.Crowds.{Holds}
-use Rattle.rows_crowds.proofs.Shorter.{shorter_zeros, shorter_power, shorter-place}
+use Rattle.rows_crowds.proofs.Shorter.{shorter_power}
 use Rattle.rows_crowds.proofs.Column.{turn_small, turn-column}
 use Rattle.rows_crowds.proofs.Filling.{below_all, Next, next-few, next-slot, next-rising, next-names, next_kept, next-left, filled}
 use Rattle.rows_crowds.proofs.fill_next.Goals as goal
@@ -35,12 +33,12 @@ next c =
         small = below_all c.args.dims p.dims_bound.0 p.dims_bound.3;
         within = p.dims_bound.3;
         told = p.dims_bound.1;
-        is_column = c.column_of-column.ensures;
-        is_rising = c.column_of-rising.ensures;
+        is_column = rw c.last_dimension-d.ensures.0 at c.column_of-column.ensures;
+        is_rising = rw c.last_dimension-d.ensures.0 at c.column_of-rising.ensures;
         passing = p.dims_bound.4;
       };
       held = p.dims_bound.5;
-      is-old = c.slot_of-old.ensures ∙ ap (λ (u : ℕ). part u (get_or a.sizes.now u 0) a.store.now) (ap (λ (z : ℕ). c.args.set - z) c.sets_of.ensures);
+      is-old = rw (c.sets_of.ensures, c.last_dimension-d.ensures.0) at c.slot_of-old.ensures;
     }
 
 -- the marks are in front of what is lent
@@ -50,49 +48,25 @@ front l m k e = take-append-le k l m (omega (arith, e)) ∙ take_all k l (omega 
 marked : (p : ℕ → Bool) (column old l m : List ℕ) (k : ℕ) → length l ≡ k → ((y : ℕ) → y ∈ map row_in old → get_or l y 0 ≡ mark_in p column 0 0 old y out) → (y : ℕ) → y ∈ map row_in old → get_or (take k (l ++ m)) y 0 ≡ mark_in p column 0 0 old y out
 marked p column old l m k e h y i = ap (λ (z : List ℕ). get_or z y 0) (front l m k e) ∙ h y i
 
-pub overflow_sub-d : goal.overflow_sub-d
-overflow_sub-d c = shorter_zeros c.args.set c.requires.dims_bound.2 (below_all c.args.dims c.requires.dims_bound.0 c.requires.dims_bound.3)
-
-pub sets_of-requires : goal.sets_of-requires
-sets_of-requires c = omega (arith, (shorter-place c.args.set c.requires.dims_bound.2 (below_all c.args.dims c.requires.dims_bound.0 c.requires.dims_bound.3) c.args.dims c.requires.dims_bound.3), c.requires.dims_bound.0)
-
 pub overflow_sub-shorter : goal.overflow_sub-shorter
-overflow_sub-shorter c = omega (arith, c.sets_of.ensures, shorter_power c.args.set c.requires.dims_bound.2 (below_all c.args.dims c.requires.dims_bound.0 c.requires.dims_bound.3))
+overflow_sub-shorter c = rw (c.sets_of.ensures, c.last_dimension-d.ensures.0) (shorter_power c.args.set c.requires.dims_bound.2 (below_all c.args.dims c.requires.dims_bound.0 c.requires.dims_bound.3))
 
 pub slot_of-old-requires : goal.slot_of-old-requires
-slot_of-old-requires c = let p = c.requires in (p.in_bounds.0, p.in_bounds.1, omega (arith, (below_all c.args.dims c.requires.dims_bound.0 c.requires.dims_bound.3)), omega (arith, (let a = c.args in subst (Holds a.least a.dims a.n a.rows.now a.store.now a.sizes.now) (sym (ap (λ (z : ℕ). c.args.set - z) c.sets_of.ensures)) p.dims_bound.5).few, p.n_bound.0))
-
-pub column_of-column-requires : goal.column_of-column-requires
-column_of-column-requires c = let p = c.requires in (p.dims_bound.1.room, omega (arith, (shorter-place c.args.set c.requires.dims_bound.2 (below_all c.args.dims c.requires.dims_bound.0 c.requires.dims_bound.3) c.args.dims c.requires.dims_bound.3), p.dims_bound.0), p.n_bound.0)
-
-pub column_of-rising-requires : goal.column_of-rising-requires
-column_of-rising-requires c = let p = c.requires in (p.dims_bound.1.room, omega (arith, (shorter-place c.args.set c.requires.dims_bound.2 (below_all c.args.dims c.requires.dims_bound.0 c.requires.dims_bound.3) c.args.dims c.requires.dims_bound.3), p.dims_bound.0), p.n_bound.0)
-
-pub slice_bounds-split_groups-end-2 : goal.slice_bounds-split_groups-end-2
-slice_bounds-split_groups-end-2 c = let p = c.requires in sym (length-take-le c.args.n _ (omega (arith, p.n_bound.0, p.in_bounds.3)))
+slot_of-old-requires c =
+    let a = c.args in
+    let p = c.requires in
+    (p.in_bounds.0, p.in_bounds.1, omega (arith, below_all c.args.dims c.requires.dims_bound.0 c.requires.dims_bound.3), rw (c.sets_of.ensures, c.last_dimension-d.ensures.0) (omega (arith, p.dims_bound.5.few, p.n_bound.0)))
 
 pub split_groups-staying-requires : goal.split_groups-staying-requires
 split_groups-staying-requires c =
     let p = c.requires in
     let x = next (goal.at.split_groups-staying-requires c).After-column_of-rising in record { column_len_bound = (omega (arith, turn-column x.turn, p.n_bound.0), next-slot x, p.dims_bound.4.room, turn_small x.turn, next-rising x); order_len = (p.in_bounds.2, length-take-le c.args.n c.args.marks.now (omega (arith, p.n_bound.0, p.in_bounds.3)) ∙ sym (turn-column x.turn), p.in_bounds.4) }
 
-pub overflow_mul-from : goal.overflow_mul-from
-overflow_mul-from c = omega (arith, (below_all c.args.dims c.requires.dims_bound.0 c.requires.dims_bound.3))
-
-pub overflow_add-to : goal.overflow_add-to
-overflow_add-to c = omega (arith, (below_all c.args.dims c.requires.dims_bound.0 c.requires.dims_bound.3))
-
 pub slice_bounds-pack_groups-end : goal.slice_bounds-pack_groups-end
 slice_bounds-pack_groups-end c =
     let p = c.requires in
     let r = c.split_groups-staying in
     omega (arith, r.ensures.order_after.1, next-few (next (goal.at.slice_bounds-pack_groups-end c).After-column_of-rising), p.n_bound.0, r.auto.order, p.in_bounds.2)
-
-pub offset_bounds-store-from : goal.offset_bounds-store-from
-offset_bounds-store-from c = omega (arith, below_all c.args.dims c.requires.dims_bound.0 c.requires.dims_bound.3)
-
-pub slice_bounds-pack_groups-end-5 : goal.slice_bounds-pack_groups-end-5
-slice_bounds-pack_groups-end-5 c = omega (arith, below_all c.args.dims c.requires.dims_bound.0 c.requires.dims_bound.3, c.requires.in_bounds.0)
 
 pub pack_groups-done-requires : goal.pack_groups-done-requires
 pack_groups-done-requires c =
@@ -112,12 +86,6 @@ pack_groups-done-requires c =
         omega (arith, n, r.ensures.order_after.1, few, p.n_bound.0, r.auto.next, p.in_bounds.4),
       );
     }
-
-pub offset_bounds-sizes-at : goal.offset_bounds-sizes-at
-offset_bounds-sizes-at c = omega (arith, below_all c.args.dims c.requires.dims_bound.0 c.requires.dims_bound.3)
-
-pub bounds-sizes-at : goal.bounds-sizes-at
-bounds-sizes-at c = omega (arith, below_all c.args.dims c.requires.dims_bound.0 c.requires.dims_bound.3, c.requires.in_bounds.1)
 
 pub returns : goal.returns
 returns c =

@@ -6,7 +6,6 @@ use borrow.Rule.Slice.PartMut.{mid_len}
 use lib.ListN.{length}
 use Rattle.rows_order.proofs.Arranged.{arranged-length}
 use Rattle.rows_slots.specs.Slots.{code_in}
-use Rattle.rows_crowds.proofs.Shorter.{shorter_zeros, shorter-place}
 use Rattle.rows_crowds.proofs.Column.{Turn, turn-column, turn-rising, one-names, one_kept, one_left}
 use Rattle.rows_crowds.proofs.Filling.{below_all, filled}
 use Rattle.rows_crowds.proofs.fill_one.Goals as goal
@@ -25,26 +24,14 @@ turn c =
       small = below_all c.args.dims p.dims_bound.0 p.dims_bound.3;
       within = p.dims_bound.3;
       told = p.dims_bound.1;
-      is_column = c.column_of-by.ensures;
-      is_rising = c.column_of-order.ensures;
+      is_column = rw c.last_dimension-d.ensures.0 at c.column_of-by.ensures;
+      is_rising = rw c.last_dimension-d.ensures.0 at c.column_of-order.ensures;
       passing = p.dims_bound.4;
     }
 
 -- all rows
 long : (c : goal.After-column_of-order) → length c.column_of-order.result.now ≡ c.args.n
 long c = let x = turn c in ap length (turn-rising x) ∙ arranged-length (code_in c.column_of-by.result.now) c.args.n
-
-pub overflow_sub-d : goal.overflow_sub-d
-overflow_sub-d c = shorter_zeros c.args.set c.requires.dims_bound.2 (below_all c.args.dims c.requires.dims_bound.0 c.requires.dims_bound.3)
-
-pub column_of-by-requires : goal.column_of-by-requires
-column_of-by-requires c = let p = c.requires in (p.dims_bound.1.room, omega (arith, (shorter-place c.args.set c.requires.dims_bound.2 (below_all c.args.dims c.requires.dims_bound.0 c.requires.dims_bound.3) c.args.dims c.requires.dims_bound.3), p.dims_bound.0), p.n_bound.0)
-
-pub column_of-order-requires : goal.column_of-order-requires
-column_of-order-requires c = let p = c.requires in (p.dims_bound.1.room, omega (arith, (shorter-place c.args.set c.requires.dims_bound.2 (below_all c.args.dims c.requires.dims_bound.0 c.requires.dims_bound.3) c.args.dims c.requires.dims_bound.3), p.dims_bound.0), p.n_bound.0)
-
-pub slice_bounds-pack_groups-end : goal.slice_bounds-pack_groups-end
-slice_bounds-pack_groups-end c = omega (arith, (below_all c.args.dims c.requires.dims_bound.0 c.requires.dims_bound.3), c.requires.in_bounds.0)
 
 pub pack_groups-done-requires : goal.pack_groups-done-requires
 pack_groups-done-requires c =
@@ -53,9 +40,6 @@ pack_groups-done-requires c =
     let x = turn (goal.at.pack_groups-done-requires c).After-column_of-order in
     let n = long (goal.at.pack_groups-done-requires c).After-column_of-order in
     let names = one-names x p.dims_bound.5 p.dims_bound.6 in record { names = (λ i l. omega (arith, names i l, turn-column x), λ i l. omega (arith, names i l, p.n_bound.0), omega (arith, n, p.n_bound.0)); order_in_bounds = (omega (arith, n, p.n_bound.0, mid_len (a.set * 1024) (a.set * 1024 + 1024) a.store.now (omega (arith, (below_all c.args.dims c.requires.dims_bound.0 c.requires.dims_bound.3), p.in_bounds.0))), omega (arith, n, p.n_bound.0, p.in_bounds.2)) }
-
-pub bounds-sizes-set : goal.bounds-sizes-set
-bounds-sizes-set c = omega (arith, (below_all c.args.dims c.requires.dims_bound.0 c.requires.dims_bound.3), c.requires.in_bounds.1)
 
 pub returns : goal.returns
 returns c =

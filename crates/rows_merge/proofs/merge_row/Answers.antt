@@ -12,23 +12,23 @@ use Rattle.rows_merge.proofs.merge_row.Goals as goal
 use Rattle.rows_merge.proofs.merge_row.Goals.{In-Both, In-First, In-Second}
 
 -- whose turn it is, and that there is a row left
-first : (c : goal.In-First) → (let a = c.args in turn (drop a.i (cut a.dims a.n a.rows1.now)) (drop a.j (cut a.dims a.m a.rows2.now)) ≡ First)
+first : (c : goal.In-First) → (let a = c.args in turn (drop a.done.first (cut a.dims a.n a.rows1.now)) (drop a.done.second (cut a.dims a.m a.rows2.now)) ≡ First)
 first c = sym c.next_turn.ensures ∙ c.in-First.is
 
-first-left : (c : goal.In-First) → c.args.i < c.args.n
-first-left c = turn-first c.requires.pair.0 c.args.i c.args.j (first c)
+first-left : (c : goal.In-First) → c.args.done.first < c.args.n
+first-left c = turn-first c.requires.pair.0 c.args.done.first c.args.done.second (first c)
 
-second : (c : goal.In-Second) → (let a = c.args in turn (drop a.i (cut a.dims a.n a.rows1.now)) (drop a.j (cut a.dims a.m a.rows2.now)) ≡ Second)
+second : (c : goal.In-Second) → (let a = c.args in turn (drop a.done.first (cut a.dims a.n a.rows1.now)) (drop a.done.second (cut a.dims a.m a.rows2.now)) ≡ Second)
 second c = sym c.next_turn.ensures ∙ c.in-Second.is
 
-second-left : (c : goal.In-Second) → c.args.j < c.args.m
-second-left c = turn-second c.requires.pair.0 c.args.i c.args.j (second c) c.requires.passed.of_one c.requires.pair.1
+second-left : (c : goal.In-Second) → c.args.done.second < c.args.m
+second-left c = turn-second c.requires.pair.0 c.args.done.first c.args.done.second (second c) c.requires.passed.of_one c.requires.pair.1
 
-two : (c : goal.In-Both) → (let a = c.args in turn (drop a.i (cut a.dims a.n a.rows1.now)) (drop a.j (cut a.dims a.m a.rows2.now)) ≡ Both)
+two : (c : goal.In-Both) → (let a = c.args in turn (drop a.done.first (cut a.dims a.n a.rows1.now)) (drop a.done.second (cut a.dims a.m a.rows2.now)) ≡ Both)
 two c = sym c.next_turn.ensures ∙ c.in-Both.is
 
-both_left : (c : goal.In-Both) → (let a = c.args in (a.i < a.n) × (a.j < a.m))
-both_left c = turn-both c.requires.pair.0 c.args.i c.args.j (two c)
+both_left : (c : goal.In-Both) → (let a = c.args in (a.done.first < a.n) × (a.done.second < a.m))
+both_left c = turn-both c.requires.pair.0 c.args.done.first c.args.done.second (two c)
 
 pub row_of-row-requires : goal.row_of-row-requires
 row_of-row-requires c = (c.requires.pair.0.one.size, first-left c)
@@ -68,7 +68,7 @@ total_at-other-requires c = (c.requires.pair.0.other.size, (both_left (goal.at.t
 pub plus-sum-requires : goal.plus-sum-requires
 plus-sum-requires c =
     let h = both_left (goal.at.plus-sum-requires c).In-Both in
-    rw (c.total_at-other.ensures, c.total_at-total-in-Both.ensures) (pair_adds c.requires.pair.0 c.args.i c.args.j h.0 h.1)
+    rw (c.total_at-other.ensures, c.total_at-total-in-Both.ensures) (pair_adds c.requires.pair.0 c.args.done.first c.args.done.second h.0 h.1)
 
 pub put_row-requires-in-Both : goal.put_row-requires-in-Both
 put_row-requires-in-Both c =
@@ -83,15 +83,15 @@ overflow_add-result-in-Both-2 c = omega (arith, (both_left (goal.at.overflow_add
 pub returns-in-First : goal.returns-in-First
 returns-in-First c =
     let r = c.row_of-row.ensures in
-    record { passed_2 = passed_first c.requires.pair.0 c.args.i c.args.j c.requires.passed (rw r.1 at c.put_row.ensures) (first (goal.at.returns-in-First c).In-First) r.0 c.total_at-total.ensures; j_bound = omega arith }
+    record { passed_2 = passed_first c.requires.pair.0 c.args.done.first c.args.done.second c.requires.passed (rw r.1 at c.put_row.ensures) (first (goal.at.returns-in-First c).In-First) r.0 c.total_at-total.ensures; j_bound = omega arith }
 
 pub returns-in-Second : goal.returns-in-Second
 returns-in-Second c =
     let r = c.row_of-row-in-Second.ensures in
-    record { passed_2 = passed_second c.requires.pair.0 c.args.i c.args.j c.requires.passed (rw r.1 at c.put_row-in-Second.ensures) (second (goal.at.returns-in-Second c).In-Second) (second-left (goal.at.returns-in-Second c).In-Second) r.0 c.total_at-total-in-Second.ensures; j_bound = omega arith }
+    record { passed_2 = passed_second c.requires.pair.0 c.args.done.first c.args.done.second c.requires.passed (rw r.1 at c.put_row-in-Second.ensures) (second (goal.at.returns-in-Second c).In-Second) (second-left (goal.at.returns-in-Second c).In-Second) r.0 c.total_at-total-in-Second.ensures; j_bound = omega arith }
 
 pub returns-in-Both : goal.returns-in-Both
 returns-in-Both c =
     let r = c.row_of-row-in-Both.ensures in
     let t = c.plus-sum.ensures ∙ ap₂ plus c.total_at-total-in-Both.ensures c.total_at-other.ensures in
-    record { passed_2 = passed_both c.requires.pair.0 c.args.i c.args.j c.requires.passed (rw r.1 at c.put_row-in-Both.ensures) (two (goal.at.returns-in-Both c).In-Both) r.0 t; j_bound = omega arith }
+    record { passed_2 = passed_both c.requires.pair.0 c.args.done.first c.args.done.second c.requires.passed (rw r.1 at c.put_row-in-Both.ensures) (two (goal.at.returns-in-Both c).In-Both) r.0 t; j_bound = omega arith }

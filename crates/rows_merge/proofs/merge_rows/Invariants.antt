@@ -5,9 +5,9 @@ use Rattle.rows.specs.Rows.{rows_of}
 use Rattle.rows_merge.specs.Pass.{Passed}
 use Rattle.rows_merge.proofs.merge_rows.Given as goal
 
-abbrev pub invariant-loop-i : goal.invariant-loop-i
-invariant-loop-i l =
-    (length l.rows ≡ length l.initial.rows) × (l.k ≤ 1024) × Passed l.dims l.n l.rows1 l.m l.rows2 l.i l.j (rows_of l.dims l.k l.rows)
+abbrev pub invariant-loop-done : goal.invariant-loop-done
+invariant-loop-done l =
+    (length l.rows ≡ length l.initial.rows) × (l.k ≤ 1024) × Passed l.dims l.n l.rows1 l.m l.rows2 l.done.first l.done.second (rows_of l.dims l.k l.rows)
 
-abbrev pub decreases-loop-i : goal.decreases-loop-i
-decreases-loop-i l = l.n + l.m - (l.i + l.j)
+abbrev pub decreases-loop-done : goal.decreases-loop-done
+decreases-loop-done l = l.n + l.m - (l.done.first + l.done.second)

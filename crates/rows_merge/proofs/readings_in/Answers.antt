@@ -29,9 +29,6 @@ more c =
     let l = c.loop-i in
     rw c.total_at-total.ensures (omega (arith, count_next a.dims a.n l.i a.rows.now c.loop-i-test.true, l.invariant.1))
 
-pub loop-i-init : goal.loop-i-init
-loop-i-init c = (omega arith, omega arith)
-
 pub overflow_add-all : goal.overflow_add-all
 overflow_add-all c = omega (arith, more (goal.at.overflow_add-all c).After-total_at-total, c.requires.1)
 

@@ -24,9 +24,6 @@ loop-from-init c = (search rules, search rules, search rules, gather_all c.order
 pub run_end-end-requires : goal.run_end-end-requires
 run_end-end-requires c = (c.order_rows.ensures, c.loop-from-test.true)
 
-pub overflow_cast-index : goal.overflow_cast-index
-overflow_cast-index c = omega (arith, c.type_inv.index c.loop-from.from)
-
 pub row_of-mine-requires : goal.row_of-mine-requires
 row_of-mine-requires c = (c.requires.dims_value.0, indexed_below c.order_rows.ensures c.loop-from.from c.loop-from-test.true)
 

@@ -1,7 +1,6 @@
 -- `rows_runs::run_end` meets its contract: the first row comes before none of the rows passed.
 use mathlib.Core.Path.{sym, ◌∙◌}
 use native.Mathlib.Omega.{arith}
-use borrow.Author.Rules.{rules}
 use borrow.Author.Tests.{eqb-true, eqb-false}
 use lib.Dec.{eqb}
 use Rattle.lists.proofs.Tests.{cases, truth}
@@ -10,15 +9,6 @@ use Rattle.rows_order.specs.Index.{key}
 use Rattle.rows_runs.proofs.Runs.{ends_at}
 use Rattle.rows_runs.proofs.Indexed.{indexed_ordered, indexed_below}
 use Rattle.rows_runs.proofs.run_end.Goals as goal
-
-pub overflow_cast-first : goal.overflow_cast-first
-overflow_cast-first c = omega (arith, c.type_inv.index c.args.from)
-
-pub loop-end-init : goal.loop-end-init
-loop-end-init c = (search rules, search rules, λ j h k. absurd (omega arith))
-
-pub overflow_cast-other : goal.overflow_cast-other
-overflow_cast-other c = omega (arith, c.type_inv.index c.loop-end.end)
 
 pub row_before-requires : goal.row_before-requires
 row_before-requires c =
@@ -31,20 +21,18 @@ pub returns-then-row_before : goal.returns-then-row_before
 returns-then-row_before c =
     let l = c.loop-end in
     ends_at (key c.args.set (cut c.args.dims c.args.n c.args.rows.now)) c.args.index.now c.args.from l.end
-    (indexed_ordered c.requires.0) (omega arith) (omega arith) l.invariant.2 (λ h. sym c.row_before.ensures ∙ c.if-row_before.true)
+    (indexed_ordered c.requires.0) (omega arith) (omega arith) l.invariant (λ h. sym c.row_before.ensures ∙ c.if-row_before.true)
 
 pub loop-end-preserved : goal.loop-end-preserved
 loop-end-preserved c =
-    let l = c.loop-end in (
-      search rules,
-      search rules,
-      λ j h k. cases (truth (eqb j l.end))
-          (λ e. rw (eqb-true j l.end e) (sym c.row_before.ensures ∙ c.if-row_before.false))
-          (λ e. l.invariant.2 j h (omega (arith, eqb-false j l.end e))),
-    )
+    let l = c.loop-end in
+    λ j h k. cases (truth (eqb j l.end))
+    (λ e. rw (eqb-true j l.end e) (sym c.row_before.ensures ∙ c.if-row_before.false))
+    (λ e. l.invariant j h (omega (arith, eqb-false j l.end e)))
 
 pub returns : goal.returns
 returns c =
+    let n = c.args.n in
     let l = c.loop-end in
-    ends_at (key c.args.set (cut c.args.dims c.args.n c.args.rows.now)) c.args.index.now c.args.from l.end
-    (indexed_ordered c.requires.0) (omega arith) (omega arith) l.invariant.2 (λ h. absurd (omega arith))
+    ends_at (key c.args.set (cut c.args.dims n c.args.rows.now)) c.args.index.now c.args.from n
+    (indexed_ordered c.requires.0) (omega arith) (omega arith) (λ j h k. l.invariant j h (omega (arith, k))) (λ h. absurd (omega arith))

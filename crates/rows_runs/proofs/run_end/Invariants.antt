@@ -1,6 +1,6 @@
 use mathlib.Core.Path.{◌≡◌}
 use mathlib.Core.Bool.{false}
-use Prim.Native.Nat.{ℕ, ◌-◌, ◌≤◌, ◌<◌}
+use Prim.Native.Nat.{ℕ, ◌<◌}
 use lib.ListN.{get_or}
 use Rattle.lists.specs.Order.{earlier}
 use Rattle.rows.specs.Rows.{cut}
@@ -9,8 +9,4 @@ use Rattle.rows_runs.proofs.run_end.Given as goal
 
 abbrev pub invariant-loop-end : goal.invariant-loop-end
 invariant-loop-end l =
-    (l.from < l.end) × (l.end ≤ l.n)
-    × ((j : ℕ) → l.from < j → j < l.end → earlier (key l.set (cut l.dims l.n l.rows) (get_or l.index l.from 0)) (key l.set (cut l.dims l.n l.rows) (get_or l.index j 0)) ≡ false)
-
-abbrev pub decreases-loop-end : goal.decreases-loop-end
-decreases-loop-end l = l.n - l.end
+    (j : ℕ) → l.from < j → j < l.end → earlier (key l.set (cut l.dims l.n l.rows) (get_or l.index l.from 0)) (key l.set (cut l.dims l.n l.rows) (get_or l.index j 0)) ≡ false

@@ -2,7 +2,6 @@
 use mathlib.Core.Path.{◌≡◌}
 use mathlib.Core.List.{◌∷◌}
 use Prim.Native.Nat.{◌+◌}
-use native.Mathlib.Omega.{arith}
 use lib.ListN.{get_or}
 use lib.Seq.{slice}
 use Rattle.rows.specs.Rows.{row_total}
@@ -26,9 +25,6 @@ pub loop-k-init : goal.loop-k-init
 loop-k-init c =
     let a = c.args in
     (total-start (row_total a.dims a.n a.rows.now) a.index.now a.from a.end, room-nothing c.requires.1.room)
-
-pub overflow_cast-i : goal.overflow_cast-i
-overflow_cast-i c = omega (arith, c.type_inv.index c.loop-k.k)
 
 pub total_at-requires : goal.total_at-requires
 total_at-requires c = (c.requires.0, c.requires.1.below c.loop-k.k c.loop-k-test.true)

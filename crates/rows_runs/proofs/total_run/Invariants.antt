@@ -1,5 +1,4 @@
 use mathlib.Core.Path.{◌≡◌}
-use Prim.Native.Nat.{◌-◌}
 use lib.Seq.{slice}
 use Rattle.rows.specs.Rows.{row_total}
 use Rattle.rows_runs.specs.Totals.{amounts_at, run_total}
@@ -10,6 +9,3 @@ abbrev pub invariant-loop-k : goal.invariant-loop-k
 invariant-loop-k l =
     (total_from l.total (amounts_at (row_total l.dims l.n l.rows) (slice l.k l.end l.index)) ≡ run_total (row_total l.dims l.n l.rows) (slice l.from l.end l.index))
     × Room l.total (amounts_at (row_total l.dims l.n l.rows) (slice l.k l.end l.index))
-
-abbrev pub decreases-loop-k : goal.decreases-loop-k
-decreases-loop-k l = l.end - l.k

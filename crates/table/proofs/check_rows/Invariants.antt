@@ -5,8 +5,8 @@ use Rattle.fields_walk.proofs.Loops.{Follows}
 use Rattle.table.specs.Reading.{row}
 use Rattle.table.proofs.check_rows.Given as goal
 
-abbrev pub invariant-loop-i : goal.invariant-loop-i
-invariant-loop-i l = (l.i ≤ l.count) × (l.at ≤ length l.s) × Follows l.s (many (l.count - l.i) (row l.sizes) (drop l.at l.s)) (many l.count (row l.sizes) (drop l.start l.s))
+abbrev pub invariant-loop : goal.invariant-loop
+invariant-loop l = (l.counter ≤ l.count) × (l.at ≤ length l.s) × Follows l.s (many (l.count - l.counter) (row l.sizes) (drop l.at l.s)) (many l.count (row l.sizes) (drop l.start l.s))
 
-abbrev pub decreases-loop-i : goal.decreases-loop-i
-decreases-loop-i l = l.count - l.i
+abbrev pub decreases-loop : goal.decreases-loop
+decreases-loop l = l.count - l.counter

@@ -25,15 +25,11 @@ integer-above (pos n) h = refl
 integer-above (negsuc n) h = absurd (false≢true (sym h))
 
 -- the integer's text, by the magnitude that the code computed
-below : (c : goal.Then-z-lt0) → integer c.args.z ≡ ascii "-" ++ decimal c.magnitude-n.result
-below c =
-    let same = to_z-of_z c.ranges.z in
-    rw (c.magnitude-n.ensures, same) (integer-below _ (rw same at c.if-z-lt0.true))
+below : (c : goal.Then-z-lt0) → integer c.args.z ≡ ascii "-" ++ decimal c.unsigned_abs-n.result
+below c = let same = to_z-of_z c.ranges.z in rw (c.unsigned_abs-n.ensures.value, same) (integer-below _ (rw same at c.if-z-lt0.true))
 
-above : (c : goal.Else-z-lt0) → integer c.args.z ≡ decimal c.magnitude-n.result
-above c =
-    let same = to_z-of_z c.ranges.z in
-    rw (c.magnitude-n.ensures, same) (integer-above _ (rw same at c.if-z-lt0.false))
+above : (c : goal.Else-z-lt0) → integer c.args.z ≡ decimal c.unsigned_abs-n.result
+above c = let same = to_z-of_z c.ranges.z in rw (c.unsigned_abs-n.ensures.value, same) (integer-above _ (rw same at c.if-z-lt0.false))
 
 pub put_character-at-requires : goal.put_character-at-requires
 put_character-at-requires c = search (rules, ap length (below (goal.at.put_character-at-requires c).Then-z-lt0))

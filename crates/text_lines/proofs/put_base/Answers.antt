@@ -46,14 +46,16 @@ put_character-done-requires-2 c = search (rules, room (goal.at.put_character-don
 pub overflow_add-done-2 : goal.overflow_add-done-2
 overflow_add-done-2 c = search (rules, room (goal.at.overflow_add-done-2 c).After-word_at-n)
 
-pub slice_bounds-put_sets-count : goal.slice_bounds-put_sets-count
-slice_bounds-put_sets-count c = search (rules, room (goal.at.slice_bounds-put_sets-count c).After-word_at-n)
+pub slice_bounds-put_words-count : goal.slice_bounds-put_words-count
+slice_bounds-put_words-count c = search (rules, room (goal.at.slice_bounds-put_words-count c).After-word_at-n)
 
-pub slice_bounds-put_sets-start : goal.slice_bounds-put_sets-start
-slice_bounds-put_sets-start c = search (rules, room (goal.at.slice_bounds-put_sets-start c).After-word_at-n)
+pub slice_bounds-put_words-start : goal.slice_bounds-put_words-start
+slice_bounds-put_words-start c = search (rules, room (goal.at.slice_bounds-put_words-start c).After-word_at-n)
 
-pub put_sets-done-requires : goal.put_sets-done-requires
-put_sets-done-requires c = record { n_in_bounds = search (rules, room (goal.at.put_sets-done-requires c).After-word_at-n); at_in_bounds = search (rules, room (goal.at.put_sets-done-requires c).After-word_at-n) }
+pub put_words-done-requires : goal.put_words-done-requires
+put_words-done-requires c =
+    let k = room (goal.at.put_words-done-requires c).After-word_at-n in
+    record { n_in_bounds = search (rules, k); at_in_bounds = search (rules, k) }
 
 pub overflow_add-done-3 : goal.overflow_add-done-3
 overflow_add-done-3 c = search (rules, room (goal.at.overflow_add-done-3 c).After-word_at-n)
@@ -74,4 +76,4 @@ pub returns : goal.returns
 returns c =
     let a = c.args in
     rw (base_text_is (base_there a.s.now a.dims a.at), ← c.word_at-n.ensures)
-    (wrote_then (wrote_then (wrote_then (wrote_then c.put_row-done.ensures c.put_character-done.ensures) c.put_character-done-2.ensures) c.put_sets-done.ensures) c.put_character.ensures)
+    (wrote_then (wrote_then (wrote_then (wrote_then c.put_row-done.ensures c.put_character-done.ensures) c.put_character-done-2.ensures) c.put_words-done.ensures) c.put_character.ensures)

@@ -3,4 +3,4 @@ use Rattle.fields.specs.WrittenLaws.{wrote_then}
 use Rattle.text_lines.proofs.put_number.Goals as goal
 
 pub returns : goal.returns
-returns c = wrote_then c.put_decimal-done.ensures c.put_character.ensures
+returns c = rw (← c.from.ensures) (wrote_then c.put_decimal-done.ensures c.put_character.ensures)

@@ -29,8 +29,10 @@ room c e =
     let a = c.args in
     rw (e, c.word_at-count.ensures) (rw (length-row_text (row_there a.s.now a.dims a.at)) at c.requires.at_in_bounds)
 
-pub put_codes-done-requires : goal.put_codes-done-requires
-put_codes-done-requires c = record { n_in_bounds = search (rules, room (goal.at.put_codes-done-requires c).After-word_at-count (sum (goal.at.put_codes-done-requires c).After-sum_at-sum)); at_in_bounds = search (rules, room (goal.at.put_codes-done-requires c).After-word_at-count (sum (goal.at.put_codes-done-requires c).After-sum_at-sum)) }
+pub put_words-done-requires : goal.put_words-done-requires
+put_words-done-requires c =
+    let k = room (goal.at.put_words-done-requires c).After-word_at-count (sum (goal.at.put_words-done-requires c).After-sum_at-sum) in
+    record { n_in_bounds = search (rules, k); at_in_bounds = search (rules, k) }
 
 pub slice_bounds-put_integer-count : goal.slice_bounds-put_integer-count
 slice_bounds-put_integer-count c = search (rules, room (goal.at.slice_bounds-put_integer-count c).After-word_at-count (sum (goal.at.slice_bounds-put_integer-count c).After-sum_at-sum))
@@ -71,5 +73,5 @@ overflow_add-result c = search (rules, room (goal.at.overflow_add-result c).Afte
 pub returns : goal.returns
 returns c =
     let a = c.args in
-    rw (row_text_is (row_there a.s.now a.dims a.at), ← sum (goal.at.returns c).After-sum_at-sum, ← c.word_at-count.ensures)
-    (wrote_then (wrote_then (wrote_then c.put_codes-done.ensures c.put_integer-done.ensures) c.put_character-done.ensures) c.put_decimal.ensures)
+    rw (row_text_is (row_there a.s.now a.dims a.at), ← sum (goal.at.returns c).After-sum_at-sum, ← c.word_at-count.ensures, ← c.from.ensures)
+    (wrote_then (wrote_then (wrote_then c.put_words-done.ensures c.put_integer-done.ensures) c.put_character-done.ensures) c.put_decimal.ensures)

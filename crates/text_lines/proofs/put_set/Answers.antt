@@ -22,4 +22,4 @@ pub overflow_add-result : goal.overflow_add-result
 overflow_add-result c = search (rules, ap length (set_text_is c.args.set))
 
 pub returns : goal.returns
-returns c = rw (set_text_is c.args.set) (wrote_then c.put_character-done.ensures c.put_decimal.ensures)
+returns c = rw (set_text_is c.args.set, ← c.from.ensures) (wrote_then c.put_character-done.ensures c.put_decimal.ensures)

@@ -14,7 +14,7 @@ use Rattle.text_listing.proofs.Read.{base_reads}
 use Rattle.text_listing.proofs.Turns.{turn-done, thing_whole, thing_room, turn_on}
 use Rattle.text_listing.proofs.Places.{bases-start, whole}
 use Rattle.text_listing.proofs.put_bases.Goals as goal
-use Rattle.text_listing.proofs.put_bases.Goals.{In-loop-i}
+use Rattle.text_listing.proofs.put_bases.Goals.{In-loop}
 
 -- the entries are within the bytes
 are-bytes : (c : goal.After-shared_slice_known-1) → Bytes c.args.s.now
@@ -24,18 +24,18 @@ long : (c : goal.After-shared_slice_known-1) → 20 + 4 * c.args.dims ≤ length
 long c = omega (arith, whole (are-bytes c) c.requires.by_index.1)
 
 -- the entry at the place is within the bytes, and there is room for its line
-module _ (c : goal.In-loop-i) where
+module _ (c : goal.In-loop) where
   abbrev bytes : List ℕ
   bytes = c.args.s.now
 
   abbrev d : ℕ
   d = c.args.dims
 
-  entry : c.loop-i.at + width_there bytes d c.loop-i.at ≤ length bytes
-  entry = thing_whole base_bytes base_text (BaseFits d) (λ s. base_there s d) (λ s. width_there s d) (base_reads d) c.loop-i.invariant c.loop-i-test.true
+  entry : c.loop.at + width_there bytes d c.loop.at ≤ length bytes
+  entry = thing_whole base_bytes base_text (BaseFits d) (λ s. base_there s d) (λ s. width_there s d) (base_reads d) c.loop.invariant c.loop-test.true
 
-  room : c.loop-i.done + length (base_text (base_there bytes d c.loop-i.at)) ≤ length c.loop-i.out
-  room = thing_room base_bytes base_text (BaseFits d) (λ s. base_there s d) (λ s. width_there s d) (base_reads d) c.loop-i.invariant c.loop-i-test.true c.requires.s_in_bounds
+  room : c.loop.done + length (base_text (base_there bytes d c.loop.at)) ≤ length c.loop.out
+  room = thing_room base_bytes base_text (BaseFits d) (λ s. base_there s d) (λ s. width_there s d) (base_reads d) c.loop.invariant c.loop-test.true c.requires.s_in_bounds
 
 pub overflow_mul-at : goal.overflow_mul-at
 overflow_mul-at c = search (rules, long c)
@@ -43,8 +43,8 @@ overflow_mul-at c = search (rules, long c)
 pub overflow_add-at : goal.overflow_add-at
 overflow_add-at c = search (rules, long c)
 
-pub loop-i-init : goal.loop-i-init
-loop-i-init c = bases-start (are-bytes c) c.requires.by_index.1 c.args.out.now
+pub loop-init : goal.loop-init
+loop-init c = bases-start (are-bytes c) c.requires.by_index.1 c.args.out.now
 
 pub slice_bounds-put_base-count : goal.slice_bounds-put_base-count
 slice_bounds-put_base-count c = search (rules, room c)
@@ -53,47 +53,47 @@ pub slice_bounds-put_base-start : goal.slice_bounds-put_base-start
 slice_bounds-put_base-start c = search (rules, room c)
 
 pub put_base-done-requires : goal.put_base-done-requires
-put_base-done-requires c = record { at_in_bounds = entry (goal.at.put_base-done-requires c).In-loop-i; at_in_bounds_2 = simp (length-take, length-drop) (omega (arith, room (goal.at.put_base-done-requires c).In-loop-i)) }
+put_base-done-requires c = record { at_in_bounds = entry (goal.at.put_base-done-requires c).In-loop; at_in_bounds_2 = simp (length-take, length-drop) (omega (arith, room (goal.at.put_base-done-requires c).In-loop)) }
 
 pub overflow_add-done : goal.overflow_add-done
-overflow_add-done c = search (rules, room (goal.at.overflow_add-done c).In-loop-i)
+overflow_add-done c = search (rules, room (goal.at.overflow_add-done c).In-loop)
 
 pub overflow_mul-dims : goal.overflow_mul-dims
-overflow_mul-dims c = search (rules, entry (goal.at.overflow_mul-dims c).In-loop-i)
+overflow_mul-dims c = search (rules, entry (goal.at.overflow_mul-dims c).In-loop)
 
-pub overflow_add-at-in-loop-i : goal.overflow_add-at-in-loop-i
-overflow_add-at-in-loop-i c = search (rules, entry (goal.at.overflow_add-at-in-loop-i c).In-loop-i)
+pub overflow_add-at-in-loop : goal.overflow_add-at-in-loop
+overflow_add-at-in-loop c = search (rules, entry (goal.at.overflow_add-at-in-loop c).In-loop)
 
-pub overflow_add-at-in-loop-i-2 : goal.overflow_add-at-in-loop-i-2
-overflow_add-at-in-loop-i-2 c = search (rules, entry (goal.at.overflow_add-at-in-loop-i-2 c).In-loop-i)
+pub overflow_add-at-in-loop-2 : goal.overflow_add-at-in-loop-2
+overflow_add-at-in-loop-2 c = search (rules, entry (goal.at.overflow_add-at-in-loop-2 c).In-loop)
 
 pub word_at-sets-requires : goal.word_at-sets-requires
-word_at-sets-requires c = search (rules, entry (goal.at.word_at-sets-requires c).In-loop-i)
+word_at-sets-requires c = search (rules, entry (goal.at.word_at-sets-requires c).In-loop)
 
-pub overflow_mul-at-in-loop-i : goal.overflow_mul-at-in-loop-i
-overflow_mul-at-in-loop-i c = search (rules, entry (goal.at.overflow_mul-at-in-loop-i c).In-loop-i)
+pub overflow_mul-at-in-loop : goal.overflow_mul-at-in-loop
+overflow_mul-at-in-loop c = search (rules, entry (goal.at.overflow_mul-at-in-loop c).In-loop)
 
-pub overflow_add-at-in-loop-i-3 : goal.overflow_add-at-in-loop-i-3
-overflow_add-at-in-loop-i-3 c = search (rules, entry (goal.at.overflow_add-at-in-loop-i-3 c).In-loop-i)
+pub overflow_add-at-in-loop-3 : goal.overflow_add-at-in-loop-3
+overflow_add-at-in-loop-3 c = search (rules, entry (goal.at.overflow_add-at-in-loop-3 c).In-loop)
 
-pub overflow_mul-at-in-loop-i-2 : goal.overflow_mul-at-in-loop-i-2
-overflow_mul-at-in-loop-i-2 c = search (rules, entry (goal.at.overflow_mul-at-in-loop-i-2 c).In-loop-i)
+pub overflow_mul-at-in-loop-2 : goal.overflow_mul-at-in-loop-2
+overflow_mul-at-in-loop-2 c = search (rules, entry (goal.at.overflow_mul-at-in-loop-2 c).In-loop)
 
-pub overflow_add-at-in-loop-i-4 : goal.overflow_add-at-in-loop-i-4
-overflow_add-at-in-loop-i-4 c = search (rules, entry (goal.at.overflow_add-at-in-loop-i-4 c).In-loop-i)
+pub overflow_add-at-in-loop-4 : goal.overflow_add-at-in-loop-4
+overflow_add-at-in-loop-4 c = search (rules, entry (goal.at.overflow_add-at-in-loop-4 c).In-loop)
 
-pub overflow_add-at-in-loop-i-5 : goal.overflow_add-at-in-loop-i-5
-overflow_add-at-in-loop-i-5 c = search (rules, entry (goal.at.overflow_add-at-in-loop-i-5 c).In-loop-i)
+pub overflow_add-at-in-loop-5 : goal.overflow_add-at-in-loop-5
+overflow_add-at-in-loop-5 c = search (rules, entry (goal.at.overflow_add-at-in-loop-5 c).In-loop)
 
-pub loop-i-preserved : goal.loop-i-preserved
-loop-i-preserved c =
-    let l = c.loop-i in
+pub loop-preserved : goal.loop-preserved
+loop-preserved c =
+    let l = c.loop in
     let d = c.args.dims in
-    turn_on base_bytes base_text (BaseFits d) (λ s. base_there s d) (λ s. width_there s d) (base_reads d) l.invariant c.loop-i-test.true
+    turn_on base_bytes base_text (BaseFits d) (λ s. base_there s d) (λ s. width_there s d) (base_reads d) l.invariant c.loop-test.true
     c.put_base-done.ensures (omega (arith, c.word_at-sets.ensures))
 
 pub shape_of-out : goal.shape_of-out
-shape_of-out c = c.loop-i.invariant.writing.wrote.same
+shape_of-out c = c.loop.invariant.writing.wrote.same
 
 pub returns : goal.returns
-returns c = turn-done base_bytes base_text (BaseFits _) c.loop-i.invariant c.loop-i-test.false
+returns c = turn-done base_bytes base_text (BaseFits _) c.loop.invariant c.loop-test.false

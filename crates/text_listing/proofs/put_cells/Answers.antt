@@ -15,7 +15,7 @@ use Rattle.text_listing.proofs.Read.{cell_reads}
 use Rattle.text_listing.proofs.Turns.{turn-done, thing_whole, thing_room, turn_on}
 use Rattle.text_listing.proofs.Places.{cells-start, whole}
 use Rattle.text_listing.proofs.put_cells.Goals as goal
-use Rattle.text_listing.proofs.put_cells.Goals.{In-loop-i}
+use Rattle.text_listing.proofs.put_cells.Goals.{In-loop}
 
 -- the entries are within the bytes
 are-bytes : (c : goal.After-shared_slice_known-1) → Bytes c.args.s.now
@@ -25,18 +25,18 @@ long : (c : goal.After-shared_slice_known-1) → (let a = c.args in 20 + 4 * a.d
 long c = whole (are-bytes c) c.requires.by_index.1
 
 -- the entry at the place is within the bytes, and there is room for its line
-module _ (c : goal.In-loop-i) where
+module _ (c : goal.In-loop) where
   abbrev bytes : List ℕ
   bytes = c.args.s.now
 
   abbrev d : ℕ
   d = c.args.dims
 
-  entry : c.loop-i.at + (4 * d + 12) ≤ length bytes
-  entry = thing_whole cell_bytes cell_text (RowFits d) (λ s. row_there s d) (λ s at. 4 * d + 12) (cell_reads d) c.loop-i.invariant c.loop-i-test.true
+  entry : c.loop.at + (4 * d + 12) ≤ length bytes
+  entry = thing_whole cell_bytes cell_text (RowFits d) (λ s. row_there s d) (λ s at. 4 * d + 12) (cell_reads d) c.loop.invariant c.loop-test.true
 
-  room : c.loop-i.done + length (cell_text (row_there bytes d c.loop-i.at)) ≤ length c.loop-i.out
-  room = thing_room cell_bytes cell_text (RowFits d) (λ s. row_there s d) (λ s at. 4 * d + 12) (cell_reads d) c.loop-i.invariant c.loop-i-test.true c.requires.s_in_bounds
+  room : c.loop.done + length (cell_text (row_there bytes d c.loop.at)) ≤ length c.loop.out
+  room = thing_room cell_bytes cell_text (RowFits d) (λ s. row_there s d) (λ s at. 4 * d + 12) (cell_reads d) c.loop.invariant c.loop-test.true c.requires.s_in_bounds
 
 pub overflow_mul-width : goal.overflow_mul-width
 overflow_mul-width c = search (rules, long c)
@@ -53,8 +53,8 @@ overflow_mul-at c = search (rules, long c)
 pub overflow_sub-at-2 : goal.overflow_sub-at-2
 overflow_sub-at-2 c = search (rules, long c)
 
-pub loop-i-init : goal.loop-i-init
-loop-i-init c = cells-start (are-bytes c) c.requires.by_index.1 c.args.out.now
+pub loop-init : goal.loop-init
+loop-init c = cells-start (are-bytes c) c.requires.by_index.1 c.args.out.now
 
 pub slice_bounds-put_cell-count : goal.slice_bounds-put_cell-count
 slice_bounds-put_cell-count c = search (rules, room c)
@@ -63,22 +63,22 @@ pub slice_bounds-put_cell-start : goal.slice_bounds-put_cell-start
 slice_bounds-put_cell-start c = search (rules, room c)
 
 pub put_cell-done-requires : goal.put_cell-done-requires
-put_cell-done-requires c = record { dims_in_bounds = omega (arith, entry (goal.at.put_cell-done-requires c).In-loop-i); at_in_bounds = simp (length-take, length-drop) (omega (arith, room (goal.at.put_cell-done-requires c).In-loop-i)) }
+put_cell-done-requires c = record { dims_in_bounds = omega (arith, entry (goal.at.put_cell-done-requires c).In-loop); at_in_bounds = simp (length-take, length-drop) (omega (arith, room (goal.at.put_cell-done-requires c).In-loop)) }
 
 pub overflow_add-done : goal.overflow_add-done
-overflow_add-done c = search (rules, room (goal.at.overflow_add-done c).In-loop-i)
+overflow_add-done c = search (rules, room (goal.at.overflow_add-done c).In-loop)
 
 pub overflow_add-at : goal.overflow_add-at
-overflow_add-at c = search (rules, entry (goal.at.overflow_add-at c).In-loop-i)
+overflow_add-at c = search (rules, entry (goal.at.overflow_add-at c).In-loop)
 
-pub loop-i-preserved : goal.loop-i-preserved
-loop-i-preserved c =
+pub loop-preserved : goal.loop-preserved
+loop-preserved c =
     let d = c.args.dims in
-    turn_on cell_bytes cell_text (RowFits d) (λ s. row_there s d) (λ s at. 4 * d + 12) (cell_reads d) c.loop-i.invariant c.loop-i-test.true
+    turn_on cell_bytes cell_text (RowFits d) (λ s. row_there s d) (λ s at. 4 * d + 12) (cell_reads d) c.loop.invariant c.loop-test.true
     c.put_cell-done.ensures refl
 
 pub shape_of-out : goal.shape_of-out
-shape_of-out c = c.loop-i.invariant.writing.wrote.same
+shape_of-out c = c.loop.invariant.writing.wrote.same
 
 pub returns : goal.returns
-returns c = turn-done cell_bytes cell_text (RowFits _) c.loop-i.invariant c.loop-i-test.false
+returns c = turn-done cell_bytes cell_text (RowFits _) c.loop.invariant c.loop-test.false

@@ -1,4 +1,3 @@
-use Prim.Native.Nat.{◌-◌}
 use Rattle.archive_entries.specs.Layout.{cell_bytes}
 use Rattle.archive_entries.specs.Reading.{read_archive}
 use Rattle.text_lines.specs.Lines.{cell_text}
@@ -7,8 +6,5 @@ use Rattle.text_listing.proofs.Fits.{RowFits}
 use Rattle.text_listing.proofs.Turns.{Turn}
 use Rattle.text_listing.proofs.put_cells.Given as goal
 
-abbrev pub invariant-loop-i : goal.invariant-loop-i
-invariant-loop-i l = Turn cell_bytes cell_text (RowFits l.dims) l.s (held_by (read_archive l.s)).cells l.initial.out l.out l.i l.cells l.at l.done
-
-abbrev pub decreases-loop-i : goal.decreases-loop-i
-decreases-loop-i l = l.cells - l.i
+abbrev pub invariant-loop : goal.invariant-loop
+invariant-loop l = Turn cell_bytes cell_text (RowFits l.dims) l.s (held_by (read_archive l.s)).cells l.initial.out l.out l.counter l.cells l.at l.done

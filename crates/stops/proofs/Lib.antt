@@ -1,0 +1,3 @@
+-- What a `?` hands on, and that no two stops have one number.
+pub mod Handed
+pub mod Numbers

@@ -1,0 +1,2 @@
+-- The stops' numbers.
+pub mod Numbers
