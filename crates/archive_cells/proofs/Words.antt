@@ -1,12 +1,11 @@
 -- Numbers of any type as words, and how a loop writes them: those from place i on are left.
 use mathlib.Core.Path.{◌≡◌, refl, ap, ◌∙◌}
 use mathlib.Core.List.{List, [], ◌∷◌, ◌++◌, map}
-use Prim.Native.Nat.{ℕ, ◌+◌, ◌-◌, ◌*◌, ◌≤◌, ◌<◌}
+use Prim.Native.Nat.{ℕ, ◌+◌, ◌-◌, ◌≤◌, ◌<◌}
 use lib.ListN.{length, get_or, drop, drop_of_length-le}
 use borrow.Rule.Slice.PartMut.{mid_of, put_mid}
-use Rattle.std.proofs.lemmas.List.{at_drop_more, length-map}
+use Rattle.std.proofs.lemmas.List.{at_drop_more}
 use Rattle.fields.specs.Words.{word_bytes, words_bytes}
-use Rattle.fields.specs.WordsLaws.{length_words_bytes}
 use Rattle.fields.specs.Written.{Wrote}
 use Rattle.archive_cells.specs.Writing.{Writing}
 use Rattle.archive_cells.specs.WritingLaws.{writing_more, writing_done}
@@ -24,9 +23,6 @@ module _ {A : Type 0} (word : A → ℕ) (xs : List A) where
   pub words_all : from 0 ≡ words_bytes (map word xs)
   unfolding from
   words_all = refl
-
-  pub words_length : length (words_bytes (map word xs)) ≡ 4 * length xs
-  words_length = length_words_bytes (map word xs) ∙ ap (λ (n : ℕ). 4 * n) (length-map xs word)
 
   module _ (i : ℕ) where
     pub words_next : {x : A} {n : ℕ} → i < length xs → x ≡ get_or xs i x → n ≡ word x → from i ≡ word_bytes n ++ from (i + 1)

@@ -43,7 +43,7 @@ fn is_after(s: &[u8], n: usize, p: usize, q: usize) -> bool
     let mut mine = [0u32; 8];
     fields::read_words(s, p, &mut before[..n]);
     fields::read_words(s, q, &mut mine[..n]);
-    &before[..n] < &mine[..n]
+    before[..n] < mine[..n]
 }
 
 // The codes of a base entry, strictly after those of the entry before, if there is one.
@@ -95,7 +95,7 @@ fn check_list(s: &[u8], at: usize) -> Result<usize, Stop>
     fields_walk::check_room(s, 4 * (fields::word_at(s, at) as usize), next)
 }
 
-// A base entry, behind the place of the entry before, if there is one, and a total of the counts before it.
+// A base entry; `before` is the place of the entry before it, if there is one, and `total` the sum of the counts before it.
 fn check_entry(
     s: &[u8],
     sizes: &[u32],

@@ -31,9 +31,8 @@ fn put_shown(out: &mut [u8], mine: &[u32], missing: &[u32; 8]) -> usize
     ensures { Wrote (words_bytes (masked missing.now mine.now)) out.old out.new result }
 {
     let mut at = 0;
-    for d in 0..mine.len() {
-        let code = mine[d] | missing[d];
-        at += fields::put_word(&mut out[at..], code);
+    for (d, &code) in mine.iter().enumerate() {
+        at += fields::put_word(&mut out[at..], code | missing[d]);
     }
     at
 }
@@ -85,8 +84,8 @@ fn shown_is(s: &[u8], start: usize, mine: &[u32], missing: &[u32; 8]) -> bool
 {
     let mut at = start;
     let mut same = true;
-    for d in 0..mine.len() {
-        let is = fields::word_is(s, at, mine[d] | missing[d]);
+    for (d, &code) in mine.iter().enumerate() {
+        let is = fields::word_is(s, at, code | missing[d]);
         same = same & is;
         at += 4;
     }

@@ -44,6 +44,7 @@ fn put_common(
 {
     let all = lattice::sets_of(dims as u32) - 1;
     let mut at = 0;
+    // By place: `set_at` alone says which set stands there.
     for k in 0..256 {
         let set = lattice::set_at(k);
         if all <= set {
@@ -115,6 +116,7 @@ fn match_common(
 {
     let all = lattice::sets_of(dims as u32) - 1;
     let mut at = start;
+    // By place: `set_at` alone says which set stands there.
     for k in 0..256 {
         let set = lattice::set_at(k);
         if all <= set {

@@ -102,6 +102,7 @@ pub fn read_sharing(
 }
 
 // Reads an archive with all its stops, 1 to 12; its base rows into the array that is lent. The one for slots is lent too.
+// An array stands in the frame of the function that declares it, so it is lent here and declared there.
 pub fn read_lent(
     s: &[u8],
     rows: &mut [u32; rows::ROOM],

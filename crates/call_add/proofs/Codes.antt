@@ -1,22 +1,17 @@
 -- Codes that are a row's: tested dimension by dimension, below the sizes, and as many as there are.
 use mathlib.Core.Path.{◌≡◌, refl, ap}
 use mathlib.Core.Logic.{◌≢◌}
-use mathlib.Core.Bool.{Bool, true, false, false≢true, and-false}
+use mathlib.Core.Bool.{Bool, true, false, ◌&&◌, false≢true, and-false}
 use mathlib.Core.List.{List, [], ◌∷◌}
 use Prim.Native.Nat.{ℕ, suc}
+use native.Mathlib.Omega.{arith}
 use lib.Dec.{ltb}
 use lib.ListN.{length}
 use borrow.Author.Tests.{ltb-true, lt-ltb}
+use Rattle.std.specs.List.{list_all, zip}
 use Rattle.lists.proofs.Tests.{both, both_of}
 use Rattle.fields_walk.specs.Limits.{Below}
-use Rattle.call_questions.proofs.Pairs.{ByPairs}
 use Rattle.call_add.specs.Adds.{coded}
-
-abbrev under : ℕ → ℕ → Bool
-under z a = ltb a z
-
-pub coded_pairs : ByPairs coded under
-coded_pairs = record { none = refl; more = λ z a zs x. refl }
 
 pub coded-length : (zs x : List ℕ) → length x ≢ length zs → coded zs x ≡ false
 coded-length [] [] n = absurd (n refl)
@@ -35,3 +30,10 @@ below_is_coded [] [] h = refl
 below_is_coded [] (a ∷ x) h = absurd h
 below_is_coded (z ∷ zs) [] h = absurd h
 below_is_coded (z ∷ zs) (a ∷ x) h = both_of (lt-ltb a z h.0) (below_is_coded zs x h.1)
+
+-- codes beside sizes, each below its size
+pub coded-zip : (zs x : List ℕ) → length x ≡ length zs → list_all (λ p. ltb p.0 p.1) (zip x zs) ≡ coded zs x
+coded-zip [] [] e = refl
+coded-zip [] (a ∷ x) e = absurd (omega (arith, e))
+coded-zip (z ∷ zs) [] e = absurd (omega (arith, e))
+coded-zip (z ∷ zs) (a ∷ x) e = ap (λ (b : Bool). ltb a z && b) (coded-zip zs x (omega (arith, e)))

@@ -21,18 +21,7 @@ const ROW: usize = 11;
 fn codes_fit(sizes: &[u32], codes: &[u32]) -> bool
     ensures { result ≡ coded sizes.now codes.now }
 {
-    let dims = sizes.len();
-    if codes.len() != dims {
-        return false;
-    }
-    for d in 0..dims {
-        let code = codes[d];
-        let size = sizes[d];
-        if size <= code {
-            return false;
-        }
-    }
-    true
+    codes.len() == sizes.len() && codes.iter().zip(sizes).all(|(code, size)| code < size)
 }
 
 // Writes the archive of sizes and base rows with one record folded in, with a lent array for slots.
@@ -58,7 +47,7 @@ fn add_row(
     call_join::join_rows(sizes, rows, n, &late[..size], 1, store, out)
 }
 
-// The same for an archive's sizes, which go into the buffer that is lent.
+// The same for an archive's sizes, which go into the buffer that is lent. Eight parameters: the archive, its rows, the record, two arrays.
 fn add_sized(
     archive: &[u8],
     sizes: &mut [u32],

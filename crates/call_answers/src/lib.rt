@@ -12,7 +12,7 @@ pub struct Counts {
     pub cells: u32,
 }
 
-// The length of a result that was written if it fits, or the stop for want of room.
+// The length of a result, or stop 15 where it is longer than the output.
 pub fn fitting(needed: usize, room: usize) -> Result<usize, Stop>
     ensures { result ≡ cond (leb needed room) (Ok needed) (Err Stop.Output) }
 {

@@ -46,6 +46,7 @@ fn expansion_len(rows: &[u32], n: usize, dims: usize, store: &[u16], used: &[usi
 {
     let all = lattice::sets_of(dims as u32);
     let mut len = 0;
+    // By place: `set_at` alone says which set stands there.
     for k in 0..256 {
         let set = lattice::set_at(k);
         if set < all {
@@ -112,6 +113,7 @@ fn put_expansion(
 {
     let all = lattice::sets_of(dims as u32);
     let mut at = 0;
+    // By place: `set_at` alone says which set stands there.
     for k in 0..256 {
         let set = lattice::set_at(k);
         if all <= set {

@@ -44,9 +44,7 @@ fn fit_fee(out: &mut [u8], fee: u64, counts: &[u32]) -> Result<usize, Stop>
     requires { (fee ≤ 1000000000) × (length counts.now ≤ 1024) × (0 < sum counts.now) × (sum counts.now ≤ 1048576) }
     ensures { Answered (bytes (fee_bytes fee counts.now)) out.old out.new result }
 {
-    if out.len() < 4 + 4 * counts.len() {
-        return Err(Stop::Output);
-    }
+    call_answers::fitting(4 + 4 * counts.len(), out.len())?;
     Ok(fee_list::put_fee(out, fee, counts))
 }
 

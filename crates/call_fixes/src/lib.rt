@@ -52,6 +52,7 @@ fn neighbours_fix(
     ensures { result ≡ fixing (plain dims) (cut dims n rows.now) set fixed }
 {
     rows_arrange::order_rows(rows, n, dims, set, index);
+    // By place: a row and the one in front of it.
     for k in 1..n {
         let i = index[k - 1] as usize;
         let j = index[k] as usize;

@@ -47,6 +47,7 @@ fn list_bare(dims: usize, used: &[usize], list: &mut [u32]) -> usize
 {
     let all = lattice::sets_of(dims as u32);
     let mut n = 0;
+    // By place: `set_at` alone says which set stands there.
     for k in 0..256 {
         let set = lattice::set_at(k);
         if all <= set {
@@ -69,9 +70,7 @@ fn fit_list(out: &mut [u8], list: &[u32]) -> Result<usize, Stop>
     requires { length list.now ≤ 70 }
     ensures { Answered (bytes (list_bytes list.now)) out.old out.new result }
 {
-    if out.len() < 4 + 4 * list.len() {
-        return Err(Stop::Output);
-    }
+    call_answers::fitting(4 + 4 * list.len(), out.len())?;
     Ok(archive_cells::put_list(out, list))
 }
 

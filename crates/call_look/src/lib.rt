@@ -29,8 +29,7 @@ pub fn look_read(
     let size = n * (d + rows::TOTAL_WORDS);
     let m = shape.cells as usize;
     let at = s.len() - 4 - m * (4 * d + 12);
-    let found = call_questions::answer(s, at, m, &rows[..size], n, d, question);
-    Ok(found)
+    Ok(call_questions::answer(s, at, m, &rows[..size], n, d, question))
 }
 
 // Reads an archive into the array that is lent, and looks up a cell.

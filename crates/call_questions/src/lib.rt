@@ -26,6 +26,7 @@ pub fn fits(s: &[u8], dims: usize, question: &[u32]) -> bool
     if question.len() != dims {
         return false;
     }
+    // By number: the size of dimension d stands at a place in the bytes.
     for d in 0..dims {
         let code = question[d];
         let size = fields::word_at(s, 8 + 4 * d);

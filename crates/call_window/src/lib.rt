@@ -11,7 +11,7 @@ use archive_entries::Shape;
 use cube::Total;
 use stops::Stop;
 
-// Answers a question to an archive that was accepted: the cell's sum and count, or none for 'no record'. An entry's number would tell of rows outside.
+// Answers a question to an archive that was accepted: the cell's sum and count, or none for 'no record', and no entry's number, which would tell of rows outside.
 fn window_read(
     archive: &[u8],
     rows: &[u32],

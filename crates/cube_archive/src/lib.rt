@@ -15,7 +15,7 @@ ghost use Rattle.call_window.specs.Numbers.{seen_number, seen_sum_left, seen_cou
 
 use stops::Stop;
 
-// The number of a stop.
+// What a call answers for a stop: 2^63 and its number.
 fn refused(stop: Stop) -> u64
     ensures { result ≡ stop_number (number stop) }
 {

@@ -50,9 +50,6 @@ module _ {fee : ℕ} {ws : List ℕ} {total : ℕ} {s rs : List ℕ} {q : ℕ} (
     above_is : above ≡ count (ltb v) rs
     above_is = e ∙ ap (λ (n : ℕ). count (leb n) rs) (add-one v)
 
-    pub divided_above : above ≤ fee - q
-    divided_above = omega (arith, above_is, t.above)
-
     pub divided_given : added s (given v (fee - q - above) rs) ≡ shares fee ws
     divided_given =
         ap₂ (λ (l : List ℕ) (k : ℕ). added l (given v k rs)) whole_is (ap₂ ◌-◌ left_is above_is)

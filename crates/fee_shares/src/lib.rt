@@ -89,7 +89,7 @@ fn give(rests: &[u32], v: u32, k: u64, shares: &mut [u32])
 {
     let mut left = k;
     for (i, &r) in rests.iter().enumerate() {
-        shares[i] = shares[i] + cent_of(v, left, r);
+        shares[i] += cent_of(v, left, r);
         left = cents_after(v, left, r);
     }
 }

@@ -2,7 +2,8 @@
 --
 --   Says s p r       r says that p was read: the same stop, or a value and the bytes behind the place
 --   Walked s p r     the same as a record, which code's contracts name
---   Tested s n p r   the same of a field whose test the caller has a stop for, n: none is that stop
+--   Tells s n p r    the same of a field for which the caller names the stop n: none is that stop
+--   Tested s n p r   the same as a record
 use Rattle.std.specs.Prelude.{◌≡◌, List, ℕ, ◌≤◌, length, drop, Option, Some, None, Result, Ok, Err}
 use Rattle.stops.specs.declared.Stop.{Stop}
 use Rattle.stops.specs.Numbers.{number}

@@ -19,7 +19,7 @@ pub fn check_room(s: &[u8], width: usize, at: usize) -> Result<usize, Stop>
     Ok(at + width)
 }
 
-// A field whose value is at least low and below limit: none where it is another, for which the caller has its stop.
+// The place behind a field whose value is at least low and below limit; none where the value is another, for which the caller names the stop.
 pub fn check_field(s: &[u8], low: u32, limit: u32, at: usize) -> Result<Option<usize>, Stop>
     requires { at ≤ length s.now }
     ensures { (n : ℕ) → Tested s.now n (field low limit n (drop at s.now)) result }

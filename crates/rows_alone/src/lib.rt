@@ -23,6 +23,7 @@ pub fn pass_rows(alone: &[u32], set: u32, passed: &mut [u32])
     ensures { (length passed.new ≡ 32) × ((x : ℕ) → has_row passed.new x ≡ passes 8 alone.now set x) }
 {
     rows_deals::clear(passed);
+    // By number: dimension d adds 2 to the power d.
     for d in 0..8 {
         let one = lattice::sets_of(d);
         if !lattice::holds_set(set, one) {

@@ -20,6 +20,7 @@ pub fn complete_slots(rows: &[u32], n: usize, dims: usize, store: &mut [u16], si
     let passed = [0u32; 32];
     rows_columns::read_columns(rows, n, dims, &mut columns);
     let all = lattice::sets_of(dims as u32) - 1;
+    // By place: `set_at` alone says which set stands there.
     for k in 0..256 {
         let set = lattice::set_at(k);
         if all <= set {

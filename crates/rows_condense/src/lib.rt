@@ -77,6 +77,7 @@ pub fn condense_rows(
     rows_columns::read_columns(rows, n, dims, &mut columns);
     let all = lattice::sets_of(dims as u32) - 1;
     let mut cells = 0;
+    // By place: `set_at` alone says which set stands there.
     for k in 0..256 {
         let set = lattice::set_at(k);
         if all <= set {

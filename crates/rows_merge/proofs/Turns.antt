@@ -16,11 +16,7 @@ use Rattle.lists.specs.Order.{earlier, same}
 use Rattle.lists.proofs.Tests.{cases, truth, refuted}
 use Rattle.lists.proofs.Order.{by_codes, same-eq, same_refl}
 use Rattle.cube.specs.Measure.{Measure, Row, codes_of}
-use Rattle.rows_compare.specs.declared.Order.{Order}
-use Rattle.rows_compare.specs.Compare.{compared, is_equal}
-use Rattle.rows_compare.proofs.Parting.{compared-agree}
 use Rattle.archive_entries.proofs.After.{earlier_cmp, same_cmp}
-use Rattle.cube.proofs.Codes.{cell-wide, agree_same}
 use Rattle.rows_merge.specs.declared.Turn.{Turn}
 use Rattle.rows_merge.specs.declared.Turn.TheVariants.{First, Second, Both}
 use Rattle.rows_merge.specs.United.{as_one, merged, Merging}
@@ -41,10 +37,6 @@ module _ (xs ys : List (List ℕ)) (i j : ℕ) where
   turn-codes : i < length xs → j < length ys → turn (drop i xs) (drop j ys) ≡ turn_by (earlier (get_or xs i []) (get_or ys j [])) (same (get_or xs i []) (get_or ys j []))
   unfolding turn
   turn-codes h k = rw (drop-cons xs i [], drop-cons ys j [])
-
--- up to eight codes that a comparison finds equal
-pub same-compared : (x y : List ℕ) {o : Order} → length x ≤ 8 → length y ≤ 8 → o ≡ compared 255 x y → same x y ≡ is_equal o
-same-compared x y h k e = ap₂ same (sym (cell-wide 8 x h)) (sym (cell-wide 8 y k)) ∙ sym (ap is_equal e ∙ compared-agree 255 x y ∙ agree_same 255 x y)
 
 -- by a comparison of the codes
 pub turn-compared : (xs ys : List (List ℕ)) (i j : ℕ) {x y : List ℕ} {o : Ordering} → i < length xs → j < length ys → x ≡ get_or xs i [] → y ≡ get_or ys j []

@@ -2,7 +2,7 @@
 --
 --   Pair ..             two lists of n and m base rows, of d codes each, whose counts are not too many together
 --   Passed .. i j done  the pass has made the rows `done` of the first i rows of one list and the first j of the other
---   Collected room rows .. a store for `room` rows has all n of them; or none is said, and they are more
+--   Collected room rows d r ws  a store for `room` rows has all of them, r of them; or r is none, and they are more than `room`
 use Rattle.std.specs.Prelude.{◌≡◌, List, ℕ, ◌+◌, ◌≤◌, ◌<◌, length, drop, Option, Some, None}
 use Rattle.cube.specs.declared.Total.{Total}
 use Rattle.cube.specs.Measure.{Row, sums}

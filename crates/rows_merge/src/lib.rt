@@ -50,7 +50,7 @@ fn next_turn(
     }
     let mine = rows::row_of(first, n, dims, i);
     let other = rows::row_of(second, m, dims, j);
-    match mine.cmp(&other) {
+    match mine.cmp(other) {
         Ordering::Less => Turn::First,
         Ordering::Equal => Turn::Both,
         Ordering::Greater => Turn::Second,
@@ -109,7 +109,7 @@ fn merge_row(
     }
 }
 
-// Merges two lists of base rows, n rows and m rows, into the array that is lent. Returns how many rows there are; none if there is no room for all, which are more than 1,024 then.
+// Merges two lists of base rows, n rows and m rows, into the array that is lent. Returns how many rows there are, or none where they are more than 1,024, for which there is no room.
 pub fn merge_rows(
     rows1: &[u32],
     n: usize,

@@ -46,7 +46,7 @@ fn put_table(out: &mut [u32], dims: usize, t: u32) -> usize
     let mut rest = t;
     for j in 0..lattice::sets_of(dims as u32) {
         let odd = rest % 2;
-        rest = rest / 2;
+        rest /= 2;
         if odd != 1 {
             continue;
         }
@@ -85,7 +85,7 @@ fn tally_tables(dims: usize, tallies: &mut [u32])
     let rows = lattice::sets_of(dims as u32);
     for t in 0..lattice::sets_of(rows) {
         let n = entries_of(dims, t);
-        tallies[n] = tallies[n] + 1;
+        tallies[n] += 1;
     }
 }
 

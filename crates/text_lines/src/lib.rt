@@ -39,7 +39,7 @@ fn put_set(out: &mut [u8], set: u32) -> usize
     done + text_decimals::put_decimal(&mut out[done..], u64::from(set))
 }
 
-// A kind of words: the text of one, and how it is written.
+// How a word is written as text: as a code or as a set's number.
 trait Text {
     ghost text: { ℕ → List ℕ };
 
@@ -76,8 +76,8 @@ fn put_words<T: Text>(out: &mut [u8], s: &[u8], at: usize, n: usize) -> usize
 {
     let mut done = 0;
     for i in 0..n {
-        let c = fields::word_at(s, at + 4 * i);
-        done += T::put(&mut out[done..], c);
+        let word = fields::word_at(s, at + 4 * i);
+        done += T::put(&mut out[done..], word);
     }
     done
 }

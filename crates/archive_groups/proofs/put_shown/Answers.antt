@@ -8,7 +8,6 @@ use Rattle.archive_cells.specs.Writing.{Writing}
 use Rattle.archive_cells.specs.WritingLaws.{writing_none, writing_more, writing_room, writing_done}
 use Rattle.archive_groups.specs.Masks.{masked}
 use Rattle.archive_groups.proofs.Shown.{shown_from, word_of, shown-length, shown-all, shown_on, shown-none}
-use borrow.Author.Rules.{rules}
 use Rattle.archive_groups.proofs.put_shown.Goals as goal
 use Rattle.archive_groups.proofs.put_shown.Goals.{In-loop-d}
 
@@ -18,7 +17,7 @@ next : (c : In-loop-d) → let a = c.args in
     Writing (words_bytes (masked a.missing.now a.mine.now)) (word_of a.missing.now a.mine.now l.d ++ shown_from a.missing.now a.mine.now (l.d + 1)) a.out.now l.out l.at
 next c =
     let a = c.args in
-    rw (shown_on a.missing.now a.mine.now c.loop-d.d c.loop-d-test.true) at c.loop-d.invariant.1
+    rw (shown_on a.missing.now a.mine.now c.loop-d.d c.loop-d-test.true) at c.loop-d.invariant
 
 -- there is room for it
 room : (c : In-loop-d) → c.loop-d.at + 4 ≤ length c.loop-d.out
@@ -29,10 +28,7 @@ room c =
 pub loop-d-init : goal.loop-d-init
 loop-d-init c =
     let a = c.args in
-    (search rules, rw (shown-all a.missing.now a.mine.now) (writing_none _ _))
-
-pub bounds-missing-d : goal.bounds-missing-d
-bounds-missing-d c = omega (arith, c.loop-d-test.true, c.requires.0)
+    rw (shown-all a.missing.now a.mine.now) (writing_none _ _)
 
 pub slice_bounds-put_word-count : goal.slice_bounds-put_word-count
 slice_bounds-put_word-count c = omega (arith, room (goal.at.slice_bounds-put_word-count c).In-loop-d)
@@ -51,12 +47,12 @@ loop-d-preserved c =
     let a = c.args in
     let l = c.loop-d in
     let word = word_of a.missing.now a.mine.now l.d in
-    (search rules, writing_more word _ (next (goal.at.loop-d-preserved c).In-loop-d) c.put_word-at.ensures)
+    writing_more word _ (next (goal.at.loop-d-preserved c).In-loop-d) c.put_word-at.ensures
 
 pub shape_of-out : goal.shape_of-out
-shape_of-out c = c.loop-d.invariant.1.wrote.same
+shape_of-out c = c.loop-d.invariant.wrote.same
 
 pub returns : goal.returns
 returns c =
     let a = c.args in
-    writing_done (rw (shown-none a.missing.now a.mine.now c.loop-d-test.false) at c.loop-d.invariant.1)
+    writing_done (rw (shown-none a.missing.now a.mine.now c.loop-d-test.false) at c.loop-d.invariant)

@@ -6,31 +6,26 @@ use native.Mathlib.Omega.{arith}
 use lib.ListN.{drop}
 use Rattle.fields.specs.Opening.{starts_with}
 use Rattle.archive_groups.proofs.Shown.{shown_from, shown-all, shown-compared, shown-none}
-use borrow.Author.Rules.{rules}
 use Rattle.archive_groups.proofs.shown_is.Goals as goal
 
 pub loop-d-init : goal.loop-d-init
 loop-d-init c =
     let a = c.args in
-    (search rules, omega arith, ap (starts_with (drop a.start a.s.now)) (sym (shown-all a.missing.now a.mine.now)))
-
-pub bounds-missing-d : goal.bounds-missing-d
-bounds-missing-d c = omega (arith, c.loop-d-test.true, c.requires.0)
+    (omega arith, ap (starts_with (drop a.start a.s.now)) (sym (shown-all a.missing.now a.mine.now)))
 
 pub word_is-is-requires : goal.word_is-is-requires
-word_is-is-requires c = omega (arith, c.loop-d.invariant.1, c.loop-d-test.true, c.requires.1)
+word_is-is-requires c = omega (arith, c.loop-d.invariant.0, c.loop-d-test.true, c.requires.1)
 
 pub overflow_add-at : goal.overflow_add-at
-overflow_add-at c = omega (arith, c.loop-d.invariant.1, c.loop-d-test.true, c.requires.1)
+overflow_add-at c = omega (arith, c.loop-d.invariant.0, c.loop-d-test.true, c.requires.1)
 
 pub loop-d-preserved : goal.loop-d-preserved
 loop-d-preserved c =
     let a = c.args in
     let l = c.loop-d in
     let rest = starts_with (drop (l.at + 4) a.s.now) (shown_from a.missing.now a.mine.now (l.d + 1)) in (
-      search rules,
-      omega (arith, l.invariant.1),
-      l.invariant.2
+      omega (arith, l.invariant.0),
+      l.invariant.1
           ∙ ap (λ (b : Bool). l.same && b) (shown-compared a.missing.now a.mine.now l.d c.loop-d-test.true a.s.now l.at)
           ∙ ap (λ (b : Bool). l.same && (b && rest)) (sym c.word_is-is.ensures)
           ∙ sym (and_assoc l.same c.word_is-is.result rest),
@@ -40,4 +35,4 @@ pub returns : goal.returns
 returns c =
     let a = c.args in
     let l = c.loop-d in
-    sym (rw (shown-none a.missing.now a.mine.now c.loop-d-test.false, and-true) at l.invariant.2)
+    sym (rw (shown-none a.missing.now a.mine.now c.loop-d-test.false, and-true) at l.invariant.1)

@@ -1,7 +1,7 @@
 use mathlib.Core.Path.{◌≡◌}
 use mathlib.Core.Bool.{◌&&◌}
-use Prim.Native.Nat.{◌+◌, ◌*◌, ◌-◌, ◌≤◌}
-use lib.ListN.{length, drop}
+use Prim.Native.Nat.{◌+◌, ◌*◌}
+use lib.ListN.{drop}
 use Rattle.fields.specs.Words.{words_bytes}
 use Rattle.fields.specs.Opening.{starts_with}
 use Rattle.archive_groups.specs.Masks.{masked}
@@ -10,7 +10,4 @@ use Rattle.archive_groups.proofs.shown_is.Given as goal
 
 abbrev pub invariant-loop-d : goal.invariant-loop-d
 invariant-loop-d l =
-    (l.d ≤ length l.mine) × (l.at ≡ l.start + 4 * l.d) × (starts_with (drop l.start l.s) (words_bytes (masked l.missing l.mine)) ≡ l.same && starts_with (drop l.at l.s) (shown_from l.missing l.mine l.d))
-
-abbrev pub decreases-loop-d : goal.decreases-loop-d
-decreases-loop-d l = length l.mine - l.d
+    (l.at ≡ l.start + 4 * l.d) × (starts_with (drop l.start l.s) (words_bytes (masked l.missing l.mine)) ≡ l.same && starts_with (drop l.at l.s) (shown_from l.missing l.mine l.d))

@@ -1,34 +1,21 @@
--- `call_add::codes_fit` meets its contract: what is left of the codes fits what is left of the sizes just where the codes fit the sizes.
-use mathlib.Core.Path.{◌≡◌, sym, ◌∙◌}
-use Prim.Native.Nat.{◌≤◌, ◌-◌}
+-- `call_add::codes_fit` meets its contract: each of the codes beside the sizes is below its size, and there are as many.
+use mathlib.Core.Path.{◌∙◌}
+use lib.Dec.{ltb}
 use borrow.Author.Rules.{rules}
-use borrow.Author.Tests.{lt-ltb, le-ltb}
-use lib.ListN.{get_or, drop}
-use Rattle.call_questions.proofs.Pairs.{pairs_done, pairs_skip, pairs_stop}
-use Rattle.call_add.specs.Adds.{coded}
-use Rattle.call_add.proofs.Codes.{coded_pairs, coded-length}
+use borrow.Author.Tests.{ne_eqb}
+use Rattle.std.proofs.lemmas.Iterator.{YieldsList-from_slice, YieldsList-from_zip}
+use Rattle.std.proofs.lemmas.Iterator.Search.{all_from_yields_List}
+use Rattle.call_add.proofs.Codes.{coded-length, coded-zip}
 use Rattle.call_add.proofs.codes_fit.Goals as goal
 
-pub returns-then-codes-dims : goal.returns-then-codes-dims
-returns-then-codes-dims c = let a = c.args in sym (coded-length a.sizes.now a.codes.now c.if-codes-dims.true)
-
-pub returns-then-size-code : goal.returns-then-size-code
-returns-then-size-code c =
+pub returns-then-codes-sizes : goal.returns-then-codes-sizes
+returns-then-codes-sizes c =
     let a = c.args in
-    let d = c.loop-d.d in
-    sym (sym c.loop-d.invariant.1
-    ∙ pairs_stop coded_pairs a.sizes.now a.codes.now d (search rules) (search rules) (le-ltb (get_or a.codes.now d 0) (get_or a.sizes.now d 0) c.if-size-code.true))
+    all_from_yields_List (λ p. ltb p.0 p.1) c.all.new.self _ c.all.result c.all.ensures.ran
+    (YieldsList-from_zip (YieldsList-from_slice a.codes.now (search rules)) (YieldsList-from_slice a.sizes.now (search rules))) (λ x b q k. search rules)
+    ∙ coded-zip a.sizes.now a.codes.now c.if-codes-sizes.true
 
-pub loop-d-preserved : goal.loop-d-preserved
-loop-d-preserved c =
+pub returns-else-codes-sizes : goal.returns-else-codes-sizes
+returns-else-codes-sizes c =
     let a = c.args in
-    let d = c.loop-d.d in (
-      search rules,
-      pairs_skip coded_pairs a.sizes.now a.codes.now d (search rules) (search rules) (lt-ltb (get_or a.codes.now d 0) (get_or a.sizes.now d 0) c.if-size-code.false)
-          ∙ c.loop-d.invariant.1,
-    )
-
-pub returns : goal.returns
-returns c =
-    let a = c.args in
-    sym (sym c.loop-d.invariant.1 ∙ pairs_done coded_pairs a.sizes.now a.codes.now c.loop-d.d (search rules) (search rules))
+    rw (ne_eqb _ _ c.if-codes-sizes.false, coded-length a.sizes.now a.codes.now c.if-codes-sizes.false)

@@ -3,7 +3,6 @@ use mathlib.Core.Path.{sym, ◌∙◌}
 use Prim.Native.Nat.{◌+◌, ◌*◌, ◌≤◌}
 use native.Mathlib.Nat.{mul-le-mul}
 use native.Mathlib.Omega.{arith}
-use mathlib.Core.Bool.{true}
 use Rattle.call_ask.proofs.Opened.{opened_by, opened_small}
 use Rattle.call_look.proofs.Asked.{look_stopped, look-long, look_told}
 use Rattle.call_look.proofs.Normals.{opened_long, normals-room, normals-held}
@@ -35,10 +34,10 @@ overflow_sub-at-2 c = omega (arith, normals-room (opened_by c.type_inv.s c.requi
 pub slice_bounds-answer-end : goal.slice_bounds-answer-end
 slice_bounds-answer-end c = (opened_by c.type_inv.s c.requires).ready.size
 
-pub answer-found-requires : goal.answer-found-requires
-answer-found-requires c =
+pub answer-requires : goal.answer-requires
+answer-requires c =
     let o = opened_by c.type_inv.s c.requires in
     record { ready = (o.ready, look-long o c.args.question.now (sym c.if-not-fits.false ∙ c.fits.ensures)); normals_at = normals-held o }
 
 pub returns : goal.returns
-returns c = look_told (opened_by c.type_inv.s c.requires) c.args.question.now (sym c.if-not-fits.false ∙ c.fits.ensures) c.answer-found.ensures
+returns c = look_told (opened_by c.type_inv.s c.requires) c.args.question.now (sym c.if-not-fits.false ∙ c.fits.ensures) c.answer.ensures

@@ -4,7 +4,7 @@ use native.Mathlib.Omega.{arith}
 use lib.Seq.{length-take-le}
 use borrow.Author.Rules.{rules}
 use Rattle.stops.proofs.Handed.{handed}
-use Rattle.fields_walk.proofs.Steps.{seen, place-got}
+use Rattle.fields_walk.proofs.Steps.{place-got}
 use Rattle.fields_walk.proofs.Fields.{close-off, close_follow, close_right, close_wrong}
 use Rattle.fields_walk.proofs.check_close.Goals as goal
 

@@ -2,7 +2,7 @@
 use native.Mathlib.Omega.{arith}
 use borrow.Author.Rules.{rules}
 use Rattle.stops.proofs.Handed.{handed}
-use Rattle.fields_walk.proofs.Steps.{seen, place-got}
+use Rattle.fields_walk.proofs.Steps.{place-got}
 use Rattle.fields_walk.proofs.Fields.{word-at-place, field_off, field-low, field-high, field_in}
 use Rattle.fields_walk.proofs.check_field.Goals as goal
 

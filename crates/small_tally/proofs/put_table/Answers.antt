@@ -1,7 +1,4 @@
 -- `small_tally::put_table` meets its contract. The invariant: the rows from bit j on are left to write.
-use Prim.Native.Nat.{◌+◌, ◌≤◌}
-use lib.ListN.{length}
-use Rattle.rows.specs.Rows.{width}
 use Rattle.small_tally.proofs.Flat.{row-length, rows_none, rows_skip, rows-room, rows_more, rows-done}
 use borrow.Author.Rules.{rules}
 use Rattle.small_tally.proofs.put_table.Goals as goal

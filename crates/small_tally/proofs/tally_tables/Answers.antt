@@ -37,9 +37,6 @@ bounds-tallies-n c = search (rules, place (goal.at.bounds-tallies-n c).After-ent
 pub overflow_add-tallies : goal.overflow_add-tallies
 overflow_add-tallies c = search (rules, few (goal.at.overflow_add-tallies c).After-entries_of-n)
 
-pub offset_bounds-tallies-n-in-loop-t : goal.offset_bounds-tallies-n-in-loop-t
-offset_bounds-tallies-n-in-loop-t c = search (rules, place (goal.at.offset_bounds-tallies-n-in-loop-t c).After-entries_of-n)
-
 pub bounds-tallies-n-in-loop-t : goal.bounds-tallies-n-in-loop-t
 bounds-tallies-n-in-loop-t c = search (rules, place (goal.at.bounds-tallies-n-in-loop-t c).After-entries_of-n)
 
