@@ -22,6 +22,26 @@ def together(*names):
     return sum(all(name in those for name in names) for those in parameters())
 
 
+def facts():
+    """How many facts stand in the contracts of three functions or more, and how often they do: the parts of their clauses, whatever the moment."""
+    where = {}
+    for crate, text in source.items():
+        for m in re.finditer(r'^( *)(?:pub )?fn (\w+)(.*?)^\1\{', text, re.M | re.S):
+            for clause in re.findall(r'^\s*(?:requires|ensures)[^{]*\{(.*)\}\s*$', m.group(3), re.M):
+                parts, depth = [''], 0
+                for c in clause:
+                    depth += (c in '({[') - (c in ')}]')
+                    if c == '×' and depth == 0:
+                        parts.append('')
+                    else:
+                        parts[-1] += c
+                for part in map(str.strip, parts):
+                    part = part[1:-1] if part.startswith('(') and part.endswith(')') else part
+                    fact = re.sub(r'\b([a-z_0-9]+)\.(?:now|old|new|entry|exit)', r'\1', part)
+                    where.setdefault(fact, set()).add((crate, m.group(2)))
+    return [len(those) for those in where.values() if len(those) >= 3]
+
+
 result = r'Walk|TableRead|ArchiveRead|Written|Checked|Found|Fixed|Seen'
 for what, count in [
     ('1, enums of the shape of a Result or an Option', found(rf'^(?:pub )?enum (?:{result}|Look)\b')),
@@ -37,6 +57,8 @@ for what, count in [
     ('5, functions with store and used or sizes', together('store', 'used') + together('store', 'sizes')),
     ('5, functions with lists and n', together('lists', 'n')),
     ('5, one fact in many contracts', found(r'n \* width dims ≡ length rows\.now')),
+    ('5, facts in three contracts or more', len(facts())),
+    ('5, contracts in which these facts stand', sum(facts())),
     ('6, functions with rows and n', together('rows', 'n')),
     ('7, parameters that say which step', found(r'least: usize')),
     ('8, answers', sum(found(r'^pub [^ ]+ : goal\.', text) for text in answers)),

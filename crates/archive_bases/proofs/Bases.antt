@@ -4,24 +4,31 @@ use mathlib.Core.List.{List, [], ◌∷◌, ◌++◌, map}
 use Prim.Native.Nat.{ℕ, ◌+◌, ◌*◌, ◌^◌, ◌≤◌, ◌<◌}
 use native.Mathlib.Numerals.{add-one}
 use native.Mathlib.Omega.{arith}
-use lib.ListN.{length, get_or, drop, length-drop, length-map, drop_of_length-le, get_or-map}
-use lib.Seq.{drop-cons}
-use Rattle.lists.proofs.Places.{map_at, EachBelow, below-drop}
-use Rattle.fields.specs.Words.{word_bytes, words_bytes}
+use lib.ListN.{length, get_or, take, drop, length-map, drop_of_length-le, get_or-map}
+use lib.Seq.{drop-cons, take-length}
+use Rattle.lists.proofs.Places.{map_at, EachBelow}
+use Rattle.fields.specs.Words.{words_bytes}
 use Rattle.cube.specs.declared.Total.{Total}
 use Rattle.cube.specs.Measure.{Row}
 use Rattle.cube.specs.Codes.{plain}
 use Rattle.cube.specs.Condensed.{listed}
 use Rattle.rows.specs.Rows.{width, cut, row_at, rows_of}
-use Rattle.rows.proofs.Rows.{row_within, cut-length, rows-codes, row-length}
-use Rattle.rows.proofs.Flat.{words_of, placed, blank, rows-length, rows_at}
+use Rattle.rows.proofs.Rows.{cut-length, rows-codes, row-length}
+use Rattle.rows.proofs.Flat.{words_of, placed, blank, rows-length, rows_at, row-front}
 use Rattle.rows_lists.specs.Lists.{lists_of, our_lists}
 use Rattle.rows_lists.proofs.Lists.{list_length}
-use Rattle.archive_entries.specs.Layout.{cell_bytes, base_bytes, sets_in, based}
+use Rattle.archive_entries.specs.Layout.{base_bytes, sets_in, based}
 use Rattle.archive_entries.proofs.Lengths.{base-length}
 use Rattle.archive_cells.specs.ListBytes.{list_bytes, list_is}
 use Rattle.archive_cells.proofs.Cells.{cell-words}
-use Rattle.archive_bases.specs.Listed.{Listed, our_base, our_bases}
+use Rattle.archive_bases.specs.Listed.{Listed, base_of, our_base, our_bases}
+
+-- the words of a row and a list are the bytes of the base entry that they make
+pub base-words : (d : ℕ) (ws l : List ℕ) → width d ≡ length ws → EachBelow (2 ^ 32) ws → words_bytes ws ++ list_bytes l ≡ base_bytes (base_of d ws l)
+unfolding base_bytes
+base-words d ws l e w =
+    let row = cell-words d ws (omega (arith, e)) w ∙ ap words_bytes (ap (λ (k : ℕ). take k ws) e ∙ take-length ws) in
+    ap₂ (λ (x y : List ℕ). x ++ y) (sym row) (list_is l)
 
 module _ {d n : ℕ} {ws ls : List ℕ} (rows : Listed d n ws ls) where
   abbrev table : List (Row Total)
@@ -58,14 +65,8 @@ module _ {d n : ℕ} {ws ls : List ℕ} (rows : Listed d n ws ls) where
           ∙ ap₂ (λ (ys : List (List ℕ)) (x : List ℕ). listed (plain d) ys x) (sym (rows-codes d n ws)) codes_at_lem
 
       -- the words of a row and its list are its base entry
-      pub base-words : EachBelow (2 ^ 32) ws → base_bytes (our_base d table i) ≡ words_bytes (words_of d ws i) ++ list_bytes (get_or (lists_of n ls) i [])
-      unfolding base_bytes
-      base-words w =
-          let l = (our_base d table i).list in
-          let within : width d ≤ length (drop (i * width d) ws) = simp length-drop (omega (arith, row_within (width d) n i h, rows.ready.size)) in
-          let row = ap cell_bytes (row_placed h) ∙ cell-words d (drop (i * width d) ws) within (below-drop (2 ^ 32) (i * width d) ws w) in
-          ap (λ (x : List ℕ). x ++ (word_bytes (length l) ++ words_bytes l)) row
-          ∙ ap (λ (x : List ℕ). words_bytes (words_of d ws i) ++ x) (sym (list_is l) ∙ ap list_bytes (sym list_at))
+      pub base-made : base_of d (words_of d ws i) (get_or (lists_of n ls) i []) ≡ our_base d table i
+      base-made = ap₂ (λ (r : Row Total) (l : List ℕ). record { row = r; list = l }) (row-front d (drop (i * width d) ws) ∙ sym (row_placed h)) list_at
 
       -- how many sets and bytes it has
       base-sets : length (our_base d table i).list ≡ get_or ls (i * 71) 0

@@ -1,4 +1,4 @@
-// Cells and base entries compared with bytes.
+// Cells and base entries compared with bytes. Each has its `put_` in archive_cells, for the reason that stands in archive_bases.
 #![tactic(auto)]
 
 ghost use Rattle.std.specs.Prelude.{◌≡◌, ◌++◌, ℕ, ◌≤◌, length, replicate};

@@ -1,7 +1,7 @@
 // An archive's sections read from their bytes: the fields from the left, and at each its stops in document 01's order (1 to 11), then the base rows.
 #![tactic(auto)]
 
-ghost use Rattle.std.specs.Prelude.{◌≡◌, [], ◌∷◌, ◌++◌, ℕ, ◌+◌, ◌*◌, ◌≤◌, length, drop, Ok};
+ghost use Rattle.std.specs.Prelude.{◌≡◌, [], ◌∷◌, ◌++◌, ℕ, ◌+◌, ◌*◌, ◌≤◌, length, take, drop, Ok};
 ghost use Rattle.lists.specs.Order.{earlier};
 ghost use Rattle.fields.specs.Words.{words_at};
 ghost use Rattle.fields_walk.specs.Walked.{Walked};
@@ -10,6 +10,7 @@ ghost use Rattle.rows.specs.Rows.{width, rows_of};
 ghost use Rattle.archive_entries.specs.Places.{row_there, codes_before, Before};
 ghost use Rattle.archive_entries.specs.Reading.{rising, amount, list, entry, entries, bases, cells, walk_archive, archive_answer, Stored};
 
+use rows::RowSlice;
 use stops::Stop;
 
 // The opening bytes of an archive, 43 55 42 45.
@@ -21,6 +22,16 @@ pub struct Shape {
     pub dims: u32,
     pub bases: u32,
     pub cells: u32,
+}
+
+impl Shape {
+    // Its base rows, which stand in the front of words.
+    pub fn rows_in<'a>(self, words: &'a [u32]) -> RowSlice<'a>
+        requires { (self.dims ≤ 8) × (self.bases * width self.dims ≤ length words.now) }
+        ensures { (result.words.now ≡ take (self.bases * width self.dims) words.now) × (result.n ≡ self.bases) × (result.dims ≡ self.dims) }
+    {
+        RowSlice::front(words, self.bases as usize, self.dims as usize)
+    }
 }
 
 // Whether so many readings can make the sum.
@@ -168,6 +179,7 @@ pub fn store_rows(s: &[u8], dims: u32, bases: u32, rows: &mut [u32])
     let d = dims as usize;
     let count = bases as usize;
     let mut at = 12 + 4 * d;
+    // By number: after a loop over `chunks_exact_mut` a proof knows how long the rows are, and not what they hold.
     for i in 0..count {
         store_row(s, d, at, i, rows);
         let list = fields::word_at(s, at + 4 * d + 12) as usize;

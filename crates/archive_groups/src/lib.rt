@@ -5,13 +5,14 @@ ghost use Rattle.std.specs.Prelude.{◌≡◌, ◌+◌, ◌*◌, ◌≤◌, leng
 ghost use Rattle.fields.specs.Words.{words_bytes};
 ghost use Rattle.fields.specs.Opening.{starts_with};
 ghost use Rattle.fields.specs.Written.{Wrote};
-ghost use Rattle.rows.specs.Rows.{cut, row_total};
+ghost use Rattle.rows.specs.Slices.{codes, totals};
 ghost use Rattle.rows_order.specs.Index.{key};
 ghost use Rattle.archive_entries.specs.Layout.{cell_bytes};
 ghost use Rattle.archive_compare.specs.Matched.{Matched};
 ghost use Rattle.archive_groups.specs.Masks.{masked, Mask};
 ghost use Rattle.archive_groups.specs.Groups.{Groupable, group_bytes};
 
+use rows::RowSlice;
 use stops::Stop;
 
 // The mask of a set: ALL in the place of each dimension that it lacks. A loop, for what `array::from_fn` ensures does not tell that its closure keeps the set.
@@ -19,13 +20,13 @@ fn mask_of(set: u32) -> [u32; 8]
     ensures { Mask set result }
 {
     let mut missing = [0u32; 8];
-    for d in 0..8 {
-        missing[d] = rows_runs::shown_code(set >> d, 0);
+    for (d, mask) in missing.iter_mut().enumerate() {
+        *mask = rows_runs::shown_code(set >> d, 0);
     }
     missing
 }
 
-// Writes the codes of a row under a mask.
+// Writes the codes of a row under a mask. Each `put_` has its `match_` below: `put_group` writes where `match_group` first asks for the whole length, and one walk for the two loops over groups, with a trait, its laws and its two types, is longer than both.
 fn put_shown(out: &mut [u8], mine: &[u32], missing: &[u32; 8]) -> usize
     requires { (length mine.now ≤ 8) × (4 * length mine.now ≤ length out.old) }
     ensures { Wrote (words_bytes (masked missing.now mine.now)) out.old out.new result }
@@ -43,34 +44,26 @@ fn put_group(out: &mut [u8], mine: &[u32], missing: &[u32; 8], total: cube::Tota
     ensures { Wrote (cell_bytes (record { codes = masked missing.now mine.now; total = total })) out.old out.new result }
 {
     let mut at = put_shown(out, mine, missing);
-    let sum = total.sum;
-    at += fields_sums::put_sum(&mut out[at..], sum);
+    at += fields_sums::put_sum(&mut out[at..], total.sum);
     at + fields::put_word(&mut out[at..], total.count)
 }
 
 // Writes the cells of the groups of a slot.
-pub fn put_groups(
-    out: &mut [u8],
-    rows: &[u32],
-    n: usize,
-    dims: usize,
-    set: u32,
-    slot: &[u16],
-) -> usize
-    requires groupable { Groupable dims n rows.now slot.now }
-    requires slot_in_bounds { length (group_bytes (row_total dims n rows.now) (key set (cut dims n rows.now)) slot.now) ≤ length out.old }
-    ensures { Wrote (group_bytes (row_total dims n rows.now) (key set (cut dims n rows.now)) slot.now) out.old out.new result }
+pub fn put_groups(out: &mut [u8], rows: &RowSlice, set: u32, slot: &[u16]) -> usize
+    requires groupable { Groupable rows.now.dims rows.now.n rows.now.words.now slot.now }
+    requires slot_in_bounds { length (group_bytes (totals rows.now) (key set (codes rows.now)) slot.now) ≤ length out.old }
+    ensures { Wrote (group_bytes (totals rows.now) (key set (codes rows.now)) slot.now) out.old out.new result }
 {
     let missing = mask_of(set);
     let mut at = 0;
     let mut total = cube::Total { sum: 0, count: 0 };
     for &e in slot {
         let row = rows_slots::row_in(e) as usize;
-        total = rows_slots::add_row(rows, n, dims, row, total);
+        total = rows_slots::add_row(rows, row, total);
         if rows_slots::end_in(e) == 0 {
             continue;
         }
-        let mine = rows::row_of(rows, n, dims, row);
+        let mine = rows.codes_at(row);
         at += put_group(&mut out[at..], mine, &missing, total);
         total = cube::Total { sum: 0, count: 0 };
     }
@@ -85,8 +78,7 @@ fn shown_is(s: &[u8], start: usize, mine: &[u32], missing: &[u32; 8]) -> bool
     let mut at = start;
     let mut same = true;
     for (d, &code) in mine.iter().enumerate() {
-        let is = fields::word_is(s, at, code | missing[d]);
-        same = same & is;
+        same &= fields::word_is(s, at, code | missing[d]);
         at += 4;
     }
     same
@@ -111,8 +103,7 @@ fn match_group(
         return Err(Stop::Entries);
     }
     let at = start + size;
-    let sum = total.sum;
-    if !fields_sums::sum_is(s, at, sum) {
+    if !fields_sums::sum_is(s, at, total.sum) {
         return Err(Stop::Entries);
     }
     let next = at + 8;
@@ -126,25 +117,23 @@ fn match_group(
 pub fn match_groups(
     s: &[u8],
     start: usize,
-    rows: &[u32],
-    n: usize,
-    dims: usize,
+    rows: &RowSlice,
     set: u32,
     slot: &[u16],
 ) -> Result<usize, Stop>
-    requires { Groupable dims n rows.now slot.now × (start ≤ length s.now) }
-    ensures { Matched s.now start (group_bytes (row_total dims n rows.now) (key set (cut dims n rows.now)) slot.now) result }
+    requires { Groupable rows.now.dims rows.now.n rows.now.words.now slot.now × (start ≤ length s.now) }
+    ensures { Matched s.now start (group_bytes (totals rows.now) (key set (codes rows.now)) slot.now) result }
 {
     let missing = mask_of(set);
     let mut at = start;
     let mut total = cube::Total { sum: 0, count: 0 };
     for &e in slot {
         let row = rows_slots::row_in(e) as usize;
-        total = rows_slots::add_row(rows, n, dims, row, total);
+        total = rows_slots::add_row(rows, row, total);
         if rows_slots::end_in(e) == 0 {
             continue;
         }
-        let mine = rows::row_of(rows, n, dims, row);
+        let mine = rows.codes_at(row);
         at = match_group(s, at, mine, &missing, total)?;
         total = cube::Total { sum: 0, count: 0 };
     }

@@ -1,12 +1,9 @@
 -- The slot of a set, and its groups as the normal entries of the set.
 use mathlib.Core.Path.{◌≡◌, ap, ◌∙◌}
 use mathlib.Core.List.{List, flat_map}
-use Prim.Native.Nat.{ℕ, ◌≤◌, ◌<◌}
-use native.Mathlib.Omega.{arith}
+use Prim.Native.Nat.{ℕ, ◌<◌}
 use lib.ListN.{get_or}
-use lib.Pow.{pow_mono}
 use Rattle.lattice.specs.Sets.{full}
-use Rattle.lattice.proofs.Sets.{full-lt}
 use Rattle.rows.specs.Rows.{cut, rows_of, row_total}
 use Rattle.archive_entries.specs.Layout.{cell_bytes}
 use Rattle.rows_order.specs.Index.{key}
@@ -21,9 +18,6 @@ use Rattle.archive_normals.specs.Normals.{shared_bytes}
 module _ {d n : ℕ} {ws store used : List ℕ} (rows : Grouped d n ws store used) {s : ℕ} (h : s < full d) where
   held : Holds 2 d n ws store used s
   held = rows.slots.all s h
-
-  pub slot-place : (s < 256) × (get_or used s 0 ≤ 1024)
-  slot-place = (omega (arith, h, full-lt d, pow_mono {i = d} {j = 8} rows.ready.dims), omega (arith, held.few, rows.ready.few))
 
   module _ {slot : List ℕ} (e : slot ≡ part s (get_or used s 0) store) where
     pub slot_groupable : Groupable d n ws slot

@@ -4,45 +4,32 @@
 ghost use Rattle.std.specs.Prelude.{◌≤◌, ◌<◌, length};
 ghost use Rattle.lattice.specs.Sets.{full};
 ghost use Rattle.fields.specs.Written.{Wrote};
-ghost use Rattle.rows.specs.Rows.{rows_of};
+ghost use Rattle.rows.specs.Slices.{held};
 ghost use Rattle.archive_compare.specs.Matched.{Matched};
 ghost use Rattle.archive_normals.specs.Grouped.{Grouped};
 ghost use Rattle.archive_normals.specs.Normals.{shared_bytes, common_bytes, blank_bytes, normal_bytes};
 
+use rows::RowSlice;
+use rows_crowds::Slots;
 use stops::Stop;
 
-// Writes the normal entries of a set.
-fn put_shared(
-    out: &mut [u8],
-    rows: &[u32],
-    n: usize,
-    dims: usize,
-    set: u32,
-    store: &[u16],
-    used: &[usize],
-) -> usize
-    requires grouped { Grouped dims n rows.now store.now used.now × (set < full dims) }
-    requires set_in_bounds { length (shared_bytes dims (rows_of dims n rows.now) set) ≤ length out.old }
-    ensures { Wrote (shared_bytes dims (rows_of dims n rows.now) set) out.old out.new result }
+// Writes the normal entries of a set. Each `put_` has its `match_` below: one function for both, over a trait of what takes bytes, is longer with the trait, its laws and its two types.
+fn put_shared(out: &mut [u8], rows: &RowSlice, set: u32, slots: &Slots) -> usize
+    requires grouped { Grouped rows.now.dims rows.now.n rows.now.words.now slots.now.store.now slots.now.sizes.now × (set < full rows.now.dims) }
+    requires set_in_bounds { length (shared_bytes rows.now.dims (held rows.now) set) ≤ length out.old }
+    ensures { Wrote (shared_bytes rows.now.dims (held rows.now) set) out.old out.new result }
 {
-    let slot = rows_crowds::slot_of(store, used, set as usize);
-    archive_groups::put_groups(out, rows, n, dims, set, slot)
+    let slot = slots.slot_of(set as usize);
+    archive_groups::put_groups(out, rows, set, slot)
 }
 
 // Writes the normal entries of all sets.
-fn put_common(
-    out: &mut [u8],
-    rows: &[u32],
-    n: usize,
-    dims: usize,
-    store: &[u16],
-    used: &[usize],
-) -> usize
-    requires grouped { Grouped dims n rows.now store.now used.now }
-    requires rows_in_bounds { length (common_bytes dims (rows_of dims n rows.now)) ≤ length out.old }
-    ensures { Wrote (common_bytes dims (rows_of dims n rows.now)) out.old out.new result }
+fn put_common(out: &mut [u8], rows: &RowSlice, slots: &Slots) -> usize
+    requires grouped { Grouped rows.now.dims rows.now.n rows.now.words.now slots.now.store.now slots.now.sizes.now }
+    requires rows_in_bounds { length (common_bytes rows.now.dims (held rows.now)) ≤ length out.old }
+    ensures { Wrote (common_bytes rows.now.dims (held rows.now)) out.old out.new result }
 {
-    let all = lattice::sets_of(dims as u32) - 1;
+    let all = lattice::sets_of(rows.dims as u32) - 1;
     let mut at = 0;
     // By place: `set_at` alone says which set stands there.
     for k in 0..256 {
@@ -50,7 +37,7 @@ fn put_common(
         if all <= set {
             continue;
         }
-        at += put_shared(&mut out[at..], rows, n, dims, set, store, used);
+        at += put_shared(&mut out[at..], rows, set, slots);
     }
     at
 }
@@ -67,54 +54,36 @@ fn put_blank(out: &mut [u8], n: usize, dims: usize) -> usize
 }
 
 // Writes the normal entries.
-pub fn put_normals(
-    out: &mut [u8],
-    rows: &[u32],
-    n: usize,
-    dims: usize,
-    store: &[u16],
-    used: &[usize],
-) -> usize
-    requires grouped { Grouped dims n rows.now store.now used.now }
-    requires rows_in_bounds { length (normal_bytes dims (rows_of dims n rows.now)) ≤ length out.old }
-    ensures { Wrote (normal_bytes dims (rows_of dims n rows.now)) out.old out.new result }
+pub fn put_normals(out: &mut [u8], rows: &RowSlice, slots: &Slots) -> usize
+    requires grouped { Grouped rows.now.dims rows.now.n rows.now.words.now slots.now.store.now slots.now.sizes.now }
+    requires rows_in_bounds { length (normal_bytes rows.now.dims (held rows.now)) ≤ length out.old }
+    ensures { Wrote (normal_bytes rows.now.dims (held rows.now)) out.old out.new result }
 {
-    let at = put_blank(out, n, dims);
-    at + put_common(&mut out[at..], rows, n, dims, store, used)
+    let at = put_blank(out, rows.n, rows.dims);
+    at + put_common(&mut out[at..], rows, slots)
 }
 
-// Whether the bytes s have the normal entries of a set from a place on. Eight parameters: a place in bytes, the rows, and the slot of one set.
+// Whether the bytes s have the normal entries of a set from a place on.
 fn match_shared(
     s: &[u8],
     at: usize,
-    rows: &[u32],
-    n: usize,
-    dims: usize,
+    rows: &RowSlice,
     set: u32,
-    store: &[u16],
-    used: &[usize],
+    slots: &Slots,
 ) -> Result<usize, Stop>
-    requires { Grouped dims n rows.now store.now used.now × (set < full dims) × (at ≤ length s.now) }
-    ensures { Matched s.now at (shared_bytes dims (rows_of dims n rows.now) set) result }
+    requires { Grouped rows.now.dims rows.now.n rows.now.words.now slots.now.store.now slots.now.sizes.now × (set < full rows.now.dims) × (at ≤ length s.now) }
+    ensures { Matched s.now at (shared_bytes rows.now.dims (held rows.now) set) result }
 {
-    let slot = rows_crowds::slot_of(store, used, set as usize);
-    archive_groups::match_groups(s, at, rows, n, dims, set, slot)
+    let slot = slots.slot_of(set as usize);
+    archive_groups::match_groups(s, at, rows, set, slot)
 }
 
 // Whether the bytes s have the normal entries of all sets from a place on.
-fn match_common(
-    s: &[u8],
-    start: usize,
-    rows: &[u32],
-    n: usize,
-    dims: usize,
-    store: &[u16],
-    used: &[usize],
-) -> Result<usize, Stop>
-    requires { Grouped dims n rows.now store.now used.now × (start ≤ length s.now) }
-    ensures { Matched s.now start (common_bytes dims (rows_of dims n rows.now)) result }
+fn match_common(s: &[u8], start: usize, rows: &RowSlice, slots: &Slots) -> Result<usize, Stop>
+    requires { Grouped rows.now.dims rows.now.n rows.now.words.now slots.now.store.now slots.now.sizes.now × (start ≤ length s.now) }
+    ensures { Matched s.now start (common_bytes rows.now.dims (held rows.now)) result }
 {
-    let all = lattice::sets_of(dims as u32) - 1;
+    let all = lattice::sets_of(rows.dims as u32) - 1;
     let mut at = start;
     // By place: `set_at` alone says which set stands there.
     for k in 0..256 {
@@ -122,7 +91,7 @@ fn match_common(
         if all <= set {
             continue;
         }
-        at = match_shared(s, at, rows, n, dims, set, store, used)?;
+        at = match_shared(s, at, rows, set, slots)?;
     }
     Ok(at)
 }
@@ -139,18 +108,10 @@ fn match_blank(s: &[u8], at: usize, n: usize, dims: usize) -> Result<usize, Stop
 }
 
 // Whether the bytes s have the normal entries from a place on.
-pub fn match_normals(
-    s: &[u8],
-    start: usize,
-    rows: &[u32],
-    n: usize,
-    dims: usize,
-    store: &[u16],
-    used: &[usize],
-) -> Result<usize, Stop>
-    requires { Grouped dims n rows.now store.now used.now × (start ≤ length s.now) }
-    ensures { Matched s.now start (normal_bytes dims (rows_of dims n rows.now)) result }
+pub fn match_normals(s: &[u8], start: usize, rows: &RowSlice, slots: &Slots) -> Result<usize, Stop>
+    requires { Grouped rows.now.dims rows.now.n rows.now.words.now slots.now.store.now slots.now.sizes.now × (start ≤ length s.now) }
+    ensures { Matched s.now start (normal_bytes rows.now.dims (held rows.now)) result }
 {
-    let next = match_blank(s, start, n, dims)?;
-    match_common(s, next, rows, n, dims, store, used)
+    let next = match_blank(s, start, rows.n, rows.dims)?;
+    match_common(s, next, rows, slots)
 }

@@ -48,7 +48,7 @@ module _ {s : List ℕ} {shape : Shape} (b : Bytes s) (e : archive_answer (walk_
   walked : walk_archive s ≡ got walk.held []
   walked = walk.walked ∙ ap (got walk.held) (walk_forth s walk.held walk.rest b walk.walked).2
 
-  pub read_small : n * width d ≤ 11264
+  read_small : n * width d ≤ 11264
   read_small = rows_small d n walk.few walk.few-bases
 
   module _ (ws : List ℕ) (room : 11264 ≤ length ws) (h : Stored (walk_archive s) ws) where

@@ -3,9 +3,8 @@ use mathlib.Core.Path.{◌≡◌, refl, sym, ap, ap₂, subst, ◌∙◌}
 use mathlib.Core.Bool.{true, false}
 use mathlib.Core.List.{List, [], ◌∷◌, ◌++◌}
 use Prim.Native.Nat.{ℕ, ◌+◌, ◌*◌, ◌^◌, ◌≤◌, ◌<◌}
-use native.Mathlib.Nat.{one-mul}
 use native.Mathlib.Omega.{arith}
-use mir.Syntax.{w32}
+use mir.Syntax.{w32, w64}
 use mir.Val.{SFits, to_z, of_z}
 use mir.Facts.{to_z-of_z}
 use lib.IntN.{ℤ}
@@ -19,13 +18,14 @@ use Rattle.cube.specs.Measure.{Row, sums}
 use Rattle.cube.specs.Codes.{cell}
 use Rattle.cube.proofs.Codes.{cell-wide}
 use Rattle.rows.specs.Rows.{width, rows_of}
+use Rattle.rows.proofs.Fronts.{Front, fronted}
 use Rattle.rows_ready.proofs.Ready.{rows-front}
 use Rattle.rows_merge.specs.United.{united}
 use Rattle.fields.specs.Words.{words_at}
 use Rattle.fields_walk.proofs.Lengths.{length-below}
 use Rattle.archive_entries.specs.Reading.{read_archive, archive_answer}
 use Rattle.archive_judge.proofs.Judged.{limits-ready}
-use Rattle.call_answers.specs.Answers.{stop, Answered}
+use Rattle.call_answers.specs.Answers.{Outcome, stop, Answered}
 use Rattle.call_answers.specs.Joins.{filed}
 use Rattle.call_answers.proofs.Opened.{Opened}
 use Rattle.call_ask.proofs.Outcomes.{refused}
@@ -42,6 +42,10 @@ adds-refused s x z e = rw (refused s e)
 pub same-reading : {z : ℤ} → SFits w32 z → to_z w32 (of_z w32 z) ≡ z
 same-reading f = to_z-of_z {w = w32} f
 
+-- and it is the same in 64 bits
+pub widened : {z y : ℤ} → SFits w32 z → y ≡ to_z w32 (of_z w32 z) → to_z w64 (of_z w64 y) ≡ z
+widened f e = ap (λ (y : ℤ). to_z w64 (of_z w64 y)) (e ∙ same-reading f) ∙ to_z-of_z {w = w64} (record { sfits = omega (arith, f.sfits) })
+
 pub answered-adds : (s x : List ℕ) {z : ℤ} → SFits w32 z → {l m : List ℕ} {r : Result ℕ Stop} → Answered (adds s x (to_z w32 (of_z w32 z))) l m r → Answered (adds s x z) l m r
 answered-adds s x f {l} {m} {r} a = subst (λ (y : ℤ). Answered (adds s x y) l m r) (same-reading f) a
 
@@ -54,35 +58,40 @@ pub added_stopped : (zs : List ℕ) (rows : List (Row Total)) (x : List ℕ) (z 
 unfolding added
 added_stopped zs rows x z h = rw (← h)
 
+-- a slice of one record, with which an outcome is the archive of rows as one
+abbrev pub Joined : List ℕ → List (Row Total) → Outcome → ℕ → ℕ → List ℕ → Type 0
+Joined zs rows o d n ws = Store zs n ws × (d ≡ length zs) × (o ≡ filed zs (united sums (length zs) rows (rows_of d n ws)))
+
 module _ {zs : List ℕ} {n : ℕ} {ws : List ℕ} (p : Store zs n ws) (x : List ℕ) (z : ℤ) (m : mag z < 2 ^ 31) (k : true ≡ coded zs x) where
   wide : length x ≡ length zs
   wide = length-below zs x (coded-below zs x (sym k))
 
-  pub record_small : width (length x) ≤ 11
+  pub record_small : length x ≤ 8
   record_small = omega (arith, wide, p.ready.dims)
 
   -- the record, written as the first row of a list
-  module _ (before late : List ℕ) {t : Total} (room : 11 ≤ length late) (r : t ≡ (record_of x z).total)
-      (e : rows_of (length x) (0 + 1) late ≡ rows_of (length x) 0 before ++ record { codes = cell 255 x; total = t } ∷ []) where
+  module _ (before late : List ℕ) {y : ℤ} (room : 11 ≤ length late) (r : y ≡ z)
+      (e : rows_of (length x) (0 + 1) late ≡ rows_of (length x) 0 before ++ record { codes = cell 255 x; total = record { sum = y; count = 1 } } ∷ []) where
     abbrev front : List ℕ
-    front = take (width (length x)) late
+    front = take (1 * width (length x)) late
 
     front_long : 1 * width (length zs) ≡ length front
-    front_long = omega (arith, one-mul (width (length zs)), wide, length-take-le (width (length x)) late (omega (arith, record_small, room)))
+    front_long = omega (arith, wide, length-take-le (1 * width (length x)) late (omega (arith, record_small, room)))
 
-    holds_record : rows_of (length zs) 1 front ≡ record_of x z ∷ []
+    holds_record : rows_of (length x) 1 front ≡ record_of x z ∷ []
     unfolding rows_of
-    holds_record =
-        ap (λ (d : ℕ). rows_of d 1 front) (sym wide)
-        ∙ ap (λ (w : ℕ). rows_of (length x) 1 (take w late)) (sym (one-mul (width (length x)))) ∙ rows-front (length x) 1 late ∙ e
-        ∙ ap₂ (λ (c : List ℕ) (u : Total). record { codes = c; total = u } ∷ []) (cell-wide 8 x (omega (arith, wide, p.ready.dims))) r
+    holds_record = rows-front (length x) 1 late ∙ e ∙ ap₂ (λ (c : List ℕ) (y : ℤ). record { codes = c; total = record { sum = y; count = 1 } } ∷ []) (cell-wide 8 x record_small) r
 
-    pub record_store : Store zs 1 front
-    record_store = let l = record_limits zs x z m p.limits.sized (sym k) in record {
-      ready = limits-ready l holds_record refl front_long;
-      limits = rw holds_record l;
-    }
+    record_store : Store zs 1 front
+    record_store =
+        let l = record_limits zs x z m p.limits.sized (sym k) in
+        let held = ap (λ (d : ℕ). rows_of d 1 front) (sym wide) ∙ holds_record in
+        record { ready = limits-ready l held refl front_long; limits = rw held l }
 
-    pub added-filed : added zs (rows_of (length zs) n ws) x z ≡ filed zs (united sums (length zs) (rows_of (length zs) n ws) (rows_of (length zs) 1 front))
+    added-filed : (rows : List (Row Total)) → added zs rows x z ≡ filed zs (united sums (length zs) rows (rows_of (length x) 1 front))
     unfolding added
-    added-filed = rw (← k) (ap (λ (l : List (Row Total)). filed zs (united sums (length zs) (rows_of (length zs) n ws) l)) (sym holds_record))
+    added-filed rows = rw (← k) (ap (λ (l : List (Row Total)). filed zs (united sums (length zs) rows l)) (sym holds_record))
+
+    -- as a slice it is what is united with the base rows
+    pub record_stored : {i j : ℕ} {w : List ℕ} (rows : List (Row Total)) → Front (length x) 1 late i j w → Joined zs rows (added zs rows x z) i j w
+    record_stored rows at = fronted late (Joined zs rows (added zs rows x z)) at (record_store, wide, added-filed rows)

@@ -4,14 +4,14 @@
 
 ghost use Rattle.std.specs.Prelude.{◌≡◌, ◌+◌, ◌*◌, ◌≤◌, length};
 ghost use Rattle.fields.specs.Words.{words_at};
-ghost use Rattle.rows.specs.Rows.{rows_of};
+ghost use Rattle.rows.specs.Slices.{held};
 ghost use Rattle.call_answers.specs.Answers.{Answered};
-ghost use Rattle.call_ask.specs.Accepts.{Accepts};
 ghost use Rattle.call_join.specs.Stores.{Store};
 ghost use Rattle.call_add.specs.Adds.{coded, added, adds};
 
-use archive_entries::Shape;
+use call_ask::Accepted;
 use cube::Total;
+use rows::RowSlice;
 use stops::Stop;
 
 // How many words a row of 8 codes has.
@@ -27,15 +27,14 @@ fn codes_fit(sizes: &[u32], codes: &[u32]) -> bool
 // Writes the archive of sizes and base rows with one record folded in, with a lent array for slots.
 fn add_row(
     sizes: &[u32],
-    rows: &[u32],
-    n: usize,
+    rows: &RowSlice,
     codes: &[u32],
     reading: i32,
     store: &mut [u16],
     out: &mut [u8],
 ) -> Result<usize, Stop>
-    requires { Store sizes.now n rows.now × (262144 ≤ length store.old) }
-    ensures { Answered (added sizes.now (rows_of (length sizes.now) n rows.now) codes.now reading) out.old out.new result }
+    requires { Store sizes.now rows.now.n rows.now.words.now × (rows.now.dims ≡ length sizes.now) × (262144 ≤ length store.old) }
+    ensures { Answered (added sizes.now (held rows.now) codes.now reading) out.old out.new result }
 {
     if !codes_fit(sizes, codes) {
         return Err(Stop::Question);
@@ -43,50 +42,44 @@ fn add_row(
     let sum = i64::from(reading);
     let mut late = [0u32; ROW];
     rows_runs::put_row(&mut late, 0, codes, 255, Total { sum, count: 1 });
-    let size = codes.len() + rows::TOTAL_WORDS;
-    call_join::join_rows(sizes, rows, n, &late[..size], 1, store, out)
+    let late = RowSlice::front(&late, 1, codes.len());
+    call_join::join_rows(sizes, rows, &late, store, out)
 }
 
-// The same for an archive's sizes, which go into the buffer that is lent. Eight parameters: the archive, its rows, the record, two arrays.
+// The same for an archive's sizes, which go into the buffer that is lent.
 fn add_sized(
     archive: &[u8],
     sizes: &mut [u32],
-    rows: &[u32],
-    n: usize,
+    rows: &RowSlice,
     codes: &[u32],
     reading: i32,
     store: &mut [u16],
     out: &mut [u8],
 ) -> Result<usize, Stop>
-    requires { (8 + 4 * length sizes.old ≤ length archive.now) × Store (words_at archive.now (length sizes.old) 8) n rows.now × (262144 ≤ length store.old) }
-    ensures { Answered (added (words_at archive.now (length sizes.old) 8) (rows_of (length sizes.old) n rows.now) codes.now reading) out.old out.new result }
+    requires { (8 + 4 * rows.now.dims ≤ length archive.now) × Store (words_at archive.now rows.now.dims 8) rows.now.n rows.now.words.now × (length sizes.old ≡ rows.now.dims) × (262144 ≤ length store.old) }
+    ensures { Answered (added (words_at archive.now rows.now.dims 8) (held rows.now) codes.now reading) out.old out.new result }
 {
     fields::read_words(archive, 8, sizes);
-    add_row(sizes, rows, n, codes, reading, store, out)
+    add_row(sizes, rows, codes, reading, store, out)
 }
 
-// Adds a record to an archive that was accepted; the array has its base rows.
+// Adds a record to an archive that was accepted.
 fn add_read(
-    archive: &[u8],
-    rows: &[u32],
-    shape: Shape,
+    archive: &Accepted,
     codes: &[u32],
     reading: i32,
     store: &mut [u16],
     out: &mut [u8],
 ) -> Result<usize, Stop>
-    requires { Accepts archive.now rows.now shape × (262144 ≤ length store.old) }
-    ensures { Answered (adds archive.now codes.now reading) out.old out.new result }
+    requires { 262144 ≤ length store.old }
+    ensures { Answered (adds archive.now.bytes.now codes.now reading) out.old out.new result }
 {
-    let d = shape.dims as usize;
-    let n = shape.bases as usize;
-    let size = n * (d + rows::TOTAL_WORDS);
+    let rows = archive.rows();
     let mut sizes = [0u32; 8];
     add_sized(
-        archive,
-        &mut sizes[..d],
-        &rows[..size],
-        n,
+        archive.bytes,
+        &mut sizes[..rows.dims],
+        &rows,
         codes,
         reading,
         store,
@@ -106,7 +99,12 @@ fn add_in(
     ensures { Answered (adds archive.now codes.now reading) out.old out.new result }
 {
     let shape = archive_read::read_lent(archive, rows, store)?;
-    add_read(archive, rows, shape, codes, reading, store, out)
+    let archive = Accepted {
+        bytes: archive,
+        shape,
+        words: rows,
+    };
+    add_read(&archive, codes, reading, store, out)
 }
 
 // Adds one record to an archive: the archive of its base rows with this record folded in.

@@ -9,6 +9,7 @@ use mir.Val.{Fits}
 use lib.ListN.{length, get_or, take}
 use Rattle.std.specs.Prelude.{Ok}
 use Rattle.rows.proofs.Rows.{rows_small}
+use Rattle.rows.proofs.Fronts.{Front, fronted}
 use Rattle.fields_walk.specs.Parsed.{Parsed, stop, got}
 use Rattle.fields_walk.specs.Limits.{Bytes}
 use Rattle.fields_walk.proofs.Limits.{bytes_of}
@@ -23,6 +24,7 @@ use Rattle.archive_judge.proofs.Judged.{sizes-at, read-ready}
 use Rattle.archive_read.proofs.Reading.{read_of}
 use Rattle.call_answers.proofs.Opened.{Opened}
 use Rattle.call_ask.specs.Accepts.{Accepts}
+use Rattle.call_ask.specs.declared.Accepted.{Accepted}
 
 -- the front of the array
 abbrev pub OpenedIn : (s : List ℕ) (d n m : ℕ) (ws : List ℕ) → Type 0
@@ -66,9 +68,12 @@ opened {s} {ws} b x =
       rows = r.rows ∙ ap rows_in same-held;
     }
 
--- where the bytes are a slice's
-pub opened_by : {s ws : List ℕ} {e : Shape} → ((i : ℕ) → Fits w8 (get_or s i 0)) → Accepts s ws e → OpenedIn s e.dims e.bases e.cells ws
-opened_by {s} h x = opened (bytes_of s (λ i. omega (arith, h i))) x
+-- an archive that was accepted, and its base rows as they are lent
+pub opened_of : (a : Accepted) → OpenedIn a.bytes.now a.shape.dims a.shape.bases a.shape.cells a.words.now
+opened_of a = opened a.bytes_are a.accepts
+
+pub opened_rows : {d n : ℕ} {ws : List ℕ} (a : Accepted) → Front a.shape.dims a.shape.bases a.words.now d n ws → Opened a.bytes.now d n a.shape.cells ws
+opened_rows a f = fronted a.words.now (λ d n ws. Opened a.bytes.now d n a.shape.cells ws) f (opened_of a)
 
 module _ {s : List ℕ} {d n m : ℕ} {ws : List ℕ} (o : Opened s d n m ws) where
   pub opened_small : n * width d ≤ 11264

@@ -2,7 +2,7 @@
 #![tactic(auto)]
 
 ghost use Rattle.std.specs.Prelude.{◌≡◌, ◌+◌, ◌*◌, ◌≤◌, length};
-ghost use Rattle.rows.specs.Rows.{rows_of};
+ghost use Rattle.rows.specs.Slices.{held};
 ghost use Rattle.fields.specs.Words.{words_at};
 ghost use Rattle.table.specs.Reading.{read_table, table_answer, Stored};
 ghost use Rattle.archive_entries.specs.Layout.{archive_bytes, Limits};
@@ -10,6 +10,7 @@ ghost use Rattle.rows_ready.specs.Ready.{Ready};
 ghost use Rattle.call_answers.specs.Answers.{bytes, Answered};
 ghost use Rattle.call_answers.specs.Calls.{builds};
 
+use rows::RowSlice;
 use stops::Stop;
 use table::Folded;
 
@@ -17,14 +18,14 @@ use table::Folded;
 pub fn fit_archive(
     out: &mut [u8],
     sizes: &[u32],
-    rows: &[u32],
-    n: usize,
+    rows: &RowSlice,
     store: &mut [u16],
 ) -> Result<usize, Stop>
-    requires { Ready (length sizes.now) n rows.now × Limits sizes.now (rows_of (length sizes.now) n rows.now) × (262144 ≤ length store.old) }
-    ensures { Answered (bytes (archive_bytes sizes.now (rows_of (length sizes.now) n rows.now))) out.old out.new result }
+    requires ready { Ready rows.now.dims rows.now.n rows.now.words.now × (rows.now.dims ≡ length sizes.now) × Limits sizes.now (held rows.now) }
+    requires room { 262144 ≤ length store.old }
+    ensures { Answered (bytes (archive_bytes sizes.now (held rows.now))) out.old out.new result }
 {
-    let needed = archive_write::write_archive(out, sizes, rows, n, store);
+    let needed = archive_write::write_archive(out, sizes, rows, store);
     call_answers::fitting(needed, out.len())
 }
 
@@ -32,17 +33,16 @@ pub fn fit_archive(
 fn write_sized(
     s: &[u8],
     sizes: &mut [u32],
-    rows: &[u32],
-    n: usize,
+    rows: &RowSlice,
     store: &mut [u16],
     out: &mut [u8],
 ) -> Result<usize, Stop>
-    requires sizes_in_bounds { (8 + 4 * length sizes.old ≤ length s.now) × Ready (length sizes.old) n rows.now × (262144 ≤ length store.old) }
-    requires limits { Limits (words_at s.now (length sizes.old) 8) (rows_of (length sizes.old) n rows.now) }
-    ensures { Answered (bytes (archive_bytes (words_at s.now (length sizes.old) 8) (rows_of (length sizes.old) n rows.now))) out.old out.new result }
+    requires sizes_in_bounds { (8 + 4 * rows.now.dims ≤ length s.now) × Ready rows.now.dims rows.now.n rows.now.words.now × (length sizes.old ≡ rows.now.dims) × (262144 ≤ length store.old) }
+    requires limits { Limits (words_at s.now rows.now.dims 8) (held rows.now) }
+    ensures { Answered (bytes (archive_bytes (words_at s.now rows.now.dims 8) (held rows.now))) out.old out.new result }
 {
     fields::read_words(s, 8, sizes);
-    fit_archive(out, sizes, rows, n, store)
+    fit_archive(out, sizes, rows, store)
 }
 
 // Writes the archive of a table that was accepted; the array has its base rows.
@@ -52,11 +52,10 @@ fn build_read(s: &[u8], rows: &[u32], folded: Folded, out: &mut [u8]) -> Result<
     ensures { Answered (builds s.now) out.old out.new result }
 {
     let d = folded.dims as usize;
-    let n = folded.rows as usize;
-    let size = n * (d + rows::TOTAL_WORDS);
+    let rows = RowSlice::front(rows, folded.rows as usize, d);
     let mut sizes = [0u32; 8];
     let mut store = [0u16; 262144];
-    write_sized(s, &mut sizes[..d], &rows[..size], n, &mut store, out)
+    write_sized(s, &mut sizes[..d], &rows, &mut store, out)
 }
 
 // Reads a table into the array that is lent, and builds its archive.

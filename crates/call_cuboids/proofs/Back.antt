@@ -9,7 +9,7 @@ use Rattle.lists.specs.Lists.{◌∈◌}
 use Rattle.lists.proofs.Members.{flat-map}
 use Rattle.lattice.specs.Sets.{sets}
 use Rattle.lattice.proofs.Sets.{sets-count}
-use Rattle.fields_walk.specs.Parsed.{got, many}
+use Rattle.fields_walk.specs.Parsed.{got}
 use Rattle.fields_walk.proofs.Codec.{codec_whole}
 use Rattle.fields_walk.proofs.Many.{many_codec}
 use Rattle.cube.specs.declared.Total.{Total}

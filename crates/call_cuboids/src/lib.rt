@@ -7,10 +7,13 @@ ghost use Rattle.cube.specs.Measure.{sums as measure};
 ghost use Rattle.cube.specs.Codes.{plain};
 ghost use Rattle.cube.specs.Cube.{cells as cuboid};
 ghost use Rattle.rows.specs.Rows.{width, rows_of};
+ghost use Rattle.rows.specs.Slices.{held};
 ghost use Rattle.archive_entries.specs.Layout.{section, cell_bytes};
 ghost use Rattle.rows_ready.specs.Ready.{Ready};
 ghost use Rattle.archive_cells.specs.Fitted.{Fitted};
 ghost use Rattle.call_cuboids.specs.Cuboids.{cuboid_bytes};
+
+use rows::RowSlice;
 
 // The cell of an empty table, if it is one of a set, into the array that is lent. Returns how many there are.
 fn blank_cells(cells: &mut [u32], dims: usize, set: u32) -> usize
@@ -27,23 +30,16 @@ fn blank_cells(cells: &mut [u32], dims: usize, set: u32) -> usize
 }
 
 // The cells of a set that exist, by codes, each with its total, into the array that is lent. Returns how many there are.
-fn find_cells(
-    rows: &[u32],
-    n: usize,
-    dims: usize,
-    set: u32,
-    index: &mut [u32],
-    cells: &mut [u32],
-) -> usize
-    requires ready { Ready dims n rows.now × (length index.old ≡ n) }
+fn find_cells(rows: &RowSlice, set: u32, index: &mut [u32], cells: &mut [u32]) -> usize
+    requires ready { Ready rows.now.dims rows.now.n rows.now.words.now × (length index.old ≡ rows.now.n) }
     requires in_bounds { 11264 ≤ length cells.old }
-    ensures cells_after { rows_of dims result cells.new ≡ cuboid (plain dims) measure (rows_of dims n rows.now) set }
+    ensures cells_after { rows_of rows.now.dims result cells.new ≡ cuboid (plain rows.now.dims) measure (held rows.now) set }
     ensures upper_bound { result ≤ 1024 }
 {
-    if n == 0 {
-        return blank_cells(cells, dims, set);
+    if rows.n == 0 {
+        return blank_cells(cells, rows.dims, set);
     }
-    rows_runs::group_rows(rows, n, dims, set, index, cells)
+    rows_runs::group_rows(rows, set, index, cells)
 }
 
 // Writes a count, and so many cells: the words of the first rows of the array that is lent.
@@ -57,16 +53,16 @@ fn put_counted(out: &mut [u8], cells: &[u32], n: usize, dims: usize) -> usize
 }
 
 // Writes the listed cuboid of a set where there is room for it. Returns how long it is.
-pub fn write_cuboid(out: &mut [u8], rows: &[u32], n: usize, dims: usize, set: u32) -> usize
-    requires { Ready dims n rows.now }
-    ensures { Fitted (cuboid_bytes dims (rows_of dims n rows.now) set) out.old out.new result }
+pub fn write_cuboid(out: &mut [u8], rows: &RowSlice, set: u32) -> usize
+    requires { Ready rows.now.dims rows.now.n rows.now.words.now }
+    ensures { Fitted (cuboid_bytes rows.now.dims (held rows.now) set) out.old out.new result }
 {
     let mut index = [0u32; 1024];
     let mut cells = [0u32; rows::ROOM];
-    let count = find_cells(rows, n, dims, set, &mut index[..n], &mut cells);
-    let len = 4 + count * (4 * dims + 12);
+    let count = find_cells(rows, set, &mut index[..rows.n], &mut cells);
+    let len = 4 + count * (4 * rows.dims + 12);
     if out.len() < len {
         return len;
     }
-    put_counted(out, &cells, count, dims)
+    put_counted(out, &cells, count, rows.dims)
 }

@@ -3,7 +3,6 @@ use mathlib.Core.Path.{◌≡◌, refl, sym, ap, ◌∙◌}
 use mathlib.Core.List.{List, [], ◌∷◌, flat_map, map}
 use Prim.Native.Nat.{ℕ, zero, suc, ◌^◌, ◌≤◌, ◌<◌, ◌+◌, ◌*◌}
 use native.Mathlib.Omega.{arith}
-use lib.Pow.{pow_mono}
 use lib.ListN.{length, get_or, length-map, replicate, length-replicate}
 use borrow.Author.Tests.{le-leb}
 use Rattle.lists.proofs.Members.{keep_all}
@@ -22,7 +21,7 @@ use Rattle.rows_runs.proofs.Runs.{cell_of}
 use Rattle.rows_runs.proofs.Indexed.{indexed_cells}
 use Rattle.rows_slots.specs.Slots.{large, crowds, packed}
 use Rattle.rows_slots.specs.Summed.{summed}
-use Rattle.rows_slots.proofs.Entries.{crowds-below, slot-length, flat-few}
+use Rattle.rows_slots.proofs.Entries.{crowds-below}
 use Rattle.rows_slots.proofs.Totalled.{summed-cuboid}
 use Rattle.rows_columns.specs.Columns.{part}
 use Rattle.rows_crowds.specs.Crowds.{Holds, ends}
@@ -94,15 +93,9 @@ module _ {d n : ℕ} {ws store used : List ℕ} (rows : Slotted d n ws store use
   held : Holds 1 d n ws store used s
   held = rows.slots.all s h
 
-  pub slot-place : (s < 256) × (get_or used s 0 ≤ 1024)
-  slot-place = (omega (arith, h, pow_mono {i = d} {j = 8} rows.ready.dims), omega (arith, held.few, rows.ready.few))
-
   module _ {slot : List ℕ} (e : slot ≡ part s (get_or used s 0) store) where
     pub slot_is : slot ≡ packed (crowds 1 (key s (cut d n ws)) n)
     slot_is = e ∙ held.slot
-
-    pub slot-few : length slot ≤ 1024
-    slot-few = omega (arith, ap length slot_is, slot-length (key s (cut d n ws)) n 1 rows.ready.few, flat-few (key s (cut d n ws)) n 1 rows.ready.few, rows.ready.few)
 
     pub cells-few : cell_count n s slot ≤ 1024
     cells-few = omega (arith, slot-count d n rows.ready s slot_is, existing_small d (rows_of d n ws) s (omega (arith, rows-length d n ws, rows.ready.few)))

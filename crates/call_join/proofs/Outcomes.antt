@@ -6,7 +6,8 @@ use mathlib.Core.List.{List, [], ◌∷◌}
 use Prim.Native.Nat.{ℕ, ◌+◌, ◌*◌, ◌≤◌}
 use native.Mathlib.Omega.{arith}
 use lib.Dec.{eqb}
-use lib.ListN.{length}
+use lib.ListN.{length, take}
+use lib.Seq.{length-take-le}
 use lib.Pointwise.{pointwise}
 use Rattle.std.specs.Prelude.{Ok, Err}
 use Rattle.lists.specs.Order.{same}
@@ -67,6 +68,14 @@ module _ {s : List ℕ} {d n m : ℕ} {ws : List ℕ} (o : Opened s d n m ws) wh
     limits = subst (Limits (words_at s d 8)) (sym opened_rows) (subst (λ (zs : List ℕ). Limits zs (rows_in o.held)) o.sizes (archive_forth s o.held [] o.are o.read).0);
   })
 
+-- two slices of base rows, of the sizes zs, as one are what two archives join to
+abbrev pub Joined : (s t zs : List ℕ) (d n : ℕ) (ws : List ℕ) (d' m : ℕ) (ws' : List ℕ) → Type 0
+Joined s t zs d n ws d' m ws' = Store zs n ws × Store zs m ws' × (joins s t ≡ filed zs (united totals (length zs) (rows_of d n ws) (rows_of d' m ws')))
+
+-- whether the sizes in the front of two buffers are the same
+pub told_in : (s t l : List ℕ) {d : ℕ} {b : Bool} → d ≤ length l → b ≡ same (words_at s (length (take d l)) 8) (words_at t (length (take d l)) 8) → b ≡ same (words_at s d 8) (words_at t d 8)
+told_in s t l {d} {b} h e = subst (λ (n : ℕ). b ≡ same (words_at s n 8) (words_at t n 8)) (length-take-le d l h) e
+
 module _ {s t : List ℕ} {d d' n n' m m' : ℕ} {ws ws' : List ℕ} (o : Opened s d n m ws) (p : Opened t d' n' m' ws') where
   apart : same (words_at s d 8) (words_at t d' 8) ≡ false → joins s t ≡ stop 17
   unfolding joins
@@ -75,20 +84,23 @@ module _ {s t : List ℕ} {d d' n n' m m' : ℕ} {ws ws' : List ℕ} (o : Opened
   pub joins-dims : d ≢ d' → joins s t ≡ stop 17
   joins-dims h = apart (refuted (λ e. h (sym (length_words_at s d 8) ∙ ap length (same-eq (words_at s d 8) (words_at t d' 8) e) ∙ length_words_at t d' 8)))
 
-module _ {s t : List ℕ} {d n n' m m' : ℕ} {ws ws' : List ℕ} (o : Opened s d n m ws) (p : Opened t d n' m' ws') where
-  pub joins-sizes : false ≡ same (words_at s d 8) (words_at t d 8) → joins s t ≡ stop 17
-  joins-sizes e = apart o p (sym e)
+  -- of as many dimensions
+  module _ {k : ℕ} (e : d ≡ k) (f : d' ≡ k) where
+    first : words_at s d 8 ≡ words_at s k 8
+    first = ap (λ (i : ℕ). words_at s i 8) e
 
-  module _ (e : true ≡ same (words_at s d 8) (words_at t d 8)) {zs : List ℕ} (z : zs ≡ words_at s d 8) where
-    alike : zs ≡ words_at t d 8
-    alike = z ∙ same-eq (words_at s d 8) (words_at t d 8) (sym e)
+    second : words_at t d' 8 ≡ words_at t k 8
+    second = ap (λ (i : ℕ). words_at t i 8) f
 
-    pub opened_other : Store zs n' ws'
-    opened_other = opened_store p alike
+    pub joins-sizes : false ≡ same (words_at s k 8) (words_at t k 8) → joins s t ≡ stop 17
+    joins-sizes h = apart (ap₂ same first second ∙ sym h)
 
-    pub joins-filed : joins s t ≡ filed zs (united totals (length zs) (rows_of (length zs) n ws) (rows_of (length zs) n' ws'))
+    pub joins-filed : true ≡ same (words_at s k 8) (words_at t k 8) → {zs : List ℕ} → zs ≡ words_at s k 8 → Joined s t zs d n ws d' n' ws'
     unfolding joins
-    joins-filed =
-        let f = ap (λ (l : List ℕ). rows_of (length l) n ws) z ∙ opened_rows o in
-        let g = ap (λ (l : List ℕ). rows_of (length l) n' ws') alike ∙ opened_rows p in
-        rw (o.read, p.read, o.sizes, p.sizes, ← e, ← z) (ap₂ (λ (a b : List (Row Total)). filed zs (united totals (length zs) a b)) (sym f) (sym g))
+    joins-filed h {zs} z =
+        let x = z ∙ sym first in
+        let y = z ∙ same-eq (words_at s k 8) (words_at t k 8) (sym h) ∙ sym second in (
+          opened_store o x,
+          opened_store p y,
+          rw (o.read, p.read, o.sizes ∙ first, p.sizes ∙ second, ← h, ← z) (ap₂ (λ (a b : List (Row Total)). filed zs (united totals (length zs) a b)) (sym o.rows) (sym p.rows)),
+        )

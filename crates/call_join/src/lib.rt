@@ -6,14 +6,14 @@ ghost use Rattle.std.specs.Prelude.{◌≡◌, ◌+◌, ◌*◌, ◌≤◌, leng
 ghost use Rattle.lists.specs.Order.{same};
 ghost use Rattle.fields.specs.Words.{words_at};
 ghost use Rattle.cube.specs.Measure.{sums as totals};
-ghost use Rattle.rows.specs.Rows.{rows_of};
+ghost use Rattle.rows.specs.Slices.{held};
 ghost use Rattle.rows_merge.specs.United.{united};
 ghost use Rattle.call_answers.specs.Answers.{Answered};
 ghost use Rattle.call_answers.specs.Joins.{filed, joins};
-ghost use Rattle.call_ask.specs.Accepts.{Accepts};
 ghost use Rattle.call_join.specs.Stores.{Store};
 
-use archive_entries::Shape;
+use call_ask::Accepted;
+use rows::RowSlice;
 use stops::Stop;
 
 // Whether two archives of the same dimensions have the same sizes. The buffers that are lent have them afterwards.
@@ -30,60 +30,44 @@ fn same_sizes(first: &[u8], second: &[u8], sizes: &mut [u32], others: &mut [u32]
 // Writes the archive of two lists of base rows, of the same sizes, as one, with a lent array for slots.
 pub fn join_rows(
     sizes: &[u32],
-    rows1: &[u32],
-    n: usize,
-    rows2: &[u32],
-    m: usize,
+    first: &RowSlice,
+    second: &RowSlice,
     store: &mut [u16],
     out: &mut [u8],
 ) -> Result<usize, Stop>
-    requires { Store sizes.now n rows1.now × Store sizes.now m rows2.now × (262144 ≤ length store.old) }
-    ensures { Answered (filed sizes.now (united totals (length sizes.now) (rows_of (length sizes.now) n rows1.now) (rows_of (length sizes.now) m rows2.now))) out.old out.new result }
+    requires stores { Store sizes.now first.now.n first.now.words.now × Store sizes.now second.now.n second.now.words.now }
+    requires dims { (first.now.dims ≡ length sizes.now) × (second.now.dims ≡ length sizes.now) × (262144 ≤ length store.old) }
+    ensures { Answered (filed sizes.now (united totals (length sizes.now) (held first.now) (held second.now))) out.old out.new result }
 {
-    let d = sizes.len();
-    if 1048576 < rows_merge::readings_in(rows1, n, d) + rows_merge::readings_in(rows2, m, d) {
+    if 1048576 < rows_merge::readings_in(first) + rows_merge::readings_in(second) {
         return Err(Stop::Many);
     }
     let mut rows = [0u32; rows::ROOM];
-    let k = rows_merge::merge_rows(rows1, n, rows2, m, d, &mut rows).ok_or(Stop::Many)?;
-    let size = k * (d + rows::TOTAL_WORDS);
-    call_build::fit_archive(out, sizes, &rows[..size], k, store)
+    let k = rows_merge::merge_rows(first, second, &mut rows).ok_or(Stop::Many)?;
+    let rows = RowSlice::front(&rows, k, sizes.len());
+    call_build::fit_archive(out, sizes, &rows, store)
 }
 
-// Joins two archives that were accepted; the arrays have their base rows. Eight parameters: two archives with what was read of each.
+// Joins two archives that were accepted.
 fn join_read(
-    first: &[u8],
-    rows1: &[u32],
-    shape1: Shape,
-    second: &[u8],
-    rows2: &[u32],
-    shape2: Shape,
+    first: &Accepted,
+    second: &Accepted,
     store: &mut [u16],
     out: &mut [u8],
 ) -> Result<usize, Stop>
-    requires { Accepts first.now rows1.now shape1 × Accepts second.now rows2.now shape2 × (262144 ≤ length store.old) }
-    ensures { Answered (joins first.now second.now) out.old out.new result }
+    requires { 262144 ≤ length store.old }
+    ensures { Answered (joins first.now.bytes.now second.now.bytes.now) out.old out.new result }
 {
-    if shape1.dims != shape2.dims {
+    if first.shape.dims != second.shape.dims {
         return Err(Stop::Sizes);
     }
-    let d = shape1.dims as usize;
-    let n = shape1.bases as usize;
-    let m = shape2.bases as usize;
-    let size1 = n * (d + rows::TOTAL_WORDS);
-    let size2 = m * (d + rows::TOTAL_WORDS);
+    let d = first.shape.dims as usize;
     let mut sizes = [0u32; 8];
     let mut others = [0u32; 8];
-    if same_sizes(first, second, &mut sizes[..d], &mut others[..d]) {
-        join_rows(
-            &sizes[..d],
-            &rows1[..size1],
-            n,
-            &rows2[..size2],
-            m,
-            store,
-            out,
-        )
+    if same_sizes(first.bytes, second.bytes, &mut sizes[..d], &mut others[..d]) {
+        let rows1 = first.rows();
+        let rows2 = second.rows();
+        join_rows(&sizes[..d], &rows1, &rows2, store, out)
     } else {
         Err(Stop::Sizes)
     }
@@ -102,7 +86,17 @@ fn join_in(
 {
     let shape1 = archive_read::read_lent(first, rows1, store)?;
     let shape2 = archive_read::read_lent(second, rows2, store)?;
-    join_read(first, rows1, shape1, second, rows2, shape2, store, out)
+    let first = Accepted {
+        bytes: first,
+        shape: shape1,
+        words: rows1,
+    };
+    let second = Accepted {
+        bytes: second,
+        shape: shape2,
+        words: rows2,
+    };
+    join_read(&first, &second, store, out)
 }
 
 // Joins two archives of the same dimensions and sizes: the archive of both lists of base rows, folded.

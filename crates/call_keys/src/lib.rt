@@ -10,10 +10,9 @@ ghost use Rattle.archive_read.specs.Sharing.{Shares};
 ghost use Rattle.archive_cells.specs.ListBytes.{list_bytes};
 ghost use Rattle.call_answers.specs.Answers.{bytes, Answered};
 ghost use Rattle.call_answers.specs.Keys.{lists_keys};
-ghost use Rattle.call_ask.specs.Accepts.{Accepts};
 ghost use Rattle.call_keys.specs.Bare.{bare, least_bare};
 
-use archive_entries::Shape;
+use call_ask::Accepted;
 use stops::Stop;
 
 // Whether no cell of a set is shared.
@@ -31,7 +30,7 @@ pub fn is_bare(dims: usize, used: &[usize], set: u32) -> bool
 fn holds_listed(set: u32, list: &[u32]) -> bool
     ensures { result ≡ some (holds 32 set) list.now }
 {
-    // `any` was tried: its closure calls a function, and the proof did not close.
+    // By a loop: the proof of `any` did not close.
     for &listed in list {
         if lattice::holds_set(set, listed) {
             return true;
@@ -85,17 +84,11 @@ fn fit_bare(out: &mut [u8], dims: usize, used: &[usize]) -> Result<usize, Stop>
 }
 
 // Lists the smallest keys of an archive that was accepted: the smallest sets of which its base rows share no cell.
-fn keys_read(
-    s: &[u8],
-    rows: &[u32],
-    shape: Shape,
-    used: &[usize],
-    out: &mut [u8],
-) -> Result<usize, Stop>
-    requires { Accepts s.now rows.now shape × Shares (read_archive s.now) rows.now used.now }
-    ensures { Answered (lists_keys s.now) out.old out.new result }
+fn keys_read(archive: &Accepted, used: &[usize], out: &mut [u8]) -> Result<usize, Stop>
+    requires { Shares (read_archive archive.now.bytes.now) archive.now.words.now used.now }
+    ensures { Answered (lists_keys archive.now.bytes.now) out.old out.new result }
 {
-    fit_bare(out, shape.dims as usize, used)
+    fit_bare(out, archive.shape.dims as usize, used)
 }
 
 // Reads an archive into the arrays that are lent, and lists its smallest keys.
@@ -108,7 +101,12 @@ fn keys_in(
     ensures { Answered (lists_keys s.now) out.old out.new result }
 {
     let shape = archive_read::read_sharing(s, rows, used)?;
-    keys_read(s, rows, shape, used, out)
+    let archive = Accepted {
+        bytes: s,
+        shape,
+        words: rows,
+    };
+    keys_read(&archive, used, out)
 }
 
 // Lists the smallest keys of an archive: how many there are, then their set numbers in lattice order.

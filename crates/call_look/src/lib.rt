@@ -5,31 +5,24 @@
 ghost use Rattle.std.specs.Prelude.{◌≡◌};
 ghost use Rattle.stops.specs.Numbers.{numbered};
 ghost use Rattle.call_answers.specs.Calls.{looks_up};
-ghost use Rattle.call_ask.specs.Accepts.{Accepts};
 
-use archive_entries::Shape;
+use call_ask::Accepted;
 use call_questions::Cell;
 use stops::Stop;
 
 // Answers a question to an archive that was accepted.
-pub fn look_read(
-    s: &[u8],
-    rows: &[u32],
-    shape: Shape,
-    question: &[u32],
-) -> Result<Option<Cell>, Stop>
-    requires { Accepts s.now rows.now shape }
-    ensures { numbered result ≡ looks_up s.now question.now }
+pub fn look_read(archive: &Accepted, question: &[u32]) -> Result<Option<Cell>, Stop>
+    ensures { numbered result ≡ looks_up archive.now.bytes.now question.now }
 {
-    let d = shape.dims as usize;
+    let s = archive.bytes;
+    let d = archive.shape.dims as usize;
     if !call_questions::fits(s, d, question) {
         return Err(Stop::Question);
     }
-    let n = shape.bases as usize;
-    let size = n * (d + rows::TOTAL_WORDS);
-    let m = shape.cells as usize;
+    let m = archive.shape.cells as usize;
     let at = s.len() - 4 - m * (4 * d + 12);
-    Ok(call_questions::answer(s, at, m, &rows[..size], n, d, question))
+    let rows = archive.rows();
+    Ok(call_questions::answer(s, at, m, &rows, question))
 }
 
 // Reads an archive into the array that is lent, and looks up a cell.
@@ -37,7 +30,12 @@ fn look_in(s: &[u8], rows: &mut [u32; rows::ROOM], question: &[u32]) -> Result<O
     ensures { numbered result ≡ looks_up s.now question.now }
 {
     let shape = archive_read::read_required(s, rows)?;
-    look_read(s, rows, shape, question)
+    let archive = Accepted {
+        bytes: s,
+        shape,
+        words: rows,
+    };
+    look_read(&archive, question)
 }
 
 // Looks up a cell: a code or ALL (65,535) for each dimension.

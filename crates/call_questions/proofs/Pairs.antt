@@ -8,7 +8,7 @@ use native.Mathlib.Numerals.{add-one}
 use lib.Dec.{eqb, ltb}
 use lib.ListN.{length, get_or, drop, drop_of_length-le}
 use lib.Seq.{drop-cons}
-use borrow.Author.Tests.{ne_eqb, eq-eqb, lt-ltb, le-ltb}
+use borrow.Author.Tests.{eq-eqb, lt-ltb, le-ltb}
 use Rattle.cube.specs.Codes.{ALL, falls}
 use Rattle.call_questions.specs.Questions.{asks}
 
@@ -45,9 +45,6 @@ meets-all a b e = rw (eq-eqb a ALL e)
 
 pub meets-code : (a b : ℕ) → eqb a b ≡ true → meets a b ≡ true
 meets-code a b e = rw (e, or-true)
-
-pub meets_not : (a b : ℕ) → a ≢ ALL → eqb a b ≡ false → meets a b ≡ false
-meets_not a b n e = rw (ne_eqb a ALL n, e)
 
 -- ---- a size and a question's code
 

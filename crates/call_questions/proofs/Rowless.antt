@@ -23,10 +23,6 @@ whole_set (a ∷ c) e = cases (truth (eqb a ALL))
     (λ h. ap₂ ◌∷◌ (eqb-true a ALL h) (whole_set c (omega (arith, e))))
     (λ h. let f : bit (eqb a ALL) ≡ 1 = rw h in absurd (omega (arith, e, f)))
 
-pub rowless-some : (d n : ℕ) (c : List ℕ) → (n ≡ 0 → ⊥) → None ≡ looked (rowless d n c)
-rowless-some d zero c h = absurd (h refl)
-rowless-some d (suc n) c h = refl
-
 pub rowless-other : (d n : ℕ) (c : List ℕ) → (set-of c ≡ 0 → ⊥) → None ≡ looked (rowless d n c)
 rowless-other d zero c h =
     let e : same c (replicate d ALL) ≡ false = refuted (λ f. h (ap set-of (same-eq c (replicate d ALL) f) ∙ set-whole d)) in

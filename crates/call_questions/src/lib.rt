@@ -6,9 +6,11 @@ ghost use Rattle.fields.specs.Words.{words_at};
 ghost use Rattle.cube.specs.Measure.{sums as measure};
 ghost use Rattle.cube.specs.Codes.{falls, plain};
 ghost use Rattle.cube.specs.Condensed.{ours, lookup};
-ghost use Rattle.rows.specs.Rows.{width, cut, rows_of};
+ghost use Rattle.rows.specs.Slices.{codes, held};
 ghost use Rattle.rows_ready.specs.Ready.{Ready};
 ghost use Rattle.call_questions.specs.Questions.{asks, looked, rowless, First, NormalsAt};
+
+use rows::RowSlice;
 
 // What a question is answered by: the sum and the count that an entry carries, and its number.
 #[derive(Clone, Copy)]
@@ -53,16 +55,11 @@ fn falls_in(cell: &[u32], mine: &[u32]) -> bool
 }
 
 // The first row that falls in a cell.
-fn first_row(rows: &[u32], n: usize, dims: usize, cell: &[u32]) -> Option<usize>
-    requires { (n * width dims ≡ length rows.now) × (length cell.now ≡ dims) }
-    ensures { First cell.now (cut dims n rows.now) result }
+fn first_row(rows: &RowSlice, cell: &[u32]) -> Option<usize>
+    requires { length cell.now ≡ rows.now.dims }
+    ensures { First cell.now (codes rows.now) result }
 {
-    for i in 0..n {
-        if falls_in(cell, rows::row_of(rows, n, dims, i)) {
-            return Some(i);
-        }
-    }
-    None
+    (0..rows.n).find(|&i| falls_in(cell, rows.codes_at(i)))
 }
 
 // The answer for a cell that no row falls in: an empty table has all ALL, and its entry is the first.
@@ -84,24 +81,16 @@ fn without_rows(n: usize, cell: &[u32]) -> Option<Cell>
 }
 
 // The entry that stands for a cell: that of the one row that falls in it, or else the normal entry at the cell. The m normal entries stand in the bytes s from a place on.
-pub fn answer(
-    s: &[u8],
-    at: usize,
-    m: usize,
-    rows: &[u32],
-    n: usize,
-    dims: usize,
-    cell: &[u32],
-) -> Option<Cell>
-    requires ready { Ready dims n rows.now × (length cell.now ≡ dims) }
-    requires normals_at { NormalsAt s.now at m dims (rows_of dims n rows.now) }
-    ensures { result ≡ looked (lookup (plain dims) cell.now (ours (plain dims) measure (rows_of dims n rows.now))) }
+pub fn answer(s: &[u8], at: usize, m: usize, rows: &RowSlice, cell: &[u32]) -> Option<Cell>
+    requires ready { Ready rows.now.dims rows.now.n rows.now.words.now × (length cell.now ≡ rows.now.dims) }
+    requires normals_at { NormalsAt s.now at m rows.now.dims (held rows.now) }
+    ensures { result ≡ looked (lookup (plain rows.now.dims) cell.now (ours (plain rows.now.dims) measure (held rows.now))) }
 {
-    let Some(i) = first_row(rows, n, dims, cell) else {
-        return without_rows(n, cell);
+    let Some(i) = first_row(rows, cell) else {
+        return without_rows(rows.n, cell);
     };
-    if rows_compare::is_single(rows, n, dims, i, call_search::set_of(cell)) {
-        let total = rows::total_at(rows, n, dims, i);
+    if rows_compare::is_single(rows, i, call_search::set_of(cell)) {
+        let total = rows.total_at(i);
         return Some(Cell {
             sum: total.sum,
             count: total.count,
@@ -109,9 +98,9 @@ pub fn answer(
         });
     }
     let k = call_search::find_cell(s, at, m, cell);
-    let place = at + k * (4 * dims + 12) + 4 * dims;
+    let place = at + k * (4 * rows.dims + 12) + 4 * rows.dims;
     let sum = fields_sums::sum_at(s, place);
     let count = fields::word_at(s, place + 8);
-    let entry = (n + k) as u32;
+    let entry = (rows.n + k) as u32;
     Some(Cell { sum, count, entry })
 }

@@ -4,25 +4,22 @@
 
 ghost use Rattle.std.specs.Prelude.{◌≡◌};
 ghost use Rattle.stops.specs.Numbers.{numbered};
-ghost use Rattle.call_ask.specs.Accepts.{Accepts};
 ghost use Rattle.call_window.specs.Windows.{asks_window};
 
-use archive_entries::Shape;
+use call_ask::Accepted;
 use cube::Total;
 use stops::Stop;
 
 // Answers a question to an archive that was accepted: the cell's sum and count, or none for 'no record', and no entry's number, which would tell of rows outside.
 fn window_read(
-    archive: &[u8],
-    rows: &[u32],
-    shape: Shape,
+    archive: &Accepted,
     dimension: u32,
     code: u32,
     question: &[u32],
 ) -> Result<Option<Total>, Stop>
-    requires { Accepts archive.now rows.now shape }
-    ensures { numbered result ≡ asks_window archive.now dimension code question.now }
+    ensures { numbered result ≡ asks_window archive.now.bytes.now dimension code question.now }
 {
+    let shape = archive.shape;
     if dimension == 0 {
         return Err(Stop::Dimension);
     }
@@ -30,16 +27,16 @@ fn window_read(
         return Err(Stop::Dimension);
     }
     let i = dimension as usize - 1;
-    if fields::word_at(archive, 8 + 4 * i) <= code {
+    if fields::word_at(archive.bytes, 8 + 4 * i) <= code {
         return Err(Stop::Question);
     }
-    if !call_questions::fits(archive, shape.dims as usize, question) {
+    if !call_questions::fits(archive.bytes, shape.dims as usize, question) {
         return Err(Stop::Question);
     }
     if question[i] != code {
         return Err(Stop::Window);
     }
-    let found = call_look::look_read(archive, rows, shape, question)?;
+    let found = call_look::look_read(archive, question)?;
     Ok(found.map(|cell| Total {
         sum: cell.sum,
         count: cell.count,
@@ -57,7 +54,12 @@ fn window_in(
     ensures { numbered result ≡ asks_window archive.now dimension code question.now }
 {
     let shape = archive_read::read_required(archive, rows)?;
-    window_read(archive, rows, shape, dimension, code, question)
+    let archive = Accepted {
+        bytes: archive,
+        shape,
+        words: rows,
+    };
+    window_read(&archive, dimension, code, question)
 }
 
 // Looks up a cell through the window of a dimension, counted from 1, and a code: the question has this code there.

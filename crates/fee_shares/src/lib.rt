@@ -6,6 +6,17 @@ ghost use Rattle.lists.specs.Lists.{sum};
 ghost use Rattle.fee_shares.specs.Shares.{count as count_of, quota as quotaOf, rest as rest_of, cent, added, shares as shares_of};
 ghost use Rattle.fee_shares.specs.Given.{Threshold, Low, gets, given};
 
+// A fee in cents, and the counts by which it is shared.
+#[derive(Drop)]
+pub struct Fee<'a> {
+    pub cents: u64,
+    pub counts: &'a [u32],
+    ghost small: { cents ≤ 1000000000 },
+    ghost few: { length counts.now ≤ 1024 },
+    ghost some: { 0 < sum counts.now },
+    ghost bounded: { sum counts.now ≤ 1048576 },
+}
+
 // The total of a list.
 pub fn total_of(list: &[u32]) -> u64
     requires { length list.now ≤ 1024 }
@@ -31,15 +42,15 @@ fn rest(fee: u64, count: u32, total: u64) -> u32
 }
 
 // Each cell's rounded-down proportion and its remainder, over the lists that are lent.
-fn divide(fee: u64, counts: &[u32], total: u64, shares: &mut [u32], rests: &mut [u32])
-    requires fee_bound { (fee ≤ 1000000000) × (total ≡ sum counts.now) × (0 < total) × (total ≤ 1048576) }
-    requires shares_len { (length shares.old ≡ length counts.now) × (length rests.old ≡ length counts.now) }
-    ensures shares_after { (shares.new ≡ map (quotaOf total fee) counts.now) × (rests.new ≡ map (rest_of total fee) counts.now) }
+fn divide(fee: &Fee, total: u64, shares: &mut [u32], rests: &mut [u32])
+    requires total { total ≡ sum fee.now.counts.now }
+    requires shares_len { (length shares.old ≡ length fee.now.counts.now) × (length rests.old ≡ length fee.now.counts.now) }
+    ensures shares_after { (shares.new ≡ map (quotaOf total fee.now.cents) fee.now.counts.now) × (rests.new ≡ map (rest_of total fee.now.cents) fee.now.counts.now) }
     ensures low { Low shares.new }
 {
-    for (i, &count) in counts.iter().enumerate() {
-        shares[i] = quota(fee, count, total);
-        rests[i] = rest(fee, count, total);
+    for (i, &count) in fee.counts.iter().enumerate() {
+        shares[i] = quota(fee.cents, count, total);
+        rests[i] = rest(fee.cents, count, total);
     }
 }
 
@@ -95,26 +106,23 @@ fn give(rests: &[u32], v: u32, k: u64, shares: &mut [u32])
 }
 
 // Each cell's whole cents, over the list that is lent; the remainders go over another.
-fn share_by(fee: u64, counts: &[u32], shares: &mut [u32], rests: &mut [u32])
-    requires fee_bound { (fee ≤ 1000000000) × (length counts.now ≤ 1024) × (0 < sum counts.now) × (sum counts.now ≤ 1048576) }
-    requires shares_len { (length shares.old ≡ length counts.now) × (length rests.old ≡ length counts.now) }
-    ensures { shares.new ≡ shares_of fee counts.now }
+fn share_by(fee: &Fee, shares: &mut [u32], rests: &mut [u32])
+    requires { (length shares.old ≡ length fee.now.counts.now) × (length rests.old ≡ length fee.now.counts.now) }
+    ensures { shares.new ≡ shares_of fee.now.cents fee.now.counts.now }
 {
-    let total = total_of(counts);
-    divide(fee, counts, total, shares, rests);
-    let left = fee - total_of(shares);
+    let total = total_of(fee.counts);
+    divide(fee, total, shares, rests);
+    let left = fee.cents - total_of(shares);
     let v = threshold(rests, total as u32, left);
     let above = at_least(rests, v + 1);
     give(rests, v, left - above, shares);
 }
 
 // Each cell's whole cents of a fee that is shared by the cells' counts, over the list that is lent.
-pub fn share_fee(fee: u64, counts: &[u32], shares: &mut [u32])
-    requires fee_bound { (fee ≤ 1000000000) × (length counts.now ≤ 1024) × (0 < sum counts.now) × (sum counts.now ≤ 1048576) }
-    requires shares_len { length shares.old ≡ length counts.now }
-    ensures { shares.new ≡ shares_of fee counts.now }
+pub fn share_fee(fee: &Fee, shares: &mut [u32])
+    requires { length shares.old ≡ length fee.now.counts.now }
+    ensures { shares.new ≡ shares_of fee.now.cents fee.now.counts.now }
 {
     let mut rests = [0u32; 1024];
-    let n = counts.len();
-    share_by(fee, counts, shares, &mut rests[..n]);
+    share_by(fee, shares, &mut rests[..fee.counts.len()]);
 }

@@ -2,7 +2,7 @@
 // A writer writes over the front of what it is lent and returns how much it wrote.
 #![tactic(auto)]
 
-ghost use Rattle.std.specs.Prelude.{◌≡◌, ◌+◌, ◌*◌, ◌≤◌, ◌<◌, length, drop};
+ghost use Rattle.std.specs.Prelude.{◌≡◌, ◌+◌, ◌*◌, ◌≤◌, length, drop};
 ghost use Rattle.fields.specs.Words.{word_at, words_at, word_bytes, words_bytes};
 ghost use Rattle.fields.specs.Opening.{starts_with};
 ghost use Rattle.fields.specs.Written.{Wrote};
@@ -42,7 +42,7 @@ pub fn put_word(out: &mut [u8], w: u32) -> usize
     4
 }
 
-// Writes the words ws over the front of out.
+// Writes the words ws over the front of out. `archive_cells::put_words` writes bytes as words too; this one is for words alone: the contract over elements of any type is longer for each caller.
 pub fn put_words(out: &mut [u8], ws: &[u32]) -> usize
     requires { length (words_bytes ws.now) ≤ length out.old }
     ensures { Wrote (words_bytes ws.now) out.old out.new result }

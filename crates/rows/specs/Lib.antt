@@ -1,2 +1,3 @@
 -- Rows in one flat list of words.
 pub mod Rows
+pub mod Slices

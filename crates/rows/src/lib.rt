@@ -1,8 +1,8 @@
 // Rows in one flat slice of words: row i of `dims` codes starts at i * (dims + 3); its codes, the low and the high word of its sum, its count.
 #![tactic(auto)]
 
-ghost use Rattle.std.specs.Prelude.{◌≡◌, ◌*◌, ◌<◌, length, take, drop};
-ghost use Rattle.rows.specs.Rows.{width, row_of, cut, row_at, row_total};
+ghost use Rattle.std.specs.Prelude.{◌≡◌, ◌*◌, ◌<◌, ◌≤◌, length, take, drop};
+ghost use Rattle.rows.specs.Rows.{width, row_of, row_at};
 
 use cube::Total;
 
@@ -12,35 +12,60 @@ pub const TOTAL_WORDS: usize = 3;
 // How many words 1,024 rows of 8 codes have.
 pub const ROOM: usize = 11264;
 
-// The words of a row.
-pub fn words_of(rows: &[u32], n: usize, dims: usize, row: usize) -> &[u32]
-    requires { (n * width dims ≡ length rows.now) × (row < n) }
-    ensures { (result.now ≡ take (width dims) (drop (row * width dims) rows.now)) × (length result.now ≡ width dims) }
-{
-    let width = dims + TOTAL_WORDS;
-    let from = row * width;
-    let to = from + width;
-    &rows[from..to]
+// Rows: their words, which end with the last row, how many rows there are, and how many codes each has.
+#[derive(Drop)]
+pub struct RowSlice<'a> {
+    pub words: &'a [u32],
+    pub n: usize,
+    pub dims: usize,
+    ghost whole: { n * width dims ≡ length words.now },
 }
 
-// The codes of a row.
-pub fn row_of(rows: &[u32], n: usize, dims: usize, row: usize) -> &[u32]
-    requires { (n * width dims ≡ length rows.now) × (row < n) }
-    ensures { (result.now ≡ row_at (cut dims n rows.now) row) × (length result.now ≡ dims) }
-{
-    let words = words_of(rows, n, dims, row);
-    &words[..dims]
-}
+impl<'a> RowSlice<'a> {
+    ghost use Rattle.rows.specs.Slices.{codes, totals};
 
-// The total of a row.
-pub fn total_at(rows: &[u32], n: usize, dims: usize, row: usize) -> Total
-    requires { (n * width dims ≡ length rows.now) × (row < n) }
-    ensures { result ≡ row_total dims n rows.now row }
-{
-    let words = words_of(rows, n, dims, row);
-    let sum = fields_sums::sum_of(words[dims], words[dims + 1]);
-    let count = words[dims + 2];
-    Total { sum, count }
+    // The rows in the front of words.
+    pub fn front(words: &'a [u32], n: usize, dims: usize) -> Self
+        requires { (dims ≤ 8) × (n * width dims ≤ length words.now) }
+        ensures { (result.words.now ≡ take (n * width dims) words.now) × (result.n ≡ n) × (result.dims ≡ dims) }
+    {
+        RowSlice {
+            words: &words[..n * (dims + TOTAL_WORDS)],
+            n,
+            dims,
+        }
+    }
+
+    // The words of a row.
+    pub fn words_at(&self, row: usize) -> &'a [u32]
+        requires { row < self.now.n }
+        ensures { (result.now ≡ take (width self.now.dims) (drop (row * width self.now.dims) self.now.words.now)) × (length result.now ≡ width self.now.dims) }
+    {
+        let width = self.dims + TOTAL_WORDS;
+        let from = row * width;
+        let to = from + width;
+        &self.words[from..to]
+    }
+
+    // The codes of a row.
+    pub fn codes_at(&self, row: usize) -> &'a [u32]
+        requires { row < self.now.n }
+        ensures { (result.now ≡ row_at (codes self.now) row) × (length result.now ≡ self.now.dims) }
+    {
+        let words = self.words_at(row);
+        &words[..self.dims]
+    }
+
+    // The total of a row.
+    pub fn total_at(&self, row: usize) -> Total
+        requires { row < self.now.n }
+        ensures { result ≡ totals self.now row }
+    {
+        let words = self.words_at(row);
+        let sum = fields_sums::sum_of(words[self.dims], words[self.dims + 1]);
+        let count = words[self.dims + 2];
+        Total { sum, count }
+    }
 }
 
 // Writes a total behind the codes of a row.

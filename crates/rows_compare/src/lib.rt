@@ -1,28 +1,31 @@
 // Two rows compared under a set, and whether a row is single.
 #![tactic(auto)]
 
-ghost use Rattle.std.specs.Prelude.{◌≡◌, ◌*◌, ◌<◌, length};
+ghost use Rattle.std.specs.Prelude.{◌≡◌, ◌<◌, length};
 ghost use Rattle.lists.specs.Lists.{Distinct};
 ghost use Rattle.cube.specs.Codes.{plain};
 ghost use Rattle.cube.specs.Condensed.{single};
-ghost use Rattle.rows.specs.Rows.{width, cut, row_at};
+ghost use Rattle.rows.specs.Rows.{row_at};
+ghost use Rattle.rows.specs.Slices.{codes};
 ghost use Rattle.rows_compare.specs.Compare.{compared, is_before, is_equal};
+
+use rows::RowSlice;
 
 // Whether no other row agrees with `row` on a set: the first other row that agrees settles it.
 // Nested loops, left by label: the form that document 01 names.
-pub fn is_single(rows: &[u32], n: usize, dims: usize, row: usize, set: u32) -> bool
-    requires { (n * width dims ≡ length rows.now) × (row < n) × Distinct (cut dims n rows.now) }
-    ensures { result ≡ single (plain dims) (cut dims n rows.now) set (row_at (cut dims n rows.now) row) }
+pub fn is_single(rows: &RowSlice, row: usize, set: u32) -> bool
+    requires { (row < rows.now.n) × Distinct (codes rows.now) }
+    ensures { result ≡ single (plain rows.now.dims) (codes rows.now) set (row_at (codes rows.now) row) }
 {
-    let mine = rows::row_of(rows, n, dims, row);
+    let mine = rows.codes_at(row);
     let mut alone = true;
-    'rows: for i in 0..n {
+    'rows: for i in 0..rows.n {
         if i == row {
             continue;
         }
-        let other = rows::row_of(rows, n, dims, i);
+        let other = rows.codes_at(i);
         let mut rest = set;
-        for d in 0..dims {
+        for d in 0..rows.dims {
             if rest % 2 == 1 && mine[d] != other[d] {
                 continue 'rows;
             }

@@ -6,13 +6,17 @@ ghost use Rattle.lists.specs.Lists.{keep};
 ghost use Rattle.lattice.specs.Sets.{full};
 ghost use Rattle.cube.specs.Codes.{plain};
 ghost use Rattle.cube.specs.Condensed.{normals, Base};
-ghost use Rattle.rows.specs.Rows.{width, cut};
+ghost use Rattle.rows.specs.Rows.{cut};
+ghost use Rattle.rows.specs.Slices.{codes};
 ghost use Rattle.rows_order.specs.Index.{key, Valid};
 ghost use Rattle.rows_slots.specs.Slots.{crowds, packed};
 ghost use Rattle.rows_columns.specs.Columns.{Columns};
 ghost use Rattle.rows_crowds.specs.Crowds.{shorter, left_out, Holds, AllHold, Filled, ends};
 ghost use Rattle.rows_lists.specs.Lists.{lists_of, Short, Fit, noted, our_lists};
 ghost use Rattle.rows_alone.specs.Alone.{is_new, Lower, Told};
+
+use rows::RowSlice;
+use rows_crowds::Slots;
 
 // One set more: its slot is filled, and it is put behind the lists of the rows that come out alone there and on no smaller set. Returns how many cells of it rows share. Thirteen parameters: the rows, their lists, and work arrays that are lent once a call.
 #[tactic(auto, using(rows_crowds::proofs::Filling::below_all))]
@@ -48,24 +52,22 @@ fn list_set(
     rows_lists::note_lone(new, set as u8, lists, n);
     rows_alone::add_rows(new, passed);
     rows_alone::put_words(passed, set as usize, alone);
-    let slot = rows_crowds::slot_of(store, sizes, set as usize);
+    let slot = Slots { store, sizes }.slot_of(set as usize);
     rows_crowds::count_groups(slot)
 }
 
 // Condenses base rows: the groups that they form under all sets but the full one, into slots, and our list of each row. Returns how many normal entries there are.
 pub fn condense_rows(
-    rows: &[u32],
-    n: usize,
-    dims: usize,
+    rows: &RowSlice,
     store: &mut [u16],
     sizes: &mut [usize],
     lists: &mut [u8],
 ) -> usize
-    requires n_bound { (n ≤ 1024) × (dims ≤ 8) × (n * width dims ≡ length rows.now) × Base (plain dims) (cut dims n rows.now) }
-    requires in_bounds { (262144 ≤ length store.old) × (256 ≤ length sizes.old) × (n * 71 ≤ length lists.old) }
-    ensures all_hold { AllHold 2 dims n rows.now store.new sizes.new (full dims) }
-    ensures lists_after { (lists_of n lists.new ≡ our_lists dims (cut dims n rows.now)) × Short n lists.new }
-    ensures value { result ≡ length (normals (plain dims) (cut dims n rows.now)) }
+    requires n_bound { (rows.now.n ≤ 1024) × (rows.now.dims ≤ 8) × Base (plain rows.now.dims) (codes rows.now) }
+    requires in_bounds { (262144 ≤ length store.old) × (256 ≤ length sizes.old) × (rows.now.n * 71 ≤ length lists.old) }
+    ensures all_hold { AllHold 2 rows.now.dims rows.now.n rows.now.words.now store.new sizes.new (full rows.now.dims) }
+    ensures lists_after { (lists_of rows.now.n lists.new ≡ our_lists rows.now.dims (codes rows.now)) × Short rows.now.n lists.new }
+    ensures value { result ≡ length (normals (plain rows.now.dims) (codes rows.now)) }
 {
     let mut columns = [0u32; 16384];
     let mut alone = [0u32; 8192];
@@ -73,9 +75,9 @@ pub fn condense_rows(
     let mut order = [0u32; 1024];
     let mut marks = [0u32; 1024];
     let mut lone = [0u32; 1026];
-    rows_lists::clear_lists(lists, n);
-    rows_columns::read_columns(rows, n, dims, &mut columns);
-    let all = lattice::sets_of(dims as u32) - 1;
+    rows_lists::clear_lists(lists, rows.n);
+    rows_columns::read_columns(rows, &mut columns);
+    let all = lattice::sets_of(rows.dims as u32) - 1;
     let mut cells = 0;
     // By place: `set_at` alone says which set stands there.
     for k in 0..256 {
@@ -84,9 +86,9 @@ pub fn condense_rows(
             continue;
         }
         cells += list_set(
-            rows,
-            n,
-            dims,
+            rows.words,
+            rows.n,
+            rows.dims,
             &columns,
             set,
             &mut alone,
@@ -99,5 +101,5 @@ pub fn condense_rows(
             lists,
         );
     }
-    rows_ready::blanks(n) + cells
+    rows_ready::blanks(rows.n) + cells
 }

@@ -6,6 +6,7 @@ ghost use Rattle.rows_deals.specs.Deals.{Names};
 ghost use Rattle.rows_lists.specs.Lists.{lists_of, Short, Empty, Fit, noted};
 
 // The list of a row.
+// In `list_of`, `note_at` and `note_lone`, `n` is there for the contract alone. No ghost value can stand for it: a caller picks one from the other arguments, and these do not tell it. A struct of a list and `n` would hold a `&mut` in three of these four functions (DECISIONS 170).
 #[tactic(auto, using(crate::proofs::Lists::lists_at))]
 pub fn list_of(lists: &[u8], n: usize, row: usize) -> &[u8]
     requires { (n * 71 ≤ length lists.now) × (row < n) × Short n lists.now }
@@ -46,7 +47,5 @@ pub fn clear_lists(lists: &mut [u8], n: usize)
     requires { n * 71 ≤ length lists.old }
     ensures { Empty n lists.new }
 {
-    for row in 0..n {
-        lists[row * 71] = 0;
-    }
+    lists[..n * 71].fill(0);
 }

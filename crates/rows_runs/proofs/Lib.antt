@@ -8,4 +8,3 @@ pub mod Longer
 pub mod Examples
 pub mod Indexed
 pub mod Gathered
-pub mod CellCodes

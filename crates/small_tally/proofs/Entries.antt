@@ -40,6 +40,13 @@ normals_fit d n ws h k =
     let m : length (sets d) * 8 ≤ 256 * 8 = mul-le-mul_right 8 (le_trans (sets-length d) (pow_mono h)) in
     omega (arith, normals-most (plain d) (plain_laws d) (cut d n ws) 8 (omega arith) (omega (arith, cut-length d n ws, k)), m)
 
+-- rows as those of a small table, and how many entries they have
+abbrev pub Tabled : ℕ → ℕ → List ℕ → Type 0
+Tabled d n ws = (d ≤ 8) × (n ≤ 8) × Distinct (cut d n ws) × Coding d (cut d n ws)
+
+abbrev pub entries_in : ℕ → ℕ → List ℕ → ℕ
+entries_in d n ws = n + length (normals (plain d) (cut d n ws))
+
 -- ---- the flat list cut into rows
 
 cut-flat : (d : ℕ) (l : List ℕ) → cut d (length l) (flat_map (flat_row d) l) ≡ map (binary d) l
@@ -103,17 +110,21 @@ module _ (d t : ℕ) where
         let some : 1 ≤ width d = omega arith in
         ap (λ (n : ℕ). n / width d) (w.count ∙ rows-size) ∙ mul-div_cancel (length (codes_at d t)) some
 
-    cut-here : cut d (size / width d) (take size m) ≡ codes_at d t
-    cut-here = ap₂ (cut d) rows-here (wrote_front w) ∙ rows_cut
+    -- they are all of it
+    pub rows-whole : size / width d * width d ≡ size
+    rows-whole = ap (λ (n : ℕ). n * width d) rows-here ∙ sym (w.count ∙ rows-size)
+
+    cut-here : cut d (size / width d) (take (size / width d * width d) m) ≡ codes_at d t
+    cut-here = ap₂ (cut d) rows-here (ap (λ (k : ℕ). take k m) rows-whole ∙ wrote_front w) ∙ rows_cut
 
     -- what the entries of its rows need
-    pub made-rows : d ≤ 3 → (size / width d ≤ 8) × (size / width d * width d ≡ length (take size m)) × Distinct (cut d (size / width d) (take size m)) × Coding d (cut d (size / width d) (take size m))
+    pub made-rows : d ≤ 3 → Tabled d (size / width d) (take (size / width d * width d) m)
     made-rows few = (
+      omega (arith, few),
       omega (arith, rows-here, rows_few few),
-      ap (λ (n : ℕ). n * width d) rows-here ∙ sym (ap length (wrote_front w) ∙ rows-size),
       subst Distinct (sym cut-here) codes-distinct,
       subst (Coding d) (sym cut-here) codes_coding,
     )
 
-    pub made-entries : {r : ℕ} → r ≡ size / width d + length (normals (plain d) (cut d (size / width d) (take size m))) → r ≡ entries d (table d t)
+    pub made-entries : {r : ℕ} → r ≡ entries_in d (size / width d) (take (size / width d * width d) m) → r ≡ entries d (table d t)
     made-entries e = e ∙ ap₂ (λ (n : ℕ) (xs : List (List ℕ)). n + length (normals (plain d) xs)) rows-here cut-here ∙ sym table-entries

@@ -6,13 +6,17 @@ ghost use Rattle.lists.specs.Lists.{Distinct};
 ghost use Rattle.fields.specs.Written.{Wrote};
 ghost use Rattle.cube.specs.Codes.{plain};
 ghost use Rattle.cube.specs.Condensed.{normals};
-ghost use Rattle.rows.specs.Rows.{width, cut};
+ghost use Rattle.rows.specs.Rows.{width};
+ghost use Rattle.rows.specs.Slices.{codes};
 ghost use Rattle.small_model.specs.Small.{up_to, binary, table};
 ghost use Rattle.small_model.specs.Tally.{entries, tally, most_entries};
 ghost use Rattle.small_tally.specs.Flat.{flat_row, flat_rows, Coding, Zeros};
 ghost use Rattle.small_lines.specs.Lines.{line, report};
 
+use rows::RowSlice;
+
 // Writes a number in binary, the highest digit first.
+#[tactic(auto, using(crate::proofs::Rooms::digits_length))]
 fn put_binary(out: &mut [u32], dims: usize, j: u32) -> usize
     requires { dims ≤ length out.old }
     ensures { Wrote (binary dims j) out.old out.new result }
@@ -26,6 +30,7 @@ fn put_binary(out: &mut [u32], dims: usize, j: u32) -> usize
 }
 
 // Writes a row: a number in binary, and three zeros where its total would stand, which no tally needs.
+#[tactic(auto, using(crate::proofs::Rooms::digits_length))]
 fn put_row(out: &mut [u32], dims: usize, j: u32) -> usize
     requires { width dims ≤ length out.old }
     ensures { Wrote (flat_row dims j) out.old out.new result }
@@ -44,6 +49,7 @@ fn put_table(out: &mut [u32], dims: usize, t: u32) -> usize
 {
     let mut at = 0;
     let mut rest = t;
+    // By number: row j stands for bit j, and is j in binary.
     for j in 0..lattice::sets_of(dims as u32) {
         let odd = rest % 2;
         rest /= 2;
@@ -56,15 +62,15 @@ fn put_table(out: &mut [u32], dims: usize, t: u32) -> usize
 }
 
 // How many entries base rows have.
-fn rows_entries(rows: &[u32], n: usize, dims: usize) -> usize
-    requires { (dims ≤ 8) × (n ≤ 8) × (n * width dims ≡ length rows.now) × Distinct (cut dims n rows.now) × Coding dims (cut dims n rows.now) }
-    ensures { result ≡ n + length (normals (plain dims) (cut dims n rows.now)) }
+fn rows_entries(rows: &RowSlice) -> usize
+    requires { (rows.now.dims ≤ 8) × (rows.now.n ≤ 8) × Distinct (codes rows.now) × Coding rows.now.dims (codes rows.now) }
+    ensures { result ≡ rows.now.n + length (normals (plain rows.now.dims) (codes rows.now)) }
 {
     let mut store = [0u16; 262144];
     let mut used = [0usize; 256];
     let mut lists = [0u8; 568];
-    let normals = rows_condense::condense_rows(rows, n, dims, &mut store, &mut used, &mut lists);
-    n + normals
+    let normals = rows_condense::condense_rows(rows, &mut store, &mut used, &mut lists);
+    rows.n + normals
 }
 
 // How many entries the archive of table t has.
@@ -74,15 +80,18 @@ fn entries_of(dims: usize, t: u32) -> usize
 {
     let mut rows = [0u32; 48];
     let size = put_table(&mut rows, dims, t);
-    rows_entries(&rows[..size], size / (dims + rows::TOTAL_WORDS), dims)
+    let n = size / (dims + rows::TOTAL_WORDS);
+    rows_entries(&RowSlice::front(&rows, n, dims))
 }
 
 // Tallies how many of all tables have each number of entries.
+#[tactic(auto, using(crate::proofs::Tallies::tallied_place, crate::proofs::Tallies::tallied_few))]
 fn tally_tables(dims: usize, tallies: &mut [u32])
     requires { (dims ≤ 3) × (length tallies.old ≡ suc (most_entries dims)) × Zeros tallies.old }
     ensures { tallies.new ≡ map (tally dims) (up_to (suc (most_entries dims))) }
 {
     let rows = lattice::sets_of(dims as u32);
+    // By number: each number is a table.
     for t in 0..lattice::sets_of(rows) {
         let n = entries_of(dims, t);
         tallies[n] += 1;
@@ -90,6 +99,7 @@ fn tally_tables(dims: usize, tallies: &mut [u32])
 }
 
 // Tallies the tables of D, and writes the line for D.
+#[tactic(auto, using(crate::proofs::Rooms::line_length))]
 fn put_tallied(out: &mut [u8], dims: usize, tallies: &mut [u32]) -> usize
     requires dims_bound { (dims ≤ 3) × (length tallies.old ≡ suc (most_entries dims)) × Zeros tallies.old }
     requires dims_in_bounds { length (line dims) ≤ length out.old }
@@ -113,6 +123,7 @@ fn put_line(out: &mut [u8], dims: usize) -> usize
 }
 
 // Writes the lines for D of 1 to 3.
+#[tactic(auto, using(crate::proofs::Rooms::report_length))]
 pub fn put_report(out: &mut [u8]) -> usize
     requires { length report ≤ length out.old }
     ensures { Wrote report out.old out.new result }

@@ -29,9 +29,6 @@ module _ (b : List ℕ) (d n start : ℕ) (ws : List ℕ) where
         let m = suc-mul (n - (i + 1)) (4 * d + 4) in
         ap (λ j. j * (4 * d + 4)) e ∙ omega (arith, m)
 
-    pub turn-room : i < n → at + (4 * d + 4) ≤ length b
-    turn-room h = omega (arith, next h, t.place)
-
     pub turn_on : (us : List ℕ) → i < n → rows_of d (i + 1) us ≡ rows_of d i ws ++ record_there b d at ∷ []
         → Turn b d n start us (at + (4 * d + 4)) (i + 1)
     unfolding rows_at

@@ -9,6 +9,7 @@ ghost use Rattle.rows.specs.Rows.{width, row_of, rows_of};
 ghost use Rattle.stops.specs.Numbers.{numbered};
 ghost use Rattle.table.specs.Reading.{read_table, record_there, rows_at, Rowed, table_answer, Stored};
 
+use rows::RowSlice;
 use stops::Stop;
 use table::Folded;
 
@@ -40,6 +41,7 @@ fn store_rows(s: &[u8], dims: usize, count: usize, start: usize, rows: &mut [u32
     ensures { rows_of dims count rows.new ≡ rows_at s.now dims count start }
 {
     let mut at = start;
+    // By number: after a loop over `chunks_exact_mut` a proof knows how long the rows are, and not what they hold.
     for i in 0..count {
         store_row(s, dims, at, i, rows);
         at += 4 * dims + 4;
@@ -64,7 +66,12 @@ fn fold_rows(
 {
     store_rows(s, dims, count, start, own);
     let full = lattice::sets_of(dims as u32) - 1;
-    rows_runs::group_rows(own, count, dims, full, index, rows)
+    let own = RowSlice {
+        words: own,
+        n: count,
+        dims,
+    };
+    rows_runs::group_rows(&own, full, index, rows)
 }
 
 // The base rows of n rows of d codes behind the header. Returns how many there are.

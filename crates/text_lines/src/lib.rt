@@ -19,6 +19,7 @@ fn put_number(out: &mut [u8], n: u32, end: u8) -> usize
 }
 
 // Writes a code or `*`, and a space.
+#[tactic(auto, using(crate::proofs::Texts::star_length, crate::proofs::Texts::code_length))]
 fn put_code(out: &mut [u8], c: u32) -> usize
     requires { length (code_text c) ≤ length out.old }
     ensures { Wrote (code_text c) out.old out.new result }
@@ -31,6 +32,7 @@ fn put_code(out: &mut [u8], c: u32) -> usize
 }
 
 // Writes a space and a set's number.
+#[tactic(auto, using(crate::proofs::Texts::set_text_is))]
 fn put_set(out: &mut [u8], set: u32) -> usize
     requires { length (set_text set) ≤ length out.old }
     ensures { Wrote (set_text set) out.old out.new result }
@@ -75,6 +77,7 @@ fn put_words<T: Text>(out: &mut [u8], s: &[u8], at: usize, n: usize) -> usize
     ensures { Wrote (flat_map T.text (words_at s.now n at)) out.old out.new result }
 {
     let mut done = 0;
+    // By place: the words stand in bytes, and `word_at` reads one of them.
     for i in 0..n {
         let word = fields::word_at(s, at + 4 * i);
         done += T::put(&mut out[done..], word);
@@ -83,6 +86,7 @@ fn put_words<T: Text>(out: &mut [u8], s: &[u8], at: usize, n: usize) -> usize
 }
 
 // Writes the codes, the sum and the count of the entry at a place.
+#[tactic(auto, using(crate::proofs::Texts::row_text_length))]
 fn put_row(out: &mut [u8], s: &[u8], at: usize, dims: usize) -> usize
     requires dims_in_bounds { at + 4 * dims + 12 ≤ length s.now }
     requires at_in_bounds { length (row_text (row_there s.now dims at)) ≤ length out.old }
@@ -97,6 +101,7 @@ fn put_row(out: &mut [u8], s: &[u8], at: usize, dims: usize) -> usize
 }
 
 // Writes the line of the base entry at a place.
+#[tactic(auto, using(crate::proofs::Texts::base_text_length))]
 pub fn put_base(out: &mut [u8], s: &[u8], at: usize, dims: usize) -> usize
     requires at_in_bounds { at + width_there s.now dims at ≤ length s.now }
     requires at_in_bounds_2 { length (base_text (base_there s.now dims at)) ≤ length out.old }
@@ -111,6 +116,7 @@ pub fn put_base(out: &mut [u8], s: &[u8], at: usize, dims: usize) -> usize
 }
 
 // Writes the line of the normal entry at a place.
+#[tactic(auto, using(crate::proofs::Texts::cell_text_length))]
 pub fn put_cell(out: &mut [u8], s: &[u8], at: usize, dims: usize) -> usize
     requires dims_in_bounds { at + 4 * dims + 12 ≤ length s.now }
     requires at_in_bounds { length (cell_text (row_there s.now dims at)) ≤ length out.old }
@@ -121,6 +127,7 @@ pub fn put_cell(out: &mut [u8], s: &[u8], at: usize, dims: usize) -> usize
 }
 
 // Writes the first line: D, the base count, the normal count.
+#[tactic(auto, using(crate::proofs::Texts::head_text_length, crate::proofs::Texts::number_length))]
 pub fn put_head(out: &mut [u8], dims: u32, bases: u32, cells: u32) -> usize
     requires { length (head_text dims bases cells) ≤ length out.old }
     ensures { Wrote (head_text dims bases cells) out.old out.new result }

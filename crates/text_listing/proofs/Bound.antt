@@ -22,7 +22,7 @@ use Rattle.archive_entries.specs.Layout.{CUBE, Based, Held, cell_bytes, base_byt
 use Rattle.archive_entries.proofs.Walkable.{Walkable}
 use Rattle.archive_entries.proofs.Lengths.{cell-length, base-length}
 use Rattle.text_lines.specs.Lines.{code_text, row_text, set_text, base_text, cell_text, head_text}
-use Rattle.text_lines.proofs.Texts.{length-row_text, length-base_text, length-cell_text, length-head_text}
+use Rattle.text_lines.proofs.Texts.{row_text_length, base_text_length, cell_text_length, head_text_length}
 use Rattle.text_listing.specs.Listing.{listing}
 use Rattle.text_listing.proofs.Fits.{RowFits, BaseFits, walkable_fits}
 
@@ -54,7 +54,7 @@ set-few s h = omega (arith, word_digits s h)
 row-few : (d : ℕ) (r : Row Total) → RowFits d r → length (row_text r) ≤ 11 * d + 31
 row-few d r f = omega (
   arith,
-  length-row_text r,
+  row_text_length r,
   flat-length code_text 11 r.codes (λ c m. code-few c (f.0.1 c m)),
   f.0.0,
   integer_digits r.total.sum f.1.0,
@@ -64,19 +64,19 @@ row-few d r f = omega (
 base-within : (d : ℕ) (b : Based) → BaseFits d b → 4 * length (base_text b) ≤ 11 * length (base_bytes b)
 base-within d b f = omega (
   arith,
-  length-base_text b,
+  base_text_length b,
   row-few d b.row f.row,
   flat-length set_text 11 b.list (λ s m. set-few s (f.sets s m)),
   base-length d b f.row.0.0,
 )
 
 cell-within : (d : ℕ) (r : Row Total) → RowFits d r → 4 * length (cell_text r) ≤ 11 * length (cell_bytes r)
-cell-within d r f = omega (arith, length-cell_text r, row-few d r f, cell-length d r f.0.0)
+cell-within d r f = omega (arith, cell_text_length r, row-few d r f, cell-length d r f.0.0)
 
 head_few : (d n m : ℕ) → d < 2 ^ 32 → n < 2 ^ 32 → m < 2 ^ 32 → length (head_text d n m) ≤ 33
 head_few d n m p q r = omega (
   arith,
-  length-head_text d n m,
+  head_text_length d n m,
   length-append (decimal d) (ascii " "),
   length-append (decimal n) (ascii " "),
   length-append (decimal m) (ascii "\n"),

@@ -20,6 +20,7 @@ use Rattle.archive_compare.specs.MatchedLaws.{matched_on, matched_none, matched_
 use Rattle.archive_groups.specs.Masks.{masked}
 use Rattle.archive_groups.proofs.Masks.{length-masked}
 use Rattle.archive_groups.proofs.Shown.{shown-length}
+use borrow.Author.Rules.{rules}
 use Rattle.archive_groups.proofs.match_group.Goals as goal
 
 module _ (s : List ℕ) (start : ℕ) (missing mine : List ℕ) where
@@ -49,7 +50,7 @@ returns-then-not-sum_is c =
     let a = c.args in
     let sums = sum_bytes a.total.sum in
     let shown = codes a.s.now a.start a.missing.now a.mine.now c.requires.1 c.shown_is.ensures c.if-not-shown_is.false in
-    let sum = sum_told {z = a.total.sum} (drop (a.start + 4 * length a.mine.now) a.s.now) (record { sfits = c.struct_told-1.given.0.1 }) c.sum_is.ensures in
+    let sum = sum_told {z = a.total.sum} (drop (a.start + 4 * length a.mine.now) a.s.now) (search rules) c.sum_is.ensures in
     matched_then _ (Err Why.Entries) shown (matched_stop {xs = sums} _ (matched_none shown.meets.2 (sym sum ∙ c.if-not-sum_is.true)))
 
 pub returns-then-not-word_is : goal.returns-then-not-word_is
@@ -57,7 +58,7 @@ unfolding cell_bytes
 returns-then-not-word_is c =
     let a = c.args in
     let shown = codes a.s.now a.start a.missing.now a.mine.now c.requires.1 c.shown_is.ensures c.if-not-shown_is.false in
-    let sum = sum_told {z = a.total.sum} (drop (a.start + 4 * length a.mine.now) a.s.now) (record { sfits = c.struct_told-1.given.0.1 }) c.sum_is.ensures in
+    let sum = sum_told {z = a.total.sum} (drop (a.start + 4 * length a.mine.now) a.s.now) (search rules) c.sum_is.ensures in
     let summed : Matched a.s.now (a.start + 4 * length a.mine.now) (sum_bytes a.total.sum) (Ok (a.start + 4 * length a.mine.now + 8)) = matched_on shown.meets.2 (sym sum ∙ c.if-not-sum_is.false) in
     matched_then _ (Err Why.Entries) shown (matched_then _ (Err Why.Entries) summed (matched_none summed.meets.2 (sym c.word_is.ensures ∙ c.if-not-word_is.true)))
 
@@ -66,6 +67,6 @@ unfolding cell_bytes
 returns c =
     let a = c.args in
     let shown = codes a.s.now a.start a.missing.now a.mine.now c.requires.1 c.shown_is.ensures c.if-not-shown_is.false in
-    let sum = sum_told {z = a.total.sum} (drop (a.start + 4 * length a.mine.now) a.s.now) (record { sfits = c.struct_told-1.given.0.1 }) c.sum_is.ensures in
+    let sum = sum_told {z = a.total.sum} (drop (a.start + 4 * length a.mine.now) a.s.now) (search rules) c.sum_is.ensures in
     let summed : Matched a.s.now (a.start + 4 * length a.mine.now) (sum_bytes a.total.sum) (Ok (a.start + 4 * length a.mine.now + 8)) = matched_on shown.meets.2 (sym sum ∙ c.if-not-sum_is.false) in
     matched_then _ (Ok _) shown (matched_then _ (Ok _) summed (matched_on summed.meets.2 (sym c.word_is.ensures ∙ c.if-not-word_is.false)))

@@ -9,6 +9,7 @@ use mir.Facts.{to_z-of_z}
 use Rattle.fields.specs.WrittenLaws.{wrote_then}
 use Rattle.archive_entries.specs.Layout.{cell_bytes}
 use Rattle.archive_groups.proofs.Shown.{shown-length}
+use borrow.Author.Rules.{rules}
 use Rattle.archive_groups.proofs.put_group.Goals as goal
 use Rattle.archive_groups.proofs.put_group.Goals.{After-put_shown-at}
 
@@ -43,6 +44,6 @@ overflow_add-result c = omega (arith, codes (goal.at.overflow_add-result c).Afte
 pub returns : goal.returns
 unfolding cell_bytes
 returns c =
-    let sum = to_z-of_z {w = w64} {z = c.args.total.sum} (record { sfits = c.struct_told-1.given.0.1 }) in
+    let sum = to_z-of_z {w = w64} {z = c.args.total.sum} (search rules) in
     rw (sum, append_assoc) at
     (wrote_then (wrote_then c.put_shown-at.ensures c.put_sum-at.ensures) c.put_word.ensures)

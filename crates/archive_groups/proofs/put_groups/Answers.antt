@@ -8,6 +8,7 @@ use Rattle.cube.specs.declared.Total.{Total}
 use Rattle.cube.specs.Measure.{Row, nothing}
 use Rattle.cube.proofs.Codes.{length-cell}
 use Rattle.rows.specs.Rows.{cut, row_at, row_total}
+use Rattle.rows.specs.Slices.{codes, totals}
 use Rattle.rows.proofs.Rows.{row-length}
 use Rattle.rows_order.specs.Index.{key}
 use Rattle.archive_entries.specs.Layout.{cell_bytes}
@@ -21,44 +22,43 @@ use Rattle.archive_groups.specs.Masks.{masked, Mask}
 use Rattle.archive_groups.specs.Groups.{Groupable, group_bytes}
 use Rattle.archive_groups.proofs.Masks.{masked-key}
 use Rattle.archive_groups.proofs.Left.{left, left_on, left_end, left-none}
-use borrow.Author.Rules.{rules}
 use Rattle.archive_groups.proofs.put_groups.Goals as goal
-use Rattle.archive_groups.proofs.put_groups.Goals.{After-row_in-row, After-row_of-mine}
+use Rattle.archive_groups.proofs.put_groups.Goals.{After-row_in-row, After-codes_at-mine}
 
 -- the row in hand
-named : (c : goal.After-row_in-row) → c.row_in-row.result < c.args.n
-named c = rw c.row_in-row.ensures.0 (entry_named c.args.slot.now c.args.n c.loop-e.e-index c.requires.groupable.names c.loop-e-test.true)
+named : (c : goal.After-row_in-row) → c.row_in-row.result < c.args.rows.now.n
+named c = rw c.row_in-row.ensures.0 (entry_named c.args.slot.now c.args.rows.now.n c.loop-e.e-index c.requires.groupable.names c.loop-e-test.true)
 
 -- the group that ends here, and its bytes
-abbrev ended : (c : goal.After-row_of-mine) → Row Total
+abbrev ended : (c : goal.After-codes_at-mine) → Row Total
 ended c =
     let a = c.args in
     let l = c.loop-e in
     let row = row_in (get_or a.slot.now l.e-index 0) in
-    record { codes = key a.set (cut a.dims a.n a.rows.now) row; total = plus_row (row_total a.dims a.n a.rows.now) l.total row }
+    record { codes = key a.set (codes a.rows.now) row; total = plus_row (totals a.rows.now) l.total row }
 
-writing : (c : goal.After-row_of-mine) → let a = c.args in
+writing : (c : goal.After-codes_at-mine) → let a = c.args in
     let l = c.loop-e in
-    let keys = key a.set (cut a.dims a.n a.rows.now) in
-    Writing (group_bytes (row_total a.dims a.n a.rows.now) keys a.slot.now) (cell_bytes (ended c) ++ left (row_total a.dims a.n a.rows.now) keys a.slot.now nothing (l.e-index + 1)) a.out.now l.out l.at
+    let keys = key a.set (codes a.rows.now) in
+    Writing (group_bytes (totals a.rows.now) keys a.slot.now) (cell_bytes (ended c) ++ left (totals a.rows.now) keys a.slot.now nothing (l.e-index + 1)) a.out.now l.out l.at
 writing c =
     let a = c.args in
     let l = c.loop-e in
-    let keys = key a.set (cut a.dims a.n a.rows.now) in
-    rw (left_end (row_total a.dims a.n a.rows.now) keys a.slot.now l.total l.e-index c.loop-e-test.true (λ z. c.if-end_in-eq0.false (c.end_in.ensures.0 ∙ z))) at l.invariant.2
+    let keys = key a.set (codes a.rows.now) in
+    rw (left_end (totals a.rows.now) keys a.slot.now l.total l.e-index c.loop-e-test.true (λ z. c.if-end_in-eq0.false (c.end_in.ensures.0 ∙ z))) at l.invariant.1
 
 -- the cell has a code for each dimension
-long : (c : goal.After-row_of-mine) → length (cell_bytes (ended c)) ≡ 4 * c.args.dims + 12
+long : (c : goal.After-codes_at-mine) → length (cell_bytes (ended c)) ≡ 4 * c.args.rows.now.dims + 12
 unfolding key
 long c =
     let a = c.args in
     let l = c.loop-e in
     let row = row_in (get_or a.slot.now l.e-index 0) in
-    let n = entry_named a.slot.now a.n l.e-index c.requires.groupable.names c.loop-e-test.true in
-    cell-length a.dims (ended c) (length-cell a.set (row_at (cut a.dims a.n a.rows.now) row) ∙ row-length a.dims a.n row a.rows.now n c.requires.groupable.size)
+    let n = entry_named a.slot.now a.rows.now.n l.e-index c.requires.groupable.names c.loop-e-test.true in
+    cell-length a.rows.now.dims (ended c) (length-cell a.set (row_at (codes a.rows.now) row) ∙ row-length a.rows.now.dims a.rows.now.n row a.rows.now.words.now n a.rows.now.whole)
 
 -- there is room for it
-room : (c : goal.After-row_of-mine) → c.loop-e.at + (4 * c.args.dims + 12) ≤ length c.loop-e.out
+room : (c : goal.After-codes_at-mine) → c.loop-e.at + (4 * c.args.rows.now.dims + 12) ≤ length c.loop-e.out
 room c = omega (arith, long c, writing_room (cell_bytes (ended c)) _ (writing c) c.requires.slot_in_bounds)
 
 -- the codes under the mask and the total in hand are that group
@@ -75,7 +75,7 @@ pub loop-e-init : goal.loop-e-init
 unfolding left group_bytes
 loop-e-init c =
     let a = c.args in
-    (search rules, adding_none (row_total a.dims a.n a.rows.now) (key a.set (cut a.dims a.n a.rows.now)) a.slot.now c.requires.groupable.summable, writing_none _ _)
+    (adding_none (totals a.rows.now) (key a.set (codes a.rows.now)) a.slot.now c.requires.groupable.summable, writing_none _ _)
 
 pub add_row-total-requires : goal.add_row-total-requires
 add_row-total-requires c =
@@ -83,56 +83,45 @@ add_row-total-requires c =
     let p = c.requires.groupable in
     let l = c.loop-e in
     let h : l.e-index < length a.slot.now = c.loop-e-test.true in
-    let n = entry_named a.slot.now a.n l.e-index p.names h in
-    let b = adding_bounds (row_total a.dims a.n a.rows.now) (key a.set (cut a.dims a.n a.rows.now)) a.slot.now l.total l.e-index h l.invariant.1 in
-    rw c.row_in-row.ensures.0 (p.size, n, b.0, b.1, b.2)
+    let n = entry_named a.slot.now a.rows.now.n l.e-index p.names h in
+    let b = adding_bounds (totals a.rows.now) (key a.set (codes a.rows.now)) a.slot.now l.total l.e-index h l.invariant.0 in
+    rw c.row_in-row.ensures.0 (n, b.0, b.1, b.2)
 
 pub loop-e-preserved-then-end_in-eq0 : goal.loop-e-preserved-then-end_in-eq0
 loop-e-preserved-then-end_in-eq0 c =
     let a = c.args in
     let l = c.loop-e in
-    let keys = key a.set (cut a.dims a.n a.rows.now) in
+    let keys = key a.set (codes a.rows.now) in
     let h : l.e-index < length a.slot.now = c.loop-e-test.true in
     rw (c.add_row-total.ensures, c.row_in-row.ensures.0) (
-      search rules,
-      adding_on (row_total a.dims a.n a.rows.now) keys a.slot.now l.total l.e-index h l.invariant.1,
-      rw (left_on (row_total a.dims a.n a.rows.now) keys a.slot.now l.total l.e-index h (sym c.end_in.ensures.0 ∙ c.if-end_in-eq0.true)) at l.invariant.2,
+      adding_on (totals a.rows.now) keys a.slot.now l.total l.e-index h l.invariant.0,
+      rw (left_on (totals a.rows.now) keys a.slot.now l.total l.e-index h (sym c.end_in.ensures.0 ∙ c.if-end_in-eq0.true)) at l.invariant.1,
     )
 
-pub row_of-mine-requires : goal.row_of-mine-requires
-row_of-mine-requires c = (c.requires.groupable.size, named (goal.at.row_of-mine-requires c).After-row_in-row)
-
-pub slice_bounds-put_group-count : goal.slice_bounds-put_group-count
-slice_bounds-put_group-count c = omega (arith, room c)
-
-pub slice_bounds-put_group-start : goal.slice_bounds-put_group-start
-slice_bounds-put_group-start c = omega (arith, room c)
+pub codes_at-mine-requires : goal.codes_at-mine-requires
+codes_at-mine-requires c = named (goal.at.codes_at-mine-requires c).After-row_in-row
 
 pub put_group-at-requires : goal.put_group-at-requires
-put_group-at-requires c = (omega (arith, c.row_of-mine.ensures.1, c.requires.groupable.dims), simp (length-take, length-drop) (omega (arith, c.row_of-mine.ensures.1, room (goal.at.put_group-at-requires c).After-row_of-mine)))
+put_group-at-requires c = (omega (arith, c.codes_at-mine.ensures.1, c.requires.groupable.dims), simp (length-take, length-drop) (omega (arith, c.codes_at-mine.ensures.1, room (goal.at.put_group-at-requires c).After-codes_at-mine)))
 
 pub overflow_add-at : goal.overflow_add-at
 overflow_add-at c =
     let a = c.args in
     let l = c.loop-e in
-    let wrote = wrote_as (told a.dims a.n a.set a.rows.now a.slot.now c.mask_of-missing.result c.row_of-mine.result.now l.total c.add_row-total.result l.e-index c.row_in-row.result c.requires.groupable c.loop-e-test.true c.mask_of-missing.ensures c.row_in-row.ensures.0 c.row_of-mine.ensures.0 c.add_row-total.ensures) c.put_group-at.ensures in
-    omega (arith, room (goal.at.overflow_add-at c).After-row_of-mine, long (goal.at.overflow_add-at c).After-row_of-mine, wrote.count)
+    let wrote = wrote_as (told a.rows.now.dims a.rows.now.n a.set a.rows.now.words.now a.slot.now c.mask_of-missing.result c.codes_at-mine.result.now l.total c.add_row-total.result l.e-index c.row_in-row.result c.requires.groupable c.loop-e-test.true c.mask_of-missing.ensures c.row_in-row.ensures.0 c.codes_at-mine.ensures.0 c.add_row-total.ensures) c.put_group-at.ensures in
+    omega (arith, room (goal.at.overflow_add-at c).After-codes_at-mine, long (goal.at.overflow_add-at c).After-codes_at-mine, wrote.count)
 
 pub loop-e-preserved : goal.loop-e-preserved
 loop-e-preserved c =
     let a = c.args in
     let l = c.loop-e in
-    let wrote = wrote_as (told a.dims a.n a.set a.rows.now a.slot.now c.mask_of-missing.result c.row_of-mine.result.now l.total c.add_row-total.result l.e-index c.row_in-row.result c.requires.groupable c.loop-e-test.true c.mask_of-missing.ensures c.row_in-row.ensures.0 c.row_of-mine.ensures.0 c.add_row-total.ensures) c.put_group-at.ensures in (
-      search rules,
-      adding_end (row_total a.dims a.n a.rows.now) (key a.set (cut a.dims a.n a.rows.now)) a.slot.now l.total l.e-index c.loop-e-test.true l.invariant.1,
-      writing_more (cell_bytes (ended (goal.at.loop-e-preserved c).After-row_of-mine)) _ (writing (goal.at.loop-e-preserved c).After-row_of-mine) wrote,
+    let wrote = wrote_as (told a.rows.now.dims a.rows.now.n a.set a.rows.now.words.now a.slot.now c.mask_of-missing.result c.codes_at-mine.result.now l.total c.add_row-total.result l.e-index c.row_in-row.result c.requires.groupable c.loop-e-test.true c.mask_of-missing.ensures c.row_in-row.ensures.0 c.codes_at-mine.ensures.0 c.add_row-total.ensures) c.put_group-at.ensures in (
+      adding_end (totals a.rows.now) (key a.set (codes a.rows.now)) a.slot.now l.total l.e-index c.loop-e-test.true l.invariant.0,
+      writing_more (cell_bytes (ended (goal.at.loop-e-preserved c).After-codes_at-mine)) _ (writing (goal.at.loop-e-preserved c).After-codes_at-mine) wrote,
     )
-
-pub shape_of-out : goal.shape_of-out
-shape_of-out c = c.loop-e.invariant.2.wrote.same
 
 pub returns : goal.returns
 returns c =
     let a = c.args in
     let l = c.loop-e in
-    writing_done (rw (left-none (row_total a.dims a.n a.rows.now) (key a.set (cut a.dims a.n a.rows.now)) a.slot.now l.total l.e-index c.loop-e-test.false) at l.invariant.2)
+    writing_done (rw (left-none (totals a.rows.now) (key a.set (codes a.rows.now)) a.slot.now l.total l.e-index c.loop-e-test.false) at l.invariant.1)

@@ -1,6 +1,4 @@
-use Prim.Native.Nat.{◌-◌, ◌≤◌}
-use lib.ListN.{length}
-use Rattle.rows.specs.Rows.{cut, row_total}
+use Rattle.rows.specs.Slices.{codes, totals}
 use Rattle.rows_order.specs.Index.{key}
 use Rattle.rows_runs.proofs.Totals.{Room}
 use Rattle.rows_slots.proofs.Summing.{rows_from}
@@ -11,8 +9,5 @@ use Rattle.archive_groups.proofs.put_groups.Given as goal
 
 abbrev pub invariant-loop-e : goal.invariant-loop-e
 invariant-loop-e l =
-    (l.e-index ≤ length l.slot) × Room l.total (rows_from (row_total l.dims l.n l.rows) (key l.set (cut l.dims l.n l.rows)) l.slot l.e-index)
-    × Writing (group_bytes (row_total l.dims l.n l.rows) (key l.set (cut l.dims l.n l.rows)) l.slot) (left (row_total l.dims l.n l.rows) (key l.set (cut l.dims l.n l.rows)) l.slot l.total l.e-index) l.initial.out l.out l.at
-
-abbrev pub decreases-loop-e : goal.decreases-loop-e
-decreases-loop-e l = length l.slot - l.e-index
+    Room l.total (rows_from (totals l.rows) (key l.set (codes l.rows)) l.slot l.e-index)
+    × Writing (group_bytes (totals l.rows) (key l.set (codes l.rows)) l.slot) (left (totals l.rows) (key l.set (codes l.rows)) l.slot l.total l.e-index) l.initial.out l.out l.at

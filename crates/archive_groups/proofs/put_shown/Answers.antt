@@ -49,9 +49,6 @@ loop-d-preserved c =
     let word = word_of a.missing.now a.mine.now l.d in
     writing_more word _ (next (goal.at.loop-d-preserved c).In-loop-d) c.put_word-at.ensures
 
-pub shape_of-out : goal.shape_of-out
-shape_of-out c = c.loop-d.invariant.wrote.same
-
 pub returns : goal.returns
 returns c =
     let a = c.args in

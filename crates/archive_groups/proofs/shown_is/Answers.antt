@@ -13,12 +13,6 @@ loop-d-init c =
     let a = c.args in
     (omega arith, ap (starts_with (drop a.start a.s.now)) (sym (shown-all a.missing.now a.mine.now)))
 
-pub word_is-is-requires : goal.word_is-is-requires
-word_is-is-requires c = omega (arith, c.loop-d.invariant.0, c.loop-d-test.true, c.requires.1)
-
-pub overflow_add-at : goal.overflow_add-at
-overflow_add-at c = omega (arith, c.loop-d.invariant.0, c.loop-d-test.true, c.requires.1)
-
 pub loop-d-preserved : goal.loop-d-preserved
 loop-d-preserved c =
     let a = c.args in
@@ -27,8 +21,8 @@ loop-d-preserved c =
       omega (arith, l.invariant.0),
       l.invariant.1
           ∙ ap (λ (b : Bool). l.same && b) (shown-compared a.missing.now a.mine.now l.d c.loop-d-test.true a.s.now l.at)
-          ∙ ap (λ (b : Bool). l.same && (b && rest)) (sym c.word_is-is.ensures)
-          ∙ sym (and_assoc l.same c.word_is-is.result rest),
+          ∙ ap (λ (b : Bool). l.same && (b && rest)) (sym c.word_is-same.ensures)
+          ∙ sym (and_assoc l.same c.word_is-same.result rest),
     )
 
 pub returns : goal.returns

@@ -6,6 +6,3 @@ use Rattle.archive_judge.proofs.is_required.Goals as goal
 
 pub judge-requires : goal.judge-requires
 judge-requires c = let p = c.requires in (p.0, omega (arith, (read-ready (bytes_of c.args.s.now (λ i. omega (arith, c.type_inv.s i))) p.0).few), p.1, p.2)
-
-pub returns : goal.returns
-returns c = record { value = c.judge.ensures.value; grouped = c.judge.ensures.grouped }

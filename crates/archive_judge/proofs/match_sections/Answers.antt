@@ -5,7 +5,7 @@ use mathlib.Core.List.{◌++◌, flat_map}
 use Rattle.fields.specs.Words.{word_bytes}
 use Rattle.std.specs.Prelude.{Err, Ok}
 use Rattle.stops.proofs.Handed.{handed}
-use Rattle.rows.specs.Rows.{rows_of}
+use Rattle.rows.specs.Slices.{held}
 use Rattle.archive_entries.specs.Layout.{base_bytes}
 use Rattle.archive_entries.proofs.Limits.{normals-few}
 use Rattle.rows.proofs.Rows.{rows-codes}
@@ -20,40 +20,30 @@ use Rattle.archive_judge.proofs.match_sections.Goals.{Start}
 
 -- the parts as a whole
 whole : (c : goal.Start) → (let a = c.args in
-    let n = rows_of a.dims a.n a.rows.now in
-    (word_bytes a.n ++ flat_map base_bytes (our_bases a.dims n)) ++ (word_bytes a.cells ++ normal_bytes a.dims n) ≡ sections a.dims n)
-whole c = let a = c.args in four-parts a.dims a.n a.rows.now c.requires.cells_value
+    let r = a.rows.now in
+    (word_bytes r.n ++ flat_map base_bytes (our_bases r.dims (held r))) ++ (word_bytes a.cells ++ normal_bytes r.dims (held r)) ≡ sections r.dims (held r))
+whole c = let r = c.args.rows.now in four-parts r.dims r.n r.words.now c.requires.cells_value
 
 pub returns-in_err-at : goal.returns-in_err-at
 returns-in_err-at c =
     let a = c.args in
-    let n = rows_of a.dims a.n a.rows.now in
-    rw (handed c.from_residual.result c.from_residual.ensures.1) (matched_as (whole (goal.at.returns-in_err-at c).Start) (matched_stop (word_bytes a.cells ++ normal_bytes a.dims n) (matched_stop (flat_map base_bytes (our_bases a.dims n)) c.in_err-at.ensures)))
-
-pub match_bases-requires : goal.match_bases-requires
-match_bases-requires c = (c.requires.listed.0, c.in_ok-at.ensures.meets.2)
+    let r = a.rows.now in
+    rw (handed c.from_residual.result c.from_residual.ensures.1) (matched_as (whole (goal.at.returns-in_err-at c).Start) (matched_stop (word_bytes a.cells ++ normal_bytes r.dims (held r)) (matched_stop (flat_map base_bytes (our_bases r.dims (held r))) c.in_err-at.ensures)))
 
 pub returns-in_err-end : goal.returns-in_err-end
 returns-in_err-end c = rw (handed c.from_residual-in_err-end.result c.from_residual-in_err-end.ensures.1) (matched_as (whole (goal.at.returns-in_err-end c).Start) (matched_stop _ (matched_then _ (Err _) c.in_ok-at.ensures c.in_err-end.ensures)))
 
 pub overflow_cast-cells : goal.overflow_cast-cells
 overflow_cast-cells c =
-    let a = c.args in
+    let r = c.args.rows.now in
     let p = c.requires.listed.0.ready in
-    let n = rows_of a.dims a.n a.rows.now in
-    let few = normals-few a.dims n p.dims (omega (arith, rows-length a.dims a.n a.rows.now, p.few)) in
-    omega (arith, rw (rows-codes a.dims a.n a.rows.now) at few, c.requires.cells_value)
-
-pub match_word-requires-2 : goal.match_word-requires-2
-match_word-requires-2 c = c.in_ok-end.ensures.meets.2
+    let few = normals-few r.dims (held r) p.dims (omega (arith, rows-length r.dims r.n r.words.now, p.few)) in
+    omega (arith, rw (rows-codes r.dims r.n r.words.now) at few, c.requires.cells_value)
 
 pub returns-in_err-next : goal.returns-in_err-next
 returns-in_err-next c = rw (handed c.from_residual-in_err-next.result c.from_residual-in_err-next.ensures.1) (matched_as (whole (goal.at.returns-in_err-next c).Start)
     (matched_then _ (Err _) (matched_then _ (Ok _) c.in_ok-at.ensures c.in_ok-end.ensures)
     (matched_stop _ c.in_err-next.ensures)))
-
-pub match_normals-requires : goal.match_normals-requires
-match_normals-requires c = (c.requires.listed.1, c.in_ok-next.ensures.meets.2)
 
 pub returns : goal.returns
 returns c = matched_as (whole (goal.at.returns c).Start)

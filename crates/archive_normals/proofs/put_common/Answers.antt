@@ -3,10 +3,9 @@ use mathlib.Core.Path.{sym, subst}
 use Prim.Native.Nat.{◌+◌, ◌≤◌, ◌<◌}
 use native.Mathlib.Omega.{arith}
 use mathlib.Core.List.{List}
-use lib.Pow.{pow_pos}
 use lib.ListN.{length, length-take, length-drop}
 use Rattle.lattice.specs.Sets.{full}
-use Rattle.rows.specs.Rows.{rows_of}
+use Rattle.rows.specs.Slices.{held}
 use Rattle.archive_cells.specs.Writing.{Writing}
 use Rattle.archive_cells.specs.WritingLaws.{writing_none}
 use Rattle.archive_cells.proofs.Turns.{write_skip, write_room, write_more, write_done}
@@ -16,43 +15,28 @@ use Rattle.archive_normals.proofs.put_common.Goals as goal
 use Rattle.archive_normals.proofs.put_common.Goals.{Else-all-set}
 
 -- the set has its turn, and there is room for its cuboid
-has-turn : (c : goal.Else-all-set) → c.set_at-set.result < full c.args.dims
+has-turn : (c : goal.Else-all-set) → c.set_at-set.result < full c.args.rows.now.dims
 has-turn c = omega (arith, c.if-all-set.false, c.sets_of-all.ensures)
 
 room : (c : goal.Else-all-set) → (let a = c.args in
-    c.loop-k.at + length (shared_bytes a.dims (rows_of a.dims a.n a.rows.now) c.set_at-set.result) ≤ length c.loop-k.out)
-room c = write_room _ (full c.args.dims) c.loop-k-test.true c.set_at-set.ensures c.loop-k.invariant.1 (has-turn c) c.requires.rows_in_bounds
-
-pub overflow_cast-dims : goal.overflow_cast-dims
-overflow_cast-dims c = omega (arith, c.requires.grouped.ready.dims)
-
-pub sets_of-all-requires : goal.sets_of-all-requires
-sets_of-all-requires c = c.requires.grouped.ready.dims
-
-pub overflow_sub-all : goal.overflow_sub-all
-overflow_sub-all c = omega (arith, c.sets_of-all.ensures, pow_pos c.args.dims)
+    c.loop-k.at + length (shared_bytes a.rows.now.dims (held a.rows.now) c.set_at-set.result) ≤ length c.loop-k.out)
+room c = write_room _ (full c.args.rows.now.dims) c.loop-k-test.true c.set_at-set.ensures c.loop-k.invariant (has-turn c) c.requires.rows_in_bounds
 
 pub loop-k-init : goal.loop-k-init
 loop-k-init c =
     let a = c.args in
-    let n = rows_of a.dims a.n a.rows.now in
-    let all = common_bytes a.dims n in
-    (omega arith, subst (λ (x : List _). Writing all x a.out.now a.out.now 0) (sym (turns_start a.dims n c.requires.grouped.ready.dims)) (writing_none all a.out.now))
+    let n = held a.rows.now in
+    let all = common_bytes a.rows.now.dims n in
+    subst (λ (x : List _). Writing all x a.out.now a.out.now 0) (sym (turns_start a.rows.now.dims n c.requires.grouped.ready.dims)) (writing_none all a.out.now)
 
 pub loop-k-preserved-then-all-set : goal.loop-k-preserved-then-all-set
 loop-k-preserved-then-all-set c =
     let a = c.args in
     let k = c.loop-k-test.true in
-    (omega (arith, k), write_skip _ (full a.dims) k c.set_at-set.ensures c.loop-k.invariant.1 (omega (arith, c.if-all-set.true, c.sets_of-all.ensures)))
+    write_skip _ (full a.rows.now.dims) k c.set_at-set.ensures c.loop-k.invariant (omega (arith, c.if-all-set.true, c.sets_of-all.ensures))
 
-pub slice_bounds-put_shared-count : goal.slice_bounds-put_shared-count
-slice_bounds-put_shared-count c = omega (arith, room c)
-
-pub slice_bounds-put_shared-start : goal.slice_bounds-put_shared-start
-slice_bounds-put_shared-start c = omega (arith, room c)
-
-pub put_shared-at-requires : goal.put_shared-at-requires
-put_shared-at-requires c = record { grouped = (c.requires.grouped, has-turn (goal.at.put_shared-at-requires c).Else-all-set); set_in_bounds = simp (length-take, length-drop) (omega (arith, room (goal.at.put_shared-at-requires c).Else-all-set)) }
+pub put_shared-at-requires-clause-set_in_bounds : goal.put_shared-at-requires-clause-set_in_bounds
+put_shared-at-requires-clause-set_in_bounds c = simp (length-take, length-drop) (omega (arith, room (goal.at.put_shared-at-requires-clause-set_in_bounds c).Else-all-set))
 
 pub overflow_add-at : goal.overflow_add-at
 overflow_add-at c = omega (arith, room (goal.at.overflow_add-at c).Else-all-set, c.put_shared-at.ensures.count)
@@ -61,10 +45,7 @@ pub loop-k-preserved : goal.loop-k-preserved
 loop-k-preserved c =
     let a = c.args in
     let k = c.loop-k-test.true in
-    (omega (arith, k), write_more _ (full a.dims) k c.set_at-set.ensures c.loop-k.invariant.1 (has-turn (goal.at.loop-k-preserved c).Else-all-set) c.put_shared-at.ensures)
-
-pub shape_of-out : goal.shape_of-out
-shape_of-out c = c.loop-k.invariant.1.wrote.same
+    write_more _ (full a.rows.now.dims) k c.set_at-set.ensures c.loop-k.invariant (has-turn (goal.at.loop-k-preserved c).Else-all-set) c.put_shared-at.ensures
 
 pub returns : goal.returns
-returns c = write_done _ (full c.args.dims) c.loop-k.invariant.1 c.loop-k-test.false
+returns c = write_done _ (full c.args.rows.now.dims) c.loop-k.invariant c.loop-k-test.false

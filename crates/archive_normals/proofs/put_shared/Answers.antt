@@ -3,11 +3,8 @@ use mathlib.Core.Path.{ap}
 use native.Mathlib.Omega.{arith}
 use lib.ListN.{length}
 use Rattle.archive_cells.specs.WritingLaws.{wrote_as}
-use Rattle.archive_normals.proofs.Slotted.{slot-place, slot_groupable, slot-bytes}
+use Rattle.archive_normals.proofs.Slotted.{slot_groupable, slot-bytes}
 use Rattle.archive_normals.proofs.put_shared.Goals as goal
-
-pub slot_of-slot-requires : goal.slot_of-slot-requires
-slot_of-slot-requires c = let p = c.requires.grouped in (p.0.room, p.0.sets, (slot-place p.0 p.1).0, (slot-place p.0 p.1).1)
 
 pub put_groups-requires : goal.put_groups-requires
 put_groups-requires c =

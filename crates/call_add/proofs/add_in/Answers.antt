@@ -1,19 +1,15 @@
 -- `call_add::add_in` meets its contract: the reader's stops, or the record added to an archive that it accepts.
 use mathlib.Core.Path.{sym}
+use native.Mathlib.Omega.{arith}
+use Rattle.fields_walk.proofs.Limits.{bytes_of}
 use Rattle.call_answers.proofs.Answers.{stopped_on}
-use Rattle.call_add.proofs.Adding.{adds-refused, answered-adds}
-use borrow.Author.Rules.{rules}
+use Rattle.call_add.proofs.Adding.{adds-refused}
 use Rattle.call_add.proofs.add_in.Goals as goal
 
-pub add_read-requires : goal.add_read-requires
-add_read-requires c =
-    let r = c.in_ok-shape.ensures in
-    (record { told = sym r.value; room = search rules; stored = r.stored }, search rules)
+pub invariant_of-archive-clause-bytes_are : goal.invariant_of-archive-clause-bytes_are
+invariant_of-archive-clause-bytes_are c = bytes_of c.args.archive.now (λ i. omega (arith, c.type_inv.archive i))
 
 pub returns-in_err-shape : goal.returns-in_err-shape
 returns-in_err-shape c =
     let a = c.args in
     stopped_on a.out.now _ c.from_residual.ensures.1 (adds-refused a.archive.now a.codes.now a.reading (sym c.in_err-shape.ensures.value))
-
-pub returns : goal.returns
-returns c = answered-adds c.args.archive.now c.args.codes.now c.ranges.reading c.add_read.ensures

@@ -1,25 +1,18 @@
 -- `call_ask::list_read` meets its contract: the set's number is tested, then the cuboid is written where there is room.
 use native.Mathlib.Omega.{arith}
 use Rattle.call_answers.proofs.Answers.{stopped, answered_as}
-use Rattle.call_ask.proofs.Opened.{opened_by, opened_small}
+use Rattle.call_ask.proofs.Opened.{opened_of, opened_rows}
 use Rattle.call_ask.proofs.Outcomes.{list_stopped, list-bytes}
-use borrow.Author.Rules.{rules}
 use Rattle.call_ask.proofs.list_read.Goals as goal
 
 pub sets_of-requires : goal.sets_of-requires
-sets_of-requires c = (opened_by c.type_inv.s c.requires).ready.dims
+sets_of-requires c = (opened_of c.args.archive.now).ready.dims
 
 pub returns-then-sets_of-set : goal.returns-then-sets_of-set
-returns-then-sets_of-set c = stopped c.args.out.now (list_stopped (opened_by c.type_inv.s c.requires) (omega (arith, c.if-sets_of-set.true, c.sets_of.ensures)))
-
-pub overflow_mul-size : goal.overflow_mul-size
-overflow_mul-size c = omega (arith, opened_small (opened_by c.type_inv.s c.requires))
-
-pub slice_bounds-fit_cuboid-end : goal.slice_bounds-fit_cuboid-end
-slice_bounds-fit_cuboid-end c = (opened_by c.type_inv.s c.requires).ready.size
+returns-then-sets_of-set c = stopped c.args.out.now (list_stopped (opened_of c.args.archive.now) (omega (arith, c.if-sets_of-set.true, c.sets_of.ensures)))
 
 pub fit_cuboid-requires : goal.fit_cuboid-requires
-fit_cuboid-requires c = (opened_by c.type_inv.s c.requires).ready
+fit_cuboid-requires c = (opened_rows c.args.archive.now c.rows.ensures).ready
 
 pub returns : goal.returns
-returns c = answered_as (list-bytes (opened_by c.type_inv.s c.requires) (omega (arith, c.if-sets_of-set.false, c.sets_of.ensures))) c.fit_cuboid.ensures
+returns c = answered_as (list-bytes (opened_rows c.args.archive.now c.rows.ensures) (rw c.rows.ensures.2 (omega (arith, c.if-sets_of-set.false, c.sets_of.ensures)))) c.fit_cuboid.ensures

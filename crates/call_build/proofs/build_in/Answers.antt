@@ -2,11 +2,7 @@
 use mathlib.Core.Path.{sym}
 use Rattle.call_answers.proofs.Answers.{stopped_on}
 use Rattle.call_build.proofs.Building.{build-refused}
-use borrow.Author.Rules.{rules}
 use Rattle.call_build.proofs.build_in.Goals as goal
-
-pub build_read-requires : goal.build_read-requires
-build_read-requires c = let r = c.in_ok-folded.ensures in record { s_value = sym r.value; in_bounds = (search rules, r.stored) }
 
 pub returns-in_err-folded : goal.returns-in_err-folded
 returns-in_err-folded c = stopped_on c.args.out.now _ c.from_residual.ensures.1 (build-refused c.args.table.now (sym c.in_err-folded.ensures.value))

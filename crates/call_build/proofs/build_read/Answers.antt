@@ -1,48 +1,45 @@
 -- `call_build::build_read` meets its contract: the front of the array has the base rows of the table that was read, and its sizes stand in its bytes.
-use mathlib.Core.Path.{sym, subst}
-use Prim.Native.Nat.{ℕ, ◌+◌, ◌*◌, ◌≤◌}
-use native.Mathlib.Omega.{arith}
-use lib.ListN.{length, take, length-take}
-use lib.Seq.{length-take-le}
+use mathlib.Core.Path.{sym, ◌∙◌}
 use mathlib.Core.List.{List, [], ◌∷◌}
-use Rattle.fields.specs.Words.{words_at}
-use Rattle.rows.specs.Rows.{width, rows_of}
-use Rattle.archive_entries.specs.Layout.{archive_bytes, Limits}
+use Prim.Native.Nat.{ℕ}
+use native.Mathlib.Omega.{arith}
+use lib.ListN.{length-take}
+use lib.Seq.{length-take-le}
 use Rattle.fields_walk.proofs.Limits.{bytes_of}
-use Rattle.rows_ready.specs.Ready.{Ready}
-use Rattle.call_answers.specs.Answers.{bytes, Answered}
+use Rattle.rows.proofs.Fronts.{fronted}
 use Rattle.call_answers.proofs.Answers.{answered_as}
-use Rattle.call_build.proofs.Building.{tabled}
-use borrow.Author.Rules.{rules}
+use Rattle.call_build.proofs.Building.{Tabled, tabled}
 use Rattle.call_build.proofs.build_read.Goals as goal
+use Rattle.call_build.proofs.build_read.Goals.{After-front-rows}
 
 abbrev zeros : List ℕ
 zeros = 0 ∷ 0 ∷ 0 ∷ 0 ∷ 0 ∷ 0 ∷ 0 ∷ 0 ∷ []
 
-pub overflow_mul-size : goal.overflow_mul-size
-overflow_mul-size c = omega (arith, (tabled (bytes_of c.args.s.now (λ i. omega (arith, c.type_inv.s i))) c.requires.s_value c.args.rows.now c.requires.in_bounds.0 c.requires.in_bounds.1).small)
+-- the slice that is lent has the base rows
+lent : (c : goal.After-front-rows) → (let r = c.front-rows.result in Tabled c.args.s.now r.dims r.n r.words.now)
+lent c =
+    let a = c.args in
+    let p = c.requires in
+    fronted a.rows.now (Tabled a.s.now) c.front-rows.ensures (tabled (bytes_of a.s.now (λ i. omega (arith, c.type_inv.s i))) p.s_value a.rows.now p.in_bounds.0 p.in_bounds.1)
+
+pub front-rows-requires : goal.front-rows-requires
+front-rows-requires c =
+    let a = c.args in
+    let p = c.requires in
+    let t = tabled (bytes_of a.s.now (λ i. omega (arith, c.type_inv.s i))) p.s_value a.rows.now p.in_bounds.0 p.in_bounds.1 in
+    (t.ready.dims, omega (arith, t.small, p.in_bounds.0))
 
 pub slice_bounds-sizes-end : goal.slice_bounds-sizes-end
-slice_bounds-sizes-end c = (tabled (bytes_of c.args.s.now (λ i. omega (arith, c.type_inv.s i))) c.requires.s_value c.args.rows.now c.requires.in_bounds.0 c.requires.in_bounds.1).ready.dims
+slice_bounds-sizes-end c = omega (arith, (lent (goal.at.slice_bounds-sizes-end c).After-front-rows).ready.dims, c.front-rows.ensures.2)
 
 pub slice_bounds-write_sized-end : goal.slice_bounds-write_sized-end
-slice_bounds-write_sized-end c = rw length-take (omega (arith, (tabled (bytes_of c.args.s.now (λ i. omega (arith, c.type_inv.s i))) c.requires.s_value c.args.rows.now c.requires.in_bounds.0 c.requires.in_bounds.1).ready.dims))
-
-pub slice_bounds-write_sized-end-2 : goal.slice_bounds-write_sized-end-2
-slice_bounds-write_sized-end-2 c = (tabled (bytes_of c.args.s.now (λ i. omega (arith, c.type_inv.s i))) c.requires.s_value c.args.rows.now c.requires.in_bounds.0 c.requires.in_bounds.1).ready.size
+slice_bounds-write_sized-end c = rw length-take (omega (arith, (lent (goal.at.slice_bounds-write_sized-end c).After-front-rows).ready.dims, c.front-rows.ensures.2))
 
 pub write_sized-requires : goal.write_sized-requires
 write_sized-requires c =
-    let a = c.args in
-    let r = tabled (bytes_of c.args.s.now (λ i. omega (arith, c.type_inv.s i))) c.requires.s_value c.args.rows.now c.requires.in_bounds.0 c.requires.in_bounds.1 in
-    let p = subst (λ (d : ℕ). (8 + 4 * d ≤ length a.s.now) × Ready d a.folded.rows (take (a.folded.rows * width a.folded.dims) a.rows.now)
-    × Limits (words_at a.s.now d 8) (rows_of d a.folded.rows (take (a.folded.rows * width a.folded.dims) a.rows.now)))
-    (sym (length-take-le a.folded.dims zeros (tabled (bytes_of a.s.now (λ i. omega (arith, c.type_inv.s i))) c.requires.s_value a.rows.now c.requires.in_bounds.0 c.requires.in_bounds.1).ready.dims)) (r.headed, r.ready, r.limits) in
-    record { sizes_in_bounds = (p.0, p.1, omega arith); limits = p.2 }
+    let t = lent (goal.at.write_sized-requires c).After-front-rows in
+    let e = c.front-rows.ensures.2 in
+    record { sizes_in_bounds = (t.headed, t.ready, length-take-le c.args.folded.dims zeros (omega (arith, t.ready.dims, e)) ∙ sym e, omega arith); limits = t.limits }
 
 pub returns : goal.returns
-returns c =
-    let a = c.args in
-    answered_as (tabled (bytes_of c.args.s.now (λ i. omega (arith, c.type_inv.s i))) c.requires.s_value c.args.rows.now c.requires.in_bounds.0 c.requires.in_bounds.1).built
-    (subst (λ (d : ℕ). Answered (bytes (archive_bytes (words_at a.s.now d 8) (rows_of d a.folded.rows (take (a.folded.rows * width a.folded.dims) a.rows.now))))
-    a.out.now c.write_sized.new.out c.write_sized.result) (sym (sym (length-take-le a.folded.dims zeros (tabled (bytes_of a.s.now (λ i. omega (arith, c.type_inv.s i))) c.requires.s_value a.rows.now c.requires.in_bounds.0 c.requires.in_bounds.1).ready.dims))) c.write_sized.ensures)
+returns c = answered_as (lent (goal.at.returns c).After-front-rows).built c.write_sized.ensures

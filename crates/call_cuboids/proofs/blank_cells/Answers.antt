@@ -7,7 +7,6 @@ use lib.ListN.{take}
 use lib.Seq.{length-take-le}
 use Rattle.rows.specs.Rows.{rows_of}
 use Rattle.call_cuboids.proofs.Lengths.{blank_elsewhere, blank_put}
-use borrow.Author.Rules.{rules}
 use Rattle.call_cuboids.proofs.blank_cells.Goals as goal
 
 abbrev zeros : List ℕ
@@ -16,14 +15,6 @@ zeros = 0 ∷ 0 ∷ 0 ∷ 0 ∷ 0 ∷ 0 ∷ 0 ∷ 0 ∷ []
 pub returns-then-set-ne0 : goal.returns-then-set-ne0
 unfolding rows_of
 returns-then-set-ne0 c = (omega arith, blank_elsewhere c.args.dims c.args.set c.if-set-ne0.true)
-
-pub slice_bounds-put_row-end : goal.slice_bounds-put_row-end
-slice_bounds-put_row-end c = sym (length-take-le c.args.dims _ c.requires.0)
-
-pub put_row-requires : goal.put_row-requires
-put_row-requires c =
-    let p = c.requires in
-    omega (arith, length-take-le c.args.dims zeros p.0, p.1)
 
 pub returns : goal.returns
 returns c =

@@ -15,7 +15,6 @@ use Rattle.rows_ready.proofs.Ready.{rows-front}
 use Rattle.archive_entries.specs.Layout.{cell_bytes}
 use Rattle.archive_cells.specs.WritingLaws.{wrote_as}
 use Rattle.archive_cells.proofs.Cells.{cells-words}
-use borrow.Author.Rules.{rules}
 use Rattle.call_cuboids.proofs.put_counted.Goals as goal
 use Rattle.call_cuboids.proofs.put_counted.Goals.{Start}
 
@@ -25,9 +24,6 @@ size c = length-take-le (c.args.n * width c.args.dims) c.args.cells.now c.requir
 
 long : (c : Start) → let a = c.args in length (words_bytes (take (a.n * width a.dims) a.cells.now)) ≡ 4 * (a.n * width a.dims)
 long c = length_words_bytes _ ∙ ap (λ (k : ℕ). 4 * k) (size c)
-
-pub slice_bounds-put_words-end-2 : goal.slice_bounds-put_words-end-2
-slice_bounds-put_words-end-2 c = sym (size (goal.at.slice_bounds-put_words-end-2 c).Start)
 
 pub put_words-requires : goal.put_words-requires
 put_words-requires c = simp (length-take, length-drop) (omega (arith, long (goal.at.put_words-requires c).Start, c.requires.3, c.put_word-at.ensures.count, c.put_word-at.ensures.same))

@@ -1,32 +1,25 @@
 -- `call_expansion::expansion_len` meets its contract: the length so far, and that of the cuboids of the sets that are left, are the length of all.
-use mathlib.Core.Path.{◌≡◌, ap}
-use Prim.Native.Nat.{◌+◌, ◌-◌, ◌*◌, ◌^◌, ◌≤◌}
+use mathlib.Core.Path.{ap}
+use Prim.Native.Nat.{◌^◌}
 use native.Mathlib.Omega.{arith}
 use lib.ListN.{length}
-use Rattle.rows.specs.Rows.{rows_of}
-use Rattle.archive_cells.proofs.Turns.{turns, turns_length, turns_skipped, turns_over}
-use Rattle.call_cuboids.specs.Cuboids.{cuboid_bytes, expansion_bytes}
+use Rattle.rows.specs.Slices.{held}
+use Rattle.archive_cells.proofs.Turns.{turns_length, turns_skipped, turns_over}
+use Rattle.call_cuboids.specs.Cuboids.{cuboid_bytes}
 use Rattle.call_cuboids.proofs.Lengths.{turns_start}
-use borrow.Author.Rules.{rules}
 use Rattle.call_expansion.proofs.expansion_len.Goals as goal
 use Rattle.call_expansion.proofs.expansion_len.Goals.{then-set-all, else-set-all}
-
-pub overflow_cast-dims : goal.overflow_cast-dims
-overflow_cast-dims c = omega (arith, c.requires.ready.dims)
-
-pub sets_of-all-requires : goal.sets_of-all-requires
-sets_of-all-requires c = c.requires.ready.dims
 
 pub loop-k-init : goal.loop-k-init
 loop-k-init c =
     let a = c.args in
-    (omega arith, omega arith, omega (arith, ap length (turns_start a.dims (rows_of a.dims a.n a.rows.now) c.requires.ready.dims)))
+    (omega arith, omega arith, omega (arith, ap length (turns_start a.rows.now.dims (held a.rows.now) c.requires.ready.dims)))
 
 pub loop-k-preserved : goal.loop-k-preserved
 loop-k-preserved c =
     let a = c.args in
     let l = c.loop-k in
-    let f = cuboid_bytes a.dims (rows_of a.dims a.n a.rows.now) in
+    let f = cuboid_bytes a.rows.now.dims (held a.rows.now) in
     let at = c.set_at-set.ensures in
     let all = c.sets_of-all.ensures in
     let k = c.loop-k-test.true in
@@ -34,16 +27,16 @@ loop-k-preserved c =
       | then-set-all w ↦ (
         omega (arith, k),
         omega (arith, w.cuboid_len-len.ensures.upper_bound, w.len-is, l.invariant.1),
-        omega (arith, w.cuboid_len-len.ensures.value, w.len-is, l.invariant.2, turns_length f (2 ^ a.dims) k at (omega (arith, w.if-set-all.true, all))),
+        omega (arith, w.cuboid_len-len.ensures.value, w.len-is, l.invariant.2, turns_length f (2 ^ a.rows.now.dims) k at (omega (arith, w.if-set-all.true, all))),
       )
       | else-set-all w ↦ (
         omega (arith, k),
         omega (arith, w.len-is, l.invariant.1),
-        omega (arith, w.len-is, l.invariant.2, turns_skipped f (2 ^ a.dims) k at (omega (arith, w.if-set-all.false, all))),
+        omega (arith, w.len-is, l.invariant.2, turns_skipped f (2 ^ a.rows.now.dims) k at (omega (arith, w.if-set-all.false, all))),
       )
     ]
 
 pub returns : goal.returns
 returns c =
     let a = c.args in
-    omega (arith, c.loop-k.invariant.2, turns_over (cuboid_bytes a.dims (rows_of a.dims a.n a.rows.now)) (2 ^ a.dims) c.loop-k-test.false)
+    omega (arith, c.loop-k.invariant.2, turns_over (cuboid_bytes a.rows.now.dims (held a.rows.now)) (2 ^ a.rows.now.dims) c.loop-k-test.false)

@@ -9,42 +9,35 @@ use Rattle.fields.specs.WrittenLaws.{wrote_then}
 use Rattle.cube.specs.Measure.{sums as measure}
 use Rattle.cube.specs.Codes.{plain}
 use Rattle.cube.specs.Cube.{cells}
-use Rattle.rows.specs.Rows.{rows_of}
+use Rattle.rows.specs.Slices.{held}
 use Rattle.archive_entries.specs.Layout.{cell_bytes}
 use Rattle.archive_cells.specs.WritingLaws.{wrote_as}
 use Rattle.call_cuboids.specs.Cuboids.{cuboid_bytes}
-use Rattle.call_expansion.proofs.Slots.{slot-place, slot_is, slot-few, slot-count, cells-few}
-use borrow.Author.Rules.{rules}
+use Rattle.call_expansion.proofs.Slots.{slot_is, slot-count, cells-few}
 use Rattle.call_expansion.proofs.put_cuboid.Goals as goal
 use Rattle.call_expansion.proofs.put_cuboid.Goals.{After-count_cells-count}
 
 -- the count, and the parts
-count : (c : goal.After-count_cells-count) → (let a = c.args in c.count_cells-count.result ≡ length (cells (plain a.dims) measure (rows_of a.dims a.n a.rows.now) a.set))
+count : (c : goal.After-count_cells-count) → (let a = c.args in c.count_cells-count.result ≡ length (cells (plain a.rows.now.dims) measure (held a.rows.now) a.set))
 count c =
     let a = c.args in
     let p = c.requires.slotted in
-    c.count_cells-count.ensures ∙ slot-count a.dims a.n p.0.ready a.set (slot_is p.0 p.1 c.slot_of-slot.ensures)
+    c.count_cells-count.ensures ∙ slot-count a.rows.now.dims a.rows.now.n p.0.ready a.set (slot_is p.0 p.1 c.slot_of-slot.ensures)
 
-whole : (c : goal.After-count_cells-count) → (let a = c.args in let rows = rows_of a.dims a.n a.rows.now in
-    word_bytes c.count_cells-count.result ++ flat_map cell_bytes (cells (plain a.dims) measure rows a.set) ≡ cuboid_bytes a.dims rows a.set)
+whole : (c : goal.After-count_cells-count) → (let a = c.args in let rows = held a.rows.now in
+    word_bytes c.count_cells-count.result ++ flat_map cell_bytes (cells (plain a.rows.now.dims) measure rows a.set) ≡ cuboid_bytes a.rows.now.dims rows a.set)
 unfolding cuboid_bytes
 whole c =
     let a = c.args in
-    let rows = rows_of a.dims a.n a.rows.now in
-    ap (λ (k : ℕ). word_bytes k ++ flat_map cell_bytes (cells (plain a.dims) measure rows a.set)) (count c)
+    let rows = held a.rows.now in
+    ap (λ (k : ℕ). word_bytes k ++ flat_map cell_bytes (cells (plain a.rows.now.dims) measure rows a.set)) (count c)
 
-room : (c : goal.After-count_cells-count) → (let a = c.args in let rows = rows_of a.dims a.n a.rows.now in
-    4 + length (flat_map cell_bytes (cells (plain a.dims) measure rows a.set)) ≤ length a.out.now)
+room : (c : goal.After-count_cells-count) → (let a = c.args in let rows = held a.rows.now in
+    4 + length (flat_map cell_bytes (cells (plain a.rows.now.dims) measure rows a.set)) ≤ length a.out.now)
 room c =
     let a = c.args in
-    let rows = rows_of a.dims a.n a.rows.now in
-    omega (arith, ap length (whole c), length-append (word_bytes c.count_cells-count.result) (flat_map cell_bytes (cells (plain a.dims) measure rows a.set)), c.requires.set_in_bounds)
-
-pub slot_of-slot-requires : goal.slot_of-slot-requires
-slot_of-slot-requires c = let p = c.requires.slotted in (p.0.room, p.0.sets, (slot-place p.0 p.1).0, (slot-place p.0 p.1).1)
-
-pub count_cells-count-requires : goal.count_cells-count-requires
-count_cells-count-requires c = let p = c.requires.slotted in slot-few p.0 p.1 c.slot_of-slot.ensures
+    let rows = held a.rows.now in
+    omega (arith, ap length (whole c), length-append (word_bytes c.count_cells-count.result) (flat_map cell_bytes (cells (plain a.rows.now.dims) measure rows a.set)), c.requires.set_in_bounds)
 
 pub overflow_cast-count : goal.overflow_cast-count
 overflow_cast-count c = let p = c.requires.slotted in omega (arith, c.count_cells-count.ensures, cells-few p.0 p.1 c.slot_of-slot.ensures)
@@ -58,10 +51,8 @@ slice_bounds-put_existing-count c = omega (arith, room (goal.at.slice_bounds-put
 pub slice_bounds-put_existing-start : goal.slice_bounds-put_existing-start
 slice_bounds-put_existing-start c = omega (arith, room (goal.at.slice_bounds-put_existing-start c).After-count_cells-count, c.put_word-at.ensures.count, c.put_word-at.ensures.same)
 
-pub put_existing-requires : goal.put_existing-requires
-put_existing-requires c =
-    let p = c.requires.slotted in
-    record { ready = (p.0.ready, slot_is p.0 p.1 c.slot_of-slot.ensures); set_in_bounds = simp (length-take, length-drop) (omega (arith, room (goal.at.put_existing-requires c).After-count_cells-count, c.put_word-at.ensures.count, c.put_word-at.ensures.same)) }
+pub put_existing-requires-clause-set_in_bounds : goal.put_existing-requires-clause-set_in_bounds
+put_existing-requires-clause-set_in_bounds c = simp (length-take, length-drop) (omega (arith, room (goal.at.put_existing-requires-clause-set_in_bounds c).After-count_cells-count, c.put_word-at.ensures.count, c.put_word-at.ensures.same))
 
 pub overflow_add-result : goal.overflow_add-result
 overflow_add-result c = omega (arith, room (goal.at.overflow_add-result c).After-count_cells-count, c.put_word-at.ensures.count, c.put_existing.ensures.count)

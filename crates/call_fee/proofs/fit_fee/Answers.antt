@@ -7,10 +7,10 @@ use Rattle.fee_list.proofs.Listed.{fee_length}
 use Rattle.call_fee.proofs.fit_fee.Goals as goal
 
 pub returns-in_err-fitting : goal.returns-in_err-fitting
-returns-in_err-fitting c = let a = c.args in unfitted refl (fee_length a.fee a.counts.now) c.from_residual.ensures.1 c.in_err-fitting.ensures
+returns-in_err-fitting c = let f = c.args.fee.now in unfitted refl (fee_length f.cents f.counts.now) c.from_residual.ensures.1 c.in_err-fitting.ensures
 
 pub put_fee-requires : goal.put_fee-requires
-put_fee-requires c = let a = c.args in record { fee_bound = c.requires; counts_in_bounds = omega (arith, has_room c.in_ok-fitting.ensures, fee_length a.fee a.counts.now) }
+put_fee-requires c = let f = c.args.fee.now in omega (arith, has_room c.in_ok-fitting.ensures, fee_length f.cents f.counts.now)
 
 pub returns : goal.returns
-returns c = let a = c.args in done refl (omega (arith, has_room c.in_ok-fitting.ensures, fee_length a.fee a.counts.now)) c.put_fee.ensures
+returns c = let f = c.args.fee.now in done refl (omega (arith, has_room c.in_ok-fitting.ensures, fee_length f.cents f.counts.now)) c.put_fee.ensures

@@ -7,7 +7,7 @@ use lib.ListN.{length, take}
 use lib.Seq.{length-take-le}
 use Rattle.lists.specs.Lists.{sum}
 use Rattle.lattice.proofs.Sets.{sets_of}
-use Rattle.rows.specs.Rows.{rows_of}
+use Rattle.rows.specs.Slices.{held}
 use Rattle.rows.proofs.Flat.{rows-length}
 use Rattle.call_answers.proofs.Answers.{answered_as}
 use Rattle.call_answers.specs.Answers.{bytes}
@@ -25,24 +25,26 @@ pub cell_counts-count-requires : goal.cell_counts-count-requires
 cell_counts-count-requires c =
     let a = c.args in
     let p = c.requires in
-    let rows = rows_of a.dims a.n a.rows.now in
-    (p.0, omega (arith, some-rows rows p.3, rows-length a.dims a.n a.rows.now), search rules)
+    let rows = held a.rows.now in
+    (p.0, omega (arith, some-rows rows p.3, rows-length a.rows.now.dims a.rows.now.n a.rows.now.words.now), search rules)
 
-pub slice_bounds-fit_fee-end : goal.slice_bounds-fit_fee-end
-slice_bounds-fit_fee-end c = sym (length-take-le _ _ (front (goal.at.slice_bounds-fit_fee-end c).After-cell_counts-count))
+pub slice_bounds-fee-end : goal.slice_bounds-fee-end
+slice_bounds-fee-end c = sym (length-take-le _ _ (front (goal.at.slice_bounds-fee-end c).After-cell_counts-count))
 
-pub fit_fee-requires : goal.fit_fee-requires
-fit_fee-requires c =
-    let a = c.args in
+pub invariant_of-fee : goal.invariant_of-fee
+invariant_of-fee c =
+    let r = c.args.rows.now in
     let p = c.requires in
+    let n = c.cell_counts-count.result in
+    let tallies = c.cell_counts-count.new.tallies in
     let e = c.cell_counts-count.ensures in
-    let rows = rows_of a.dims a.n a.rows.now in
-    let t : sum (take c.cell_counts-count.result c.cell_counts-count.new.tallies) ≡ _ = ap sum e.0 ∙ weights-total a.dims rows p.0.table (sets_of a.dims p.1) in (
-      p.2,
-      omega (arith, length-take-le c.cell_counts-count.result c.cell_counts-count.new.tallies (front (goal.at.fit_fee-requires c).After-cell_counts-count), e.1, p.0.few),
-      omega (arith, t, p.3),
-      omega (arith, t, p.0.summable.few),
-    )
+    let t : sum (take n tallies) ≡ _ = ap sum e.0 ∙ weights-total r.dims (held r) p.0.table (sets_of r.dims p.1) in
+    record {
+      small = p.2;
+      few = omega (arith, length-take-le n tallies (front (goal.at.invariant_of-fee c).After-cell_counts-count), e.1, p.0.few);
+      some = omega (arith, t, p.3);
+      bounded = omega (arith, t, p.0.summable.few);
+    }
 
 pub returns : goal.returns
 returns c = let a = c.args in answered_as (ap (λ (l : List ℕ). bytes (fee_bytes a.fee l)) (sym c.cell_counts-count.ensures.0)) c.fit_fee.ensures

@@ -1,18 +1,16 @@
 -- `call_join::join_in` meets its contract: the first file's stops, the second's, or both archives joined.
 use mathlib.Core.Path.{sym}
+use native.Mathlib.Omega.{arith}
+use Rattle.fields_walk.proofs.Limits.{bytes_of}
 use Rattle.call_answers.proofs.Answers.{stopped_on}
 use Rattle.call_join.proofs.Outcomes.{first-refused, second-refused}
-use borrow.Author.Rules.{rules}
 use Rattle.call_join.proofs.join_in.Goals as goal
 
-pub join_read-requires : goal.join_read-requires
-join_read-requires c =
-    let r = c.in_ok-shape1.ensures in
-    let q = c.in_ok-shape2.ensures in (
-      record { told = sym r.value; room = search rules; stored = r.stored },
-      record { told = sym q.value; room = search rules; stored = q.stored },
-      search rules,
-    )
+pub invariant_of-first-clause-bytes_are : goal.invariant_of-first-clause-bytes_are
+invariant_of-first-clause-bytes_are c = bytes_of c.args.first.now (λ i. omega (arith, c.type_inv.first i))
+
+pub invariant_of-second-clause-bytes_are : goal.invariant_of-second-clause-bytes_are
+invariant_of-second-clause-bytes_are c = bytes_of c.args.second.now (λ i. omega (arith, c.type_inv.second i))
 
 pub returns-in_err-shape1 : goal.returns-in_err-shape1
 returns-in_err-shape1 c =

@@ -1,11 +1,8 @@
-use mathlib.Core.Path.{◌≡◌, sym, ◌∙◌}
-use mathlib.Core.Bool.{true, false}
+use mathlib.Core.Path.{◌≡◌}
 use Prim.Native.Nat.{◌-◌, ◌≤◌}
-use borrow.Author.Rules.{rules}
-use lib.ListN.{length, get_or, drop}
+use lib.ListN.{length, drop}
 use Rattle.lists.specs.Lists.{some}
 use Rattle.lattice.specs.Sets.{holds}
-use Rattle.rows_lists.proofs.Lists.{some_next, some-done}
 use Rattle.call_keys.proofs.holds_listed.Given as goal
 
 abbrev pub invariant-loop-listed : goal.invariant-loop-listed

@@ -6,14 +6,14 @@ use Rattle.call_answers.specs.Answers.{bytes}
 use Rattle.call_answers.proofs.Answers.{answered_as}
 use Rattle.call_answers.proofs.Outcomes.{keys-bytes}
 use Rattle.archive_cells.specs.ListBytes.{list_bytes}
-use Rattle.call_ask.proofs.Opened.{opened_by}
+use Rattle.call_ask.proofs.Opened.{opened_of}
 use Rattle.call_keys.proofs.Bare.{least-bare, bare-short}
 use Rattle.call_keys.proofs.Outcomes.{laid, shared_in}
 use borrow.Author.Rules.{rules}
 use Rattle.call_keys.proofs.keys_read.Goals as goal
 
 pub fit_bare-requires : goal.fit_bare-requires
-fit_bare-requires c = ((opened_by c.type_inv.s c.requires.0).ready.dims, (shared_in (opened_by c.type_inv.s c.requires.0) c.args.rows.now c.args.used.now refl c.requires.1).sets, bare-short (laid (opened_by c.type_inv.s c.requires.0)) (shared_in (opened_by c.type_inv.s c.requires.0) c.args.rows.now c.args.used.now refl c.requires.1))
+fit_bare-requires c = ((opened_of c.args.archive.now).ready.dims, (shared_in (opened_of c.args.archive.now) c.args.archive.now.words.now c.args.used.now refl c.requires).sets, bare-short (laid (opened_of c.args.archive.now)) (shared_in (opened_of c.args.archive.now) c.args.archive.now.words.now c.args.used.now refl c.requires))
 
 pub returns : goal.returns
-returns c = answered_as (keys-bytes (opened_by c.type_inv.s c.requires.0) ∙ ap (λ (l : List ℕ). bytes (list_bytes l)) (sym (least-bare (laid (opened_by c.type_inv.s c.requires.0)) (shared_in (opened_by c.type_inv.s c.requires.0) c.args.rows.now c.args.used.now refl c.requires.1)))) c.fit_bare.ensures
+returns c = answered_as (keys-bytes (opened_of c.args.archive.now) ∙ ap (λ (l : List ℕ). bytes (list_bytes l)) (sym (least-bare (laid (opened_of c.args.archive.now)) (shared_in (opened_of c.args.archive.now) c.args.archive.now.words.now c.args.used.now refl c.requires)))) c.fit_bare.ensures

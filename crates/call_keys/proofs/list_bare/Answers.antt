@@ -1,12 +1,9 @@
 -- `call_keys::list_bare` meets its contract: before the set at place k the smallest sets so far of which no cell is shared stand in front of the list.
-use mathlib.Core.Path.{◌≡◌, refl, sym, ◌∙◌}
-use Prim.Native.Nat.{◌-◌, ◌^◌, ◌<◌}
+use mathlib.Core.Path.{refl, sym, ◌∙◌}
+use Prim.Native.Nat.{◌<◌}
 use native.Mathlib.Omega.{arith}
-use borrow.Author.Rules.{rules}
-use borrow.Author.Tests.{not-true, not-false}
-use lib.ListN.{length, length-set}
-use lib.Seq.{length-take-le}
-use Rattle.call_keys.proofs.Listing.{Listing, listing_start, listing-few, listing-done, listing-off, listing-held, listing_no, listing-room, listing-more}
+use lib.ListN.{length-set}
+use Rattle.call_keys.proofs.Listing.{listing_start, listing-few, listing-done, listing-off, listing-held, listing_no, listing-room, listing-more}
 use Rattle.call_keys.proofs.list_bare.Goals as goal
 use Rattle.call_keys.proofs.list_bare.Goals.{Else-not-is_bare}
 
@@ -16,12 +13,6 @@ room c =
     let l = c.loop-k in
     listing-room c.args.dims c.args.used.now c.requires.0 c.requires.2 l.invariant.1 c.loop-k-test.true c.set_at-set.ensures (omega (arith, c.if-all-set.false, c.sets_of-all.ensures)) (sym c.holds_listed.ensures ∙ c.if-holds_listed.false) (sym c.is_bare.ensures ∙ c.if-not-is_bare.false)
 
-pub overflow_cast-dims : goal.overflow_cast-dims
-overflow_cast-dims c = omega (arith, c.requires.0)
-
-pub sets_of-all-requires : goal.sets_of-all-requires
-sets_of-all-requires c = c.requires.0
-
 pub loop-k-init : goal.loop-k-init
 loop-k-init c = (refl, listing_start c.args.dims c.args.used.now c.requires.0 c.requires.2 c.args.list.now)
 
@@ -30,19 +21,10 @@ loop-k-preserved-then-all-set c =
     let l = c.loop-k in
     (l.invariant.0, listing-off c.args.dims c.args.used.now c.requires.0 c.requires.2 l.invariant.1 c.loop-k-test.true c.set_at-set.ensures (omega (arith, c.if-all-set.true, c.sets_of-all.ensures)))
 
-pub slice_bounds-holds_listed-end : goal.slice_bounds-holds_listed-end
-slice_bounds-holds_listed-end c = c.loop-k.invariant.1.front
-
-pub slice_bounds-holds_listed-end-in-loop-k : goal.slice_bounds-holds_listed-end-in-loop-k
-slice_bounds-holds_listed-end-in-loop-k c = sym (length-take-le _ _ c.loop-k.invariant.1.front)
-
 pub loop-k-preserved-then-holds_listed : goal.loop-k-preserved-then-holds_listed
 loop-k-preserved-then-holds_listed c =
     let l = c.loop-k in
     (l.invariant.0, listing-held c.args.dims c.args.used.now c.requires.0 c.requires.2 l.invariant.1 c.loop-k-test.true c.set_at-set.ensures (omega (arith, c.if-all-set.false, c.sets_of-all.ensures)) (sym c.holds_listed.ensures ∙ c.if-holds_listed.true))
-
-pub is_bare-requires : goal.is_bare-requires
-is_bare-requires c = let p = c.requires in (p.0, p.1, omega (arith, c.if-all-set.false, c.sets_of-all.ensures))
 
 pub loop-k-preserved-then-not-is_bare : goal.loop-k-preserved-then-not-is_bare
 loop-k-preserved-then-not-is_bare c =
@@ -51,9 +33,6 @@ loop-k-preserved-then-not-is_bare c =
 
 pub bounds-list-n : goal.bounds-list-n
 bounds-list-n c = omega (arith, room (goal.at.bounds-list-n c).Else-not-is_bare, c.loop-k.invariant.0, c.requires.3)
-
-pub overflow_add-n : goal.overflow_add-n
-overflow_add-n c = omega (arith, room (goal.at.overflow_add-n c).Else-not-is_bare)
 
 pub loop-k-preserved : goal.loop-k-preserved
 loop-k-preserved c =

@@ -1,14 +1,13 @@
 -- `call_look::look_in` meets its contract: the reader's stops, or the answer of an archive that it accepts.
 use mathlib.Core.Path.{sym}
+use native.Mathlib.Omega.{arith}
+use Rattle.fields_walk.proofs.Limits.{bytes_of}
 use Rattle.stops.proofs.Handed.{handed}
 use Rattle.call_ask.proofs.Outcomes.{look_refused}
-use borrow.Author.Rules.{rules}
 use Rattle.call_look.proofs.look_in.Goals as goal
 
-pub look_read-requires : goal.look_read-requires
-look_read-requires c =
-    let r = c.in_ok-shape.ensures in
-    record { told = sym r.value; room = search rules; stored = r.stored }
+pub invariant_of-archive-clause-bytes_are : goal.invariant_of-archive-clause-bytes_are
+invariant_of-archive-clause-bytes_are c = bytes_of c.args.s.now (λ i. omega (arith, c.type_inv.s i))
 
 pub returns-in_err-shape : goal.returns-in_err-shape
 returns-in_err-shape c = rw (handed c.from_residual.result c.from_residual.ensures.1) (look_refused c.args.s.now (sym c.in_err-shape.ensures.value) c.args.question.now)

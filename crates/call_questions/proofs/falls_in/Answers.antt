@@ -1,20 +1,11 @@
 -- `call_questions::falls_in` meets its contract: what is left of the row falls in what is left of the cell just where the row falls in the cell.
-use mathlib.Core.Path.{◌≡◌, sym, ◌∙◌}
-use Prim.Native.Nat.{◌≤◌, ◌-◌}
+use mathlib.Core.Path.{◌∙◌}
 use borrow.Author.Rules.{rules}
-use borrow.Author.Tests.{eq-eqb, ne_eqb}
-use lib.ListN.{length, get_or, drop}
-use Rattle.cube.specs.Codes.{falls}
-use Rattle.call_questions.proofs.Pairs.{pairs_done, pairs_skip, pairs_stop, falls_pairs, meets-all, meets-code, meets_not}
+use borrow.Author.Tests.{eq-eqb}
+use lib.ListN.{get_or}
+use Rattle.call_questions.proofs.Pairs.{pairs_skip, falls_pairs, meets-all, meets-code}
 use Rattle.call_questions.proofs.falls_in.Goals as goal
 use Rattle.call_questions.proofs.falls_in.Goals.{else-code-ne65535-via-then-code-ne65535+else-code-mine, else-code-ne65535-via-else-code-ne65535}
-
-pub returns-then-code-mine : goal.returns-then-code-mine
-returns-then-code-mine c =
-    let a = c.args in
-    sym (sym c.loop-d.invariant.1
-    ∙ pairs_stop falls_pairs a.cell.now a.mine.now c.loop-d.d (search rules) (search rules)
-    (meets_not _ _ c.if-code-ne65535.true (ne_eqb _ _ c.if-code-mine.true)))
 
 pub loop-d-preserved : goal.loop-d-preserved
 loop-d-preserved c =
@@ -29,8 +20,3 @@ loop-d-preserved c =
           ])
           ∙ c.loop-d.invariant.1,
     )
-
-pub returns : goal.returns
-returns c =
-    let a = c.args in
-    sym (sym c.loop-d.invariant.1 ∙ pairs_done falls_pairs a.cell.now a.mine.now c.loop-d.d (search rules) (search rules))

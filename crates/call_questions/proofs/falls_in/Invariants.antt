@@ -1,11 +1,7 @@
-use mathlib.Core.Path.{◌≡◌, sym, ◌∙◌}
+use mathlib.Core.Path.{◌≡◌}
 use Prim.Native.Nat.{◌≤◌, ◌-◌}
-use borrow.Author.Rules.{rules}
-use borrow.Author.Tests.{not-true, not-false}
-use lib.ListN.{length, get_or, drop}
-use Rattle.lists.proofs.Tests.{cases}
+use lib.ListN.{length, drop}
 use Rattle.cube.specs.Codes.{falls}
-use Rattle.call_questions.proofs.Pairs.{pairs_done, pairs_skip, pairs_stop, falls_pairs, meets-all, meets-code, meets_not}
 use Rattle.call_questions.proofs.falls_in.Given as goal
 
 abbrev pub invariant-loop-d : goal.invariant-loop-d

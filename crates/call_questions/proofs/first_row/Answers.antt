@@ -1,34 +1,44 @@
--- `call_questions::first_row` meets its contract: no row before the place in hand falls in the cell.
-use mathlib.Core.Path.{◌≡◌, sym, ap, ◌∙◌}
-use Prim.Native.Nat.{◌≤◌, ◌-◌}
+-- `call_questions::first_row` meets its contract: `find` answers by place, and the row at the place that it found, or no row, falls in the cell.
+use mathlib.Core.Path.{◌≡◌, refl}
+use mathlib.Core.Bool.{true, false}
+use mathlib.Core.List.{List}
+use Prim.Native.Nat.{ℕ, ◌<◌}
+use native.Mathlib.Omega.{arith}
 use borrow.Author.Rules.{rules}
+use lib.ListN.{length, get_or}
+use Rattle.std.specs.Prelude.{Option, Some, None}
+use Rattle.std.proofs.iter.runs.Sources.{ranges}
 use Rattle.cube.specs.Codes.{falls}
-use Rattle.rows.specs.Rows.{cut}
+use Rattle.rows.specs.Rows.{row_at}
+use Rattle.rows.specs.Slices.{codes}
 use Rattle.rows.proofs.Rows.{cut-length}
-use Rattle.call_questions.proofs.Search.{NoneBefore, none-start, none_more, row_falls, first-here, first-none}
+use Rattle.call_questions.specs.Questions.{FirstAt, First}
 use Rattle.call_questions.proofs.first_row.Goals as goal
-use Rattle.call_questions.proofs.first_row.Goals.{After-falls_in}
 
--- whether the row in hand falls in the cell
-told : (c : goal.After-falls_in)
-    → (let a = c.args in
-    c.falls_in.result ≡ row_falls a.cell.now (cut a.dims a.n a.rows.now) c.loop-i.i)
-told c =
-    let a = c.args in
-    c.falls_in.ensures ∙ ap (falls a.cell.now) c.row_of.ensures.0
+-- a list read at a place: `search` then takes what `find` says of that place
+read_at : (xs : List ℕ) (k : ℕ) → get_or xs k 0 ≡ get_or xs k 0
+read_at xs k = refl
 
-pub loop-i-init : goal.loop-i-init
-loop-i-init c = (search rules, none-start _)
+none : (c : goal.After-find) → c.find.result ≡ None → (k : ℕ) → k < c.args.rows.now.n → falls c.args.cell.now (row_at (codes c.args.rows.now) k) ≡ false
+none c e k h = search (rules, ranges, read_at c.args.cell.now k)
 
-pub returns-then-falls_in : goal.returns-then-falls_in
-returns-then-falls_in c =
-    first-here (rw cut-length (search rules)) c.loop-i.invariant.1 (sym (told (goal.at.returns-then-falls_in c).After-falls_in) ∙ c.if-falls_in.true)
+within : (c : goal.After-find) → (i : ℕ) → c.find.result ≡ Some i → i < c.args.rows.now.n
+within c i e = search (rules, ranges)
 
-pub loop-i-preserved : goal.loop-i-preserved
-loop-i-preserved c =
-    (search rules, none_more c.loop-i.invariant.1 (sym (told (goal.at.loop-i-preserved c).After-falls_in) ∙ c.if-falls_in.false))
+here : (c : goal.After-find) → (i : ℕ) → c.find.result ≡ Some i → falls c.args.cell.now (row_at (codes c.args.rows.now) i) ≡ true
+here c i e = search (rules, ranges)
+
+before : (c : goal.After-find) → (i k : ℕ) → c.find.result ≡ Some i → k < i → falls c.args.cell.now (row_at (codes c.args.rows.now) k) ≡ false
+before c i k e h = search (rules, ranges, read_at c.args.cell.now k)
+
+by-result : {c : List ℕ} {xs : List (List ℕ)} (o : Option ℕ) → (o ≡ None → First c xs None) → ((i : ℕ) → o ≡ Some i → FirstAt c xs i) → First c xs o
+by-result None f g = f refl
+by-result (Some i) f g = g i refl
 
 pub returns : goal.returns
 returns c =
-    let a = c.args in
-    first-none a.cell.now (cut a.dims a.n a.rows.now) (cut-length a.dims a.n a.rows.now) c.loop-i-test.false c.loop-i.invariant.1
+    let r = c.args.rows.now in
+    let size : length (codes r) ≡ r.n = cut-length r.dims r.n r.words.now in
+    by-result c.find.result
+    (λ e k h. none c e k (omega (arith, h, size)))
+    (λ i e. record { within = omega (arith, within c i e, size); before = λ k h. before c i k e h; here = here c i e })

@@ -1,13 +1,11 @@
 -- `call_questions::fits` meets its contract: what is left of the question fits what is left of the sizes just where the question fits the sizes.
 use mathlib.Core.Path.{◌≡◌, sym, ◌∙◌}
-use Prim.Native.Nat.{◌≤◌, ◌-◌}
 use native.Mathlib.Omega.{arith}
 use borrow.Author.Rules.{rules}
 use borrow.Author.Tests.{eq-eqb, ne_eqb}
-use lib.ListN.{get_or, drop}
+use lib.ListN.{get_or}
 use Rattle.fields.specs.Words.{words_at}
 use Rattle.fields.specs.WordsLaws.{length_words_at, get_d_words_at}
-use Rattle.call_questions.specs.Questions.{asks}
 use Rattle.call_questions.proofs.Pairs.{pairs_done, pairs_skip, pairs_stop, asks_pairs, asks-length, allows_below, allows_all, allows_not}
 use Rattle.call_questions.proofs.fits.Goals as goal
 use Rattle.call_questions.proofs.fits.Goals.{After-word_at-size, else-code-size-via-then-code-size+else-code-ne65535, else-code-size-via-else-code-size}

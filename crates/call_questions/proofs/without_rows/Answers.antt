@@ -2,12 +2,8 @@
 use mathlib.Core.Path.{sym, ◌∙◌}
 use native.Mathlib.Omega.{arith}
 use lib.ListN.{length}
-use Rattle.call_questions.proofs.Rowless.{rowless-some, rowless-other, rowless-whole}
-use borrow.Author.Rules.{rules}
+use Rattle.call_questions.proofs.Rowless.{rowless-other, rowless-whole}
 use Rattle.call_questions.proofs.without_rows.Goals as goal
-
-pub returns-then-n-ne0 : goal.returns-then-n-ne0
-returns-then-n-ne0 c = rowless-some _ _ _ c.if-n-ne0.true
 
 pub returns-then-set_of-ne0 : goal.returns-then-set_of-ne0
 returns-then-set_of-ne0 c =

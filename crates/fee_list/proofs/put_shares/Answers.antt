@@ -8,12 +8,11 @@ use Rattle.fee_list.proofs.put_shares.Goals as goal
 
 pub put_list-requires : goal.put_list-requires
 put_list-requires c =
-    let a = c.args in
-    let p = c.requires in
+    let f = c.args.fee.now in
     let e = c.share_fee.ensures in
-    (omega (arith, ap length e, shares-length a.fee a.counts.now, p.fee_bound.1), omega (arith, ap length e, shares-length a.fee a.counts.now, fee_length a.fee a.counts.now, p.shares_len.1))
+    (omega (arith, ap length e, shares-length f.cents f.counts.now, f.few), omega (arith, ap length e, shares-length f.cents f.counts.now, fee_length f.cents f.counts.now, c.requires.room))
 
 pub returns : goal.returns
 returns c =
-    let a = c.args in
-    rw (fee_is a.fee a.counts.now c.share_fee.ensures) c.put_list.ensures
+    let f = c.args.fee.now in
+    rw (fee_is f.cents f.counts.now c.share_fee.ensures) c.put_list.ensures

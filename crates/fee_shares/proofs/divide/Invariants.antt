@@ -7,5 +7,5 @@ use Rattle.fee_shares.proofs.divide.Given as goal
 
 abbrev pub invariant-loop-i : goal.invariant-loop-i
 invariant-loop-i l =
-    (l.i ≤ length l.counts) × (length l.shares ≡ length l.counts) × (length l.rests ≡ length l.counts)
-    × (take l.i l.shares ≡ map (quota l.total l.fee) (take l.i l.counts)) × (take l.i l.rests ≡ map (rest l.total l.fee) (take l.i l.counts))
+    (l.i ≤ length l.fee.counts.now) × (length l.shares ≡ length l.fee.counts.now) × (length l.rests ≡ length l.fee.counts.now)
+    × (take l.i l.shares ≡ map (quota l.total l.fee.cents) (take l.i l.fee.counts.now)) × (take l.i l.rests ≡ map (rest l.total l.fee.cents) (take l.i l.fee.counts.now))

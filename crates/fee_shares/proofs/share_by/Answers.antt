@@ -6,9 +6,9 @@ use Rattle.fee_shares.proofs.share_by.Goals as goal
 use Rattle.fee_shares.proofs.share_by.Goals.{After-total_of}
 
 divided : (c : goal.After-total_of)
-    → Divided c.args.fee c.args.counts.now c.total_of-total.result c.divide.new.shares c.divide.new.rests c.total_of.result
+    → Divided c.args.fee.now.cents c.args.fee.now.counts.now c.total_of-total.result c.divide.new.shares c.divide.new.rests c.total_of.result
 divided c = record {
-  some = c.requires.fee_bound.2;
+  some = c.args.fee.now.some;
   all = c.total_of-total.ensures;
   whole = c.divide.ensures.shares_after.0;
   over = c.divide.ensures.shares_after.1;

@@ -13,11 +13,11 @@ use Rattle.rows_complete.proofs.complete_slots.Goals as goal
 use Rattle.rows_complete.proofs.complete_slots.Goals.{After-sets_of-all, Else-all-set}
 
 -- the full set is the last of 256 at most
-all-sets : (c : goal.After-sets_of-all) → c.sets_of-all.result - 1 + 1 ≡ 2 ^ c.args.dims
-all-sets c = omega (arith, c.sets_of-all.ensures, pow_pos c.args.dims)
+all-sets : (c : goal.After-sets_of-all) → c.sets_of-all.result - 1 + 1 ≡ 2 ^ c.args.rows.now.dims
+all-sets c = omega (arith, c.sets_of-all.ensures, pow_pos c.args.rows.now.dims)
 
 few : (c : goal.After-sets_of-all) → c.sets_of-all.result - 1 < 256
-few c = omega (arith, all-sets c, pow_mono {i = c.args.dims} {j = 8} c.requires.n_bound.1)
+few c = omega (arith, all-sets c, pow_mono {i = c.args.rows.now.dims} {j = 8} c.requires.n_bound.1)
 
 -- the set has its turn
 below : (c : goal.Else-all-set) → c.set_at-set.result < c.sets_of-all.result - 1
@@ -26,8 +26,9 @@ below c = omega (arith, c.if-all-set.false)
 pub loop-k-init : goal.loop-k-init
 loop-k-init c =
     let a = c.args in
-    let e : full a.dims ≡ c.sets_of-all.result - 1 = omega (arith, all-sets c) in
-    completing_start (omega (arith, few c)) (subst (AllHold 2 a.dims a.n a.rows.now a.store.now a.sizes.now) e c.requires.in_bounds.2)
+    let r = a.rows.now in
+    let e : full r.dims ≡ c.sets_of-all.result - 1 = omega (arith, all-sets c) in
+    completing_start (omega (arith, few c)) (subst (AllHold 2 r.dims r.n r.words.now a.store.now a.sizes.now) e c.requires.in_bounds.2)
 
 pub loop-k-preserved-then-all-set : goal.loop-k-preserved-then-all-set
 loop-k-preserved-then-all-set c = completing_skip (omega (arith, few (goal.at.loop-k-preserved-then-all-set c).After-sets_of-all)) c.loop-k.invariant c.loop-k-test.true c.set_at-set.ensures c.if-all-set.true
@@ -45,13 +46,13 @@ loop-k-preserved-then-sizes-set c =
 -- it is filled
 pub fill_set-requires-clause-dims_bound : goal.fill_set-requires-clause-dims_bound
 fill_set-requires-clause-dims_bound c =
-    let a = c.args in
+    let r = c.args.rows.now in
     let h = below (goal.at.fill_set-requires-clause-dims_bound c).Else-all-set in
     let all = (goal.at.fill_set-requires-clause-dims_bound c).After-sets_of-all in (
       c.requires.n_bound.1,
       c.read_columns.ensures,
       omega (arith, h, all-sets all),
-      passing_none 1 a.dims a.n a.rows.now c.set_at-set.result,
+      passing_none 1 r.dims r.n r.words.now c.set_at-set.result,
       filling_shorter (omega (arith, few all)) c.loop-k.invariant.filling c.loop-k-test.true c.set_at-set.ensures h,
     )
 
@@ -61,19 +62,19 @@ loop-k-preserved c = completing_more (omega (arith, few (goal.at.loop-k-preserve
 -- the full set
 pub fill_set-requires-2-clause-dims_bound : goal.fill_set-requires-2-clause-dims_bound
 fill_set-requires-2-clause-dims_bound c =
-    let a = c.args in
+    let r = c.args.rows.now in
     let set = c.sets_of-all.result - 1 in
     let all = (goal.at.fill_set-requires-2-clause-dims_bound c).After-sets_of-all in
     let held = filling_done (omega (arith, few all)) c.loop-k.invariant.filling c.loop-k-test.false in (
       c.requires.n_bound.1,
       c.read_columns.ensures,
       omega (arith, all-sets all),
-      passing_none 1 a.dims a.n a.rows.now set,
+      passing_none 1 r.dims r.n r.words.now set,
       λ one. held.all _ (shorter_less set one (few all)),
     )
 
 pub returns : goal.returns
 returns c =
-    let a = c.args in
+    let r = c.args.rows.now in
     let all = (goal.at.returns c).After-sets_of-all in
-    subst (AllHold 1 a.dims a.n a.rows.now _ _) (all-sets all) (all_more (filling_done (omega (arith, few all)) c.loop-k.invariant.filling c.loop-k-test.false) c.fill_set-2.ensures.filled)
+    subst (AllHold 1 r.dims r.n r.words.now _ _) (all-sets all) (all_more (filling_done (omega (arith, few all)) c.loop-k.invariant.filling c.loop-k-test.false) c.fill_set-2.ensures.filled)

@@ -3,4 +3,4 @@ use Rattle.rows_complete.proofs.Completing.{Completing}
 use Rattle.rows_complete.proofs.complete_slots.Given as goal
 
 abbrev pub invariant-loop-k : goal.invariant-loop-k
-invariant-loop-k l = Completing l.dims l.n l.rows l.store l.sizes l.all l.k
+invariant-loop-k l = Completing l.rows.dims l.rows.n l.rows.words.now l.store l.sizes l.all l.k

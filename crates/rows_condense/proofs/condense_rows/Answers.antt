@@ -7,7 +7,7 @@ use lib.Pow.{pow_mono}
 use Rattle.lattice.specs.Sets.{full}
 use Rattle.lattice.proofs.Sets.{full-lt}
 use Rattle.cube.specs.Codes.{plain}
-use Rattle.rows.specs.Rows.{cut}
+use Rattle.rows.specs.Slices.{codes}
 use Rattle.rows.proofs.Rows.{cut-length}
 use Rattle.rows_ready.specs.Blank.{blanks}
 use Rattle.rows_ready.proofs.Blank.{normals-count}
@@ -18,14 +18,14 @@ use Rattle.rows_condense.proofs.condense_rows.Goals as goal
 use Rattle.rows_condense.proofs.condense_rows.Goals.{After-sets_of-all, Else-all-set}
 
 -- the base rows, and how many sets have a turn
-base : (c : goal.After-sets_of-all) → let a = c.args in Given a.dims a.n a.rows.now
-base c = let p = c.requires.n_bound in record { dims = p.1; few = p.0; size = p.2; base = p.3 }
+base : (c : goal.After-sets_of-all) → let r = c.args.rows.now in Given r.dims r.n r.words.now
+base c = let p = c.requires.n_bound in record { dims = p.1; few = p.0; size = c.args.rows.now.whole; base = p.2 }
 
-few : (c : goal.After-sets_of-all) → full c.args.dims ≤ 256
-few c = omega (arith, full-lt c.args.dims, pow_mono {i = c.args.dims} {j = 8} c.requires.n_bound.1)
+few : (c : goal.After-sets_of-all) → full c.args.rows.now.dims ≤ 256
+few c = omega (arith, full-lt c.args.rows.now.dims, pow_mono {i = c.args.rows.now.dims} {j = 8} c.requires.n_bound.1)
 
 -- the set has its turn
-below : (c : goal.Else-all-set) → c.set_at-set.result < full c.args.dims
+below : (c : goal.Else-all-set) → c.set_at-set.result < full c.args.rows.now.dims
 below c = omega (arith, c.if-all-set.false, c.sets_of-all.ensures)
 
 -- the lists and the common cells when all sets had their turn, and how many cells there are then
@@ -33,11 +33,12 @@ one : (n : ℕ) → blanks n ≤ 1
 one zero = omega arith
 one (suc n) = omega arith
 
-all_listed : (c : goal.After-blanks) → blanks c.args.n + c.loop-k.cells ≤ 262145
+all_listed : (c : goal.After-blanks) → blanks c.args.rows.now.n + c.loop-k.cells ≤ 262145
 all_listed c =
     let p = c.requires.n_bound in
-    let g : Given c.args.dims c.args.n c.args.rows.now = record { dims = p.1; few = p.0; size = p.2; base = p.3 } in
-    omega (arith, one c.args.n, listing-few g c.loop-k.invariant.1)
+    let r = c.args.rows.now in
+    let g : Given r.dims r.n r.words.now = record { dims = p.1; few = p.0; size = r.whole; base = p.2 } in
+    omega (arith, one r.n, listing-few g c.loop-k.invariant.1)
 
 pub loop-k-init : goal.loop-k-init
 loop-k-init c = (filling_start (few c) c.args.store.now c.args.sizes.now, listing_start (base c) _ _ c.clear_lists.ensures)
@@ -47,7 +48,7 @@ loop-k-preserved-then-all-set c =
     let v = c.loop-k.invariant in
     let h = c.loop-k-test.true in
     let e = c.set_at-set.ensures in
-    let f : full c.args.dims ≤ c.set_at-set.result = omega (arith, c.if-all-set.true, c.sets_of-all.ensures) in
+    let f : full c.args.rows.now.dims ≤ c.set_at-set.result = omega (arith, c.if-all-set.true, c.sets_of-all.ensures) in
     let all = (goal.at.loop-k-preserved-then-all-set c).After-sets_of-all in
     (filling_skip (few all) v.0 h e f, listing_skip (base all) v.1 h e f)
 
@@ -62,7 +63,7 @@ list_set-cells-requires c =
     let all = (goal.at.list_set-cells-requires c).After-sets_of-all in
     let g = base all in
     record {
-      n_bound = (p.n_bound.0, p.n_bound.3.valid, p.n_bound.1, c.read_columns.ensures, omega (arith, f, full-lt c.args.dims), filling_shorter (few all) v.0 h e f);
+      n_bound = (p.n_bound.0, p.n_bound.2.valid, p.n_bound.1, c.read_columns.ensures, omega (arith, f, full-lt c.args.rows.now.dims), filling_shorter (few all) v.0 h e f);
       in_bounds = search rules;
       in_bounds_2 = (search rules, search rules, listing_lower g v.1 h e f);
       n_in_bounds = (omega (arith, l.auto.lists, p.in_bounds.2), v.1.short, listing_fit g v.1 h e f);
@@ -89,12 +90,12 @@ overflow_add-result c = omega (arith, all_listed c, c.blanks.ensures)
 
 pub returns : goal.returns
 returns c =
-    let a = c.args in
+    let r = c.args.rows.now in
     let v = c.loop-k.invariant in
     let all = (goal.at.returns c).After-sets_of-all in
-    let r = listing-done (base all) v.1 c.loop-k-test.false in
+    let w = listing-done (base all) v.1 c.loop-k-test.false in
     record {
       all_hold = filling_done (few all) v.0 c.loop-k-test.false;
-      lists_after = (r.0, v.1.short);
-      value = ap₂ ◌+◌ (c.blanks.ensures ∙ ap blanks (sym (cut-length a.dims a.n a.rows.now))) r.1 ∙ sym (normals-count (plain a.dims) (cut a.dims a.n a.rows.now));
+      lists_after = (w.0, v.1.short);
+      value = ap₂ ◌+◌ (c.blanks.ensures ∙ ap blanks (sym (cut-length r.dims r.n r.words.now))) w.1 ∙ sym (normals-count (plain r.dims) (codes r));
     }

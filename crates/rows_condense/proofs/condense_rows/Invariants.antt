@@ -5,4 +5,4 @@ use Rattle.rows_condense.proofs.Listing.{Listing}
 use Rattle.rows_condense.proofs.condense_rows.Given as goal
 
 abbrev pub invariant-loop-k : goal.invariant-loop-k
-invariant-loop-k l = Filling 2 l.dims l.n l.rows l.store l.sizes (full l.dims) l.k × Listing l.dims l.n l.rows l.alone l.lists l.cells l.k
+invariant-loop-k l = let r = l.rows in Filling 2 r.dims r.n r.words.now l.store l.sizes (full r.dims) l.k × Listing r.dims r.n r.words.now l.alone l.lists l.cells l.k

@@ -1,27 +1,23 @@
--- `rows_condense::list_set` meets its contract: the slot is filled, the set is noted for the rows that come out alone, these and the ones passed over are put into its words, and
--- the groups are counted.
+-- `rows_condense::list_set` meets its contract: the slot is filled, the set is noted for the rows that come out alone, and these and the ones passed over are put into its words.
 use mathlib.Core.Path.{◌≡◌, sym, ap, subst, ◌∙◌}
 use mathlib.Core.Bool.{◌||◌}
 use mathlib.Core.List.{List}
 use Prim.Native.Nat.{ℕ}
 use native.Mathlib.Omega.{arith}
 use lib.Dec.{eqb}
-use lib.ListN.{length, get_or, take}
+use lib.ListN.{get_or, take}
 use Rattle.lists.specs.Lists.{some, keep}
 use Rattle.lists.proofs.Members.{at_in, keep_in}
 use Rattle.rows.specs.Rows.{cut}
 use Rattle.rows_bits.specs.Rowsets.{has}
 use Rattle.rows_deals.specs.Deals.{Names}
-use Rattle.rows_order.specs.Index.{key}
-use Rattle.rows_slots.specs.Slots.{crowds, packed}
-use Rattle.rows_slots.proofs.Entries.{flat-few, slot-length}
-use Rattle.rows_crowds.specs.Crowds.{left_out, ends}
+use Rattle.rows_crowds.specs.Crowds.{left_out}
 use Rattle.rows_crowds.proofs.Left.{left_in}
 use Rattle.rows_lists.specs.Lists.{lists_of, Fit, noted}
 use Rattle.rows_alone.specs.Alone.{is_new}
 use Rattle.rows_condense.proofs.Alone.{lower_passing, lower_new, lower_told}
 use Rattle.rows_condense.proofs.list_set.Goals as goal
-use Rattle.rows_condense.proofs.list_set.Goals.{After-fill_set-left, After-slot_of-slot}
+use Rattle.rows_condense.proofs.list_set.Goals.{After-fill_set-left}
 
 -- the rows that come out alone
 abbrev new-rows : List ℕ → List (List ℕ) → ℕ → ℕ → List ℕ
@@ -35,15 +31,11 @@ new-named alone xs n s i h =
 left-new : (c : goal.After-fill_set-left) → let a = c.args in take c.fill_set-left.result c.fill_set-left.new.lone ≡ new-rows a.alone.now (cut a.dims a.n a.rows.now) a.n a.set
 left-new c = c.fill_set-left.ensures.lone_after.0 ∙ lower_new c.requires.in_bounds_2.2 c.pass_rows.new.passed c.pass_rows.ensures.1
 
--- the slot is that of the set
-filled : (c : goal.After-slot_of-slot) → let a = c.args in c.slot_of-slot.result.now ≡ packed (crowds 2 (key a.set (cut a.dims a.n a.rows.now)) a.n)
-filled c = c.slot_of-slot.ensures ∙ c.fill_set-left.ensures.filled.here.slot
-
-pub fill_set-left-requires : goal.fill_set-left-requires
-fill_set-left-requires c =
+pub fill_set-left-requires-clause-dims_bound : goal.fill_set-left-requires-clause-dims_bound
+fill_set-left-requires-clause-dims_bound c =
     let p = c.requires in
     let r = c.pass_rows in
-    record { n_bound = (p.n_bound.0, omega arith, omega arith, p.n_bound.1); in_bounds = p.in_bounds; dims_bound = (p.n_bound.2, p.n_bound.3, p.n_bound.4, lower_passing p.in_bounds_2.2 r.new.passed r.ensures.1 r.ensures.0, p.n_bound.5) }
+    (p.n_bound.2, p.n_bound.3, p.n_bound.4, lower_passing p.in_bounds_2.2 r.new.passed r.ensures.1 r.ensures.0, p.n_bound.5)
 
 pub note_lone-requires : goal.note_lone-requires
 note_lone-requires c =
@@ -63,25 +55,12 @@ add_rows-requires c =
     let names : Names (new-rows a.alone.now xs a.n a.set) 1024 = λ i h. omega (arith, new-named a.alone.now xs a.n a.set i h, few) in
     (subst (λ (l : List ℕ). Names l 1024) (sym (left-new (goal.at.add_rows-requires c).After-fill_set-left)) names, c.pass_rows.ensures.0)
 
-pub count_groups-requires : goal.count_groups-requires
-count_groups-requires c =
-    let a = c.args in
-    let few = c.requires.n_bound.0 in
-    let keys = key a.set (cut a.dims a.n a.rows.now) in
-    omega (arith, ap length (filled c), slot-length keys a.n 2 few, flat-few keys a.n 2 few, few)
-
-pub returns : goal.returns
-returns c =
+pub returns-clause-told : goal.returns-clause-told
+returns-clause-told c =
     let a = c.args in
     let r = c.pass_rows in
     let w = c.add_rows in
-    let m = c.note_lone.ensures in
     let passed = r.new.passed in
-    let e = left-new (goal.at.returns c).After-fill_set-left in
+    let e = left-new (goal.at.returns-clause-told c).After-fill_set-left in
     let n : (x : ℕ) → has w.new.words x ≡ some (eqb x) (new-rows a.alone.now (cut a.dims a.n a.rows.now) a.n a.set) || has passed x = λ x. w.ensures.1 x ∙ ap (λ (l : List ℕ). some (eqb x) l || has passed x) e in
-    record {
-      filled = c.fill_set-left.ensures.filled;
-      told = lower_told c.requires.in_bounds_2.2 passed r.ensures.1 w.new.words c.put_words.new.alone n c.put_words.ensures;
-      lists_after = (m.lists_after ∙ ap (λ (l : List ℕ). noted a.set l (lists_of a.n a.lists.now)) e, m.short);
-      value = c.count_groups.ensures ∙ ap ends (filled (goal.at.returns c).After-slot_of-slot);
-    }
+    lower_told c.requires.in_bounds_2.2 passed r.ensures.1 w.new.words c.put_words.new.alone n c.put_words.ensures

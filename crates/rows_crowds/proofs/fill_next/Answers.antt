@@ -1,5 +1,5 @@
 -- `rows_crowds::fill_next` meets its contract: the rows of the set without its last dimension are split, and their groups are packed.
-use mathlib.Core.Path.{◌≡◌, refl, sym, ap, ◌∙◌}
+use mathlib.Core.Path.{◌≡◌, refl, ap, ◌∙◌}
 use mathlib.Core.List.{List, ◌++◌, map}
 use mathlib.Core.Bool.{Bool}
 use Prim.Native.Nat.{ℕ, ◌+◌, ◌-◌, ◌*◌}
@@ -51,41 +51,24 @@ marked p column old l m k e h y i = ap (λ (z : List ℕ). get_or z y 0) (front 
 pub overflow_sub-shorter : goal.overflow_sub-shorter
 overflow_sub-shorter c = rw (c.sets_of.ensures, c.last_dimension-d.ensures.0) (shorter_power c.args.set c.requires.dims_bound.2 (below_all c.args.dims c.requires.dims_bound.0 c.requires.dims_bound.3))
 
-pub slot_of-old-requires : goal.slot_of-old-requires
-slot_of-old-requires c =
-    let a = c.args in
+pub split_groups-staying-requires-clause-column_len_bound : goal.split_groups-staying-requires-clause-column_len_bound
+split_groups-staying-requires-clause-column_len_bound c =
     let p = c.requires in
-    (p.in_bounds.0, p.in_bounds.1, omega (arith, below_all c.args.dims c.requires.dims_bound.0 c.requires.dims_bound.3), rw (c.sets_of.ensures, c.last_dimension-d.ensures.0) (omega (arith, p.dims_bound.5.few, p.n_bound.0)))
+    let x = next (goal.at.split_groups-staying-requires-clause-column_len_bound c).After-column_of-rising in
+    (omega (arith, turn-column x.turn, p.n_bound.0), next-slot x, p.dims_bound.4.room, turn_small x.turn, next-rising x)
 
-pub split_groups-staying-requires : goal.split_groups-staying-requires
-split_groups-staying-requires c =
-    let p = c.requires in
-    let x = next (goal.at.split_groups-staying-requires c).After-column_of-rising in record { column_len_bound = (omega (arith, turn-column x.turn, p.n_bound.0), next-slot x, p.dims_bound.4.room, turn_small x.turn, next-rising x); order_len = (p.in_bounds.2, length-take-le c.args.n c.args.marks.now (omega (arith, p.n_bound.0, p.in_bounds.3)) ∙ sym (turn-column x.turn), p.in_bounds.4) }
-
-pub slice_bounds-pack_groups-end : goal.slice_bounds-pack_groups-end
-slice_bounds-pack_groups-end c =
-    let p = c.requires in
-    let r = c.split_groups-staying in
-    omega (arith, r.ensures.order_after.1, next-few (next (goal.at.slice_bounds-pack_groups-end c).After-column_of-rising), p.n_bound.0, r.auto.order, p.in_bounds.2)
-
-pub pack_groups-done-requires : goal.pack_groups-done-requires
-pack_groups-done-requires c =
+pub pack_groups-done-requires-clause-names : goal.pack_groups-done-requires-clause-names
+pack_groups-done-requires-clause-names c =
     let a = c.args in
     let p = c.requires in
     let r = c.split_groups-staying in
-    let x = next (goal.at.pack_groups-done-requires c).After-column_of-rising in
+    let x = next (goal.at.pack_groups-done-requires-clause-names c).After-column_of-rising in
     let few = next-few x in
     let wide : length r.new.marks ≡ a.n = r.auto.marks ∙ length-take-le a.n a.marks.now (omega (arith, p.n_bound.0, p.in_bounds.3)) in
     let long : length (take a.n (r.new.marks ++ drop a.n a.marks.now)) ≡ a.n = length-take-le a.n _ (omega (arith, length-append r.new.marks (drop a.n a.marks.now), wide)) in
     let n : length (take r.result r.new.order) ≡ r.result = length-take-le r.result r.new.order (omega (arith, r.ensures.order_after.1, few, p.n_bound.0, r.auto.order, p.in_bounds.2)) in
     let names = next-names x (take r.result r.new.order) r.new.marks r.ensures.order_after.0 r.ensures.by_index in
-    record {
-      names = (λ i l. omega (arith, names i l, long), λ i l. omega (arith, names i l, p.n_bound.0), omega (arith, n, r.ensures.order_after.1, few, p.n_bound.0));
-      order_in_bounds = (
-        omega (arith, n, r.ensures.order_after.1, few, p.n_bound.0, mid_len (a.set * 1024) (a.set * 1024 + 1024) a.store.now (omega (arith, (below_all c.args.dims c.requires.dims_bound.0 c.requires.dims_bound.3), p.in_bounds.0))),
-        omega (arith, n, r.ensures.order_after.1, few, p.n_bound.0, r.auto.next, p.in_bounds.4),
-      );
-    }
+    (λ i l. omega (arith, names i l, long), λ i l. omega (arith, names i l, p.n_bound.0), omega (arith, n, r.ensures.order_after.1, few, p.n_bound.0))
 
 pub returns : goal.returns
 returns c =

@@ -33,13 +33,13 @@ turn c =
 long : (c : goal.After-column_of-order) → length c.column_of-order.result.now ≡ c.args.n
 long c = let x = turn c in ap length (turn-rising x) ∙ arranged-length (code_in c.column_of-by.result.now) c.args.n
 
-pub pack_groups-done-requires : goal.pack_groups-done-requires
-pack_groups-done-requires c =
-    let a = c.args in
+pub pack_groups-done-requires-clause-names : goal.pack_groups-done-requires-clause-names
+pack_groups-done-requires-clause-names c =
     let p = c.requires in
-    let x = turn (goal.at.pack_groups-done-requires c).After-column_of-order in
-    let n = long (goal.at.pack_groups-done-requires c).After-column_of-order in
-    let names = one-names x p.dims_bound.5 p.dims_bound.6 in record { names = (λ i l. omega (arith, names i l, turn-column x), λ i l. omega (arith, names i l, p.n_bound.0), omega (arith, n, p.n_bound.0)); order_in_bounds = (omega (arith, n, p.n_bound.0, mid_len (a.set * 1024) (a.set * 1024 + 1024) a.store.now (omega (arith, (below_all c.args.dims c.requires.dims_bound.0 c.requires.dims_bound.3), p.in_bounds.0))), omega (arith, n, p.n_bound.0, p.in_bounds.2)) }
+    let x = turn (goal.at.pack_groups-done-requires-clause-names c).After-column_of-order in
+    let n = long (goal.at.pack_groups-done-requires-clause-names c).After-column_of-order in
+    let names = one-names x p.dims_bound.5 p.dims_bound.6 in
+    (λ i l. omega (arith, names i l, turn-column x), λ i l. omega (arith, names i l, p.n_bound.0), omega (arith, n, p.n_bound.0))
 
 pub returns : goal.returns
 returns c =

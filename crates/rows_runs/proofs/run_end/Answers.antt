@@ -1,10 +1,7 @@
 -- `rows_runs::run_end` meets its contract: the first row comes before none of the rows passed.
 use mathlib.Core.Path.{sym, ◌∙◌}
 use native.Mathlib.Omega.{arith}
-use borrow.Author.Tests.{eqb-true, eqb-false}
-use lib.Dec.{eqb}
-use Rattle.lists.proofs.Tests.{cases, truth}
-use Rattle.rows.specs.Rows.{cut}
+use Rattle.rows.specs.Slices.{codes}
 use Rattle.rows_order.specs.Index.{key}
 use Rattle.rows_runs.proofs.Runs.{ends_at}
 use Rattle.rows_runs.proofs.Indexed.{indexed_ordered, indexed_below}
@@ -15,24 +12,17 @@ row_before-requires c =
     let x = c.requires.0 in
     let head = indexed_below x c.args.from c.requires.1 in
     let next = indexed_below x c.loop-end.end (omega arith) in
-    (x.size, omega (arith, head, next), omega (arith, head, next))
+    (omega (arith, head, next), omega (arith, head, next))
 
 pub returns-then-row_before : goal.returns-then-row_before
 returns-then-row_before c =
     let l = c.loop-end in
-    ends_at (key c.args.set (cut c.args.dims c.args.n c.args.rows.now)) c.args.index.now c.args.from l.end
+    ends_at (key c.args.set (codes c.args.rows.now)) c.args.index.now c.args.from l.end
     (indexed_ordered c.requires.0) (omega arith) (omega arith) l.invariant (λ h. sym c.row_before.ensures ∙ c.if-row_before.true)
-
-pub loop-end-preserved : goal.loop-end-preserved
-loop-end-preserved c =
-    let l = c.loop-end in
-    λ j h k. cases (truth (eqb j l.end))
-    (λ e. rw (eqb-true j l.end e) (sym c.row_before.ensures ∙ c.if-row_before.false))
-    (λ e. l.invariant j h (omega (arith, eqb-false j l.end e)))
 
 pub returns : goal.returns
 returns c =
-    let n = c.args.n in
+    let n = c.args.rows.now.n in
     let l = c.loop-end in
-    ends_at (key c.args.set (cut c.args.dims n c.args.rows.now)) c.args.index.now c.args.from n
+    ends_at (key c.args.set (codes c.args.rows.now)) c.args.index.now c.args.from n
     (indexed_ordered c.requires.0) (omega arith) (omega arith) (λ j h k. l.invariant j h (omega (arith, k))) (λ h. absurd (omega arith))

@@ -4,7 +4,7 @@ use mathlib.Core.List.{◌∷◌}
 use Prim.Native.Nat.{◌+◌}
 use lib.ListN.{get_or}
 use lib.Seq.{slice}
-use Rattle.rows.specs.Rows.{row_total}
+use Rattle.rows.specs.Slices.{totals}
 use Rattle.rows_runs.specs.Totals.{amount_at, amounts_at}
 use Rattle.rows_runs.proofs.Totals.{total_from, room-nothing, room-one, room-plus, total-start, amounts_next, amounts_none}
 use Rattle.rows_runs.proofs.total_run.Goals as goal
@@ -14,20 +14,17 @@ use Rattle.rows_runs.proofs.total_run.Goals.{In-loop-k}
 next : (c : goal.In-loop-k)
     → (let a = c.args in
     let k = c.loop-k.k in
-    let totals = row_total a.dims a.n a.rows.now in
-    amounts_at totals (slice k a.end a.index.now)
-    ≡ amount_at totals (get_or a.index.now k 0) ∷ amounts_at totals (slice (k + 1) a.end a.index.now))
+    let total = totals a.rows.now in
+    amounts_at total (slice k a.end a.index.now)
+    ≡ amount_at total (get_or a.index.now k 0) ∷ amounts_at total (slice (k + 1) a.end a.index.now))
 next c =
     let a = c.args in
-    amounts_next (row_total a.dims a.n a.rows.now) a.index.now c.loop-k.k a.end c.loop-k-test.true c.requires.1.within
+    amounts_next (totals a.rows.now) a.index.now c.loop-k.k a.end c.loop-k-test.true c.requires.within
 
 pub loop-k-init : goal.loop-k-init
 loop-k-init c =
     let a = c.args in
-    (total-start (row_total a.dims a.n a.rows.now) a.index.now a.from a.end, room-nothing c.requires.1.room)
-
-pub total_at-requires : goal.total_at-requires
-total_at-requires c = (c.requires.0, c.requires.1.below c.loop-k.k c.loop-k-test.true)
+    (total-start (totals a.rows.now) a.index.now a.from a.end, room-nothing c.requires.room)
 
 pub plus-total-requires : goal.plus-total-requires
 plus-total-requires c =
@@ -44,4 +41,4 @@ pub returns : goal.returns
 unfolding total_from
 returns c =
     let a = c.args in
-    rw (amounts_none (row_total a.dims a.n a.rows.now) a.index.now c.loop-k.k a.end c.loop-k-test.false) at c.loop-k.invariant.0
+    rw (amounts_none (totals a.rows.now) a.index.now c.loop-k.k a.end c.loop-k-test.false) at c.loop-k.invariant.0

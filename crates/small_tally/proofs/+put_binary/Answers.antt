@@ -2,7 +2,6 @@
 use mathlib.Core.List.{List}
 use Prim.Native.Nat.{ℕ, ◌-◌, ◌/◌, ◌%◌, ◌≤◌, ◌<◌}
 use native.Mathlib.Omega.{arith}
-use borrow.Author.Rules.{rules}
 use lib.ListN.{length}
 use Rattle.std.proofs.Common.{◌≢◌}
 use Rattle.fields.specs.Written.{Wrote}
@@ -18,15 +17,6 @@ room d j h p w = omega (arith, w.count, binary-length (d - 1) (j / 2), p, h)
 
 pub returns-then-dims-eq0 : goal.returns-then-dims-eq0
 returns-then-dims-eq0 t c = rw (binary-none c.args.j c.if-dims-eq0.true) (wrote_none _)
-
-pub offset_bounds-out-at : goal.offset_bounds-out-at
-offset_bounds-out-at t c = search (rules, room c.args.dims c.args.j c.if-dims-eq0.false c.requires c.put_binary-at.ensures)
-
-pub bounds-out-at : goal.bounds-out-at
-bounds-out-at t c = search (rules, room c.args.dims c.args.j c.if-dims-eq0.false c.requires c.put_binary-at.ensures)
-
-pub overflow_add-result : goal.overflow_add-result
-overflow_add-result t c = search (rules, room c.args.dims c.args.j c.if-dims-eq0.false c.requires c.put_binary-at.ensures)
 
 pub returns : goal.returns
 returns t c =

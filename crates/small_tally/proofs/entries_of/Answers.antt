@@ -1,26 +1,26 @@
 -- `small_tally::entries_of` meets its contract: what was written, cut into rows, is the codes of table t.
-use mathlib.Core.Path.{sym}
+use mathlib.Core.Path.{◌≡◌}
+use mathlib.Core.List.{List}
+use Prim.Native.Nat.{ℕ}
 use native.Mathlib.Omega.{arith}
-use lib.Seq.{length-take-le}
 use Rattle.fields.specs.WrittenLaws.{wrote_within}
-use Rattle.small_tally.proofs.Entries.{rows-room, made-rows, made-entries}
+use Rattle.rows.proofs.Fronts.{fronted, of_front}
+use Rattle.small_tally.proofs.Entries.{Tabled, entries_in, rows-room, rows-whole, made-rows, made-entries}
 use Rattle.small_tally.proofs.entries_of.Goals as goal
 
 pub put_table-size-requires : goal.put_table-size-requires
 put_table-size-requires c = (omega (arith, c.requires), rows-room c.args.dims c.args.t c.requires)
 
-pub slice_bounds-rows-end : goal.slice_bounds-rows-end
-slice_bounds-rows-end c = wrote_within c.put_table-size.ensures
-
-pub slice_bounds-rows_entries-end : goal.slice_bounds-rows_entries-end
-slice_bounds-rows_entries-end c = sym (length-take-le _ _ (wrote_within c.put_table-size.ensures))
+pub front-requires : goal.front-requires
+front-requires c =
+    let w = c.put_table-size.ensures in
+    (omega (arith, c.requires), rw (rows-whole c.args.dims c.args.t w) (wrote_within w))
 
 pub rows_entries-requires : goal.rows_entries-requires
 rows_entries-requires c =
-    let r = made-rows c.args.dims c.args.t c.put_table-size.ensures c.requires in
-    (omega (arith, c.requires), r.0, r.1, r.2, r.3)
+    fronted c.put_table-size.new.out Tabled c.front.ensures (made-rows c.args.dims c.args.t c.put_table-size.ensures c.requires)
 
 pub returns : goal.returns
 returns c =
-    let a = c.args in
-    made-entries a.dims a.t c.put_table-size.ensures c.rows_entries.ensures
+    made-entries c.args.dims c.args.t c.put_table-size.ensures
+    (of_front c.put_table-size.new.out (λ (d n : ℕ) (ws : List ℕ). c.rows_entries.result ≡ entries_in d n ws) c.front.ensures c.rows_entries.ensures)

@@ -5,22 +5,12 @@ use native.Mathlib.Omega.{arith}
 use lib.Seq.{length-take-le}
 use Rattle.small_model.specs.Tally.{most_entries}
 use Rattle.small_tally.proofs.Tallies.{most-fits, zeros_front}
-use borrow.Author.Rules.{rules}
 use Rattle.small_tally.proofs.put_line.Goals as goal
 use Rattle.small_tally.proofs.put_line.Goals.{After-sets_of-rows}
 
 -- how many rows a table can have, and how many tallies there are
 sized : (c : goal.After-sets_of-rows) → let m = c.sets_of-rows.result in (m ≤ 8) × (m * m ≤ 64) × (m + m * m + 1 ≡ suc (most_entries c.args.dims))
 sized c = most-fits c.requires.0 c.sets_of-rows.ensures
-
-pub overflow_mul-size : goal.overflow_mul-size
-overflow_mul-size c = search (rules, sized c)
-
-pub overflow_add-size : goal.overflow_add-size
-overflow_add-size c = search (rules, sized c)
-
-pub overflow_add-size-2 : goal.overflow_add-size-2
-overflow_add-size-2 c = search (rules, sized c)
 
 pub slice_bounds-tallies-end : goal.slice_bounds-tallies-end
 slice_bounds-tallies-end c = let s = sized (goal.at.slice_bounds-tallies-end c).After-sets_of-rows in omega (arith, s.0, s.1)

@@ -15,32 +15,11 @@ use Rattle.small_tally.proofs.put_row.Goals as goal
 room : (d j : ℕ) {before after : List ℕ} {n : ℕ} → width d ≤ length before → Wrote (binary d j) before after n → n + 3 ≤ length before
 room d j p w = omega (arith, w.count, binary-length d j, p)
 
-pub offset_bounds-out-at : goal.offset_bounds-out-at
-offset_bounds-out-at c = search (rules, room c.args.dims c.args.j c.requires c.put_binary-at.ensures)
-
-pub bounds-out-at : goal.bounds-out-at
-bounds-out-at c = search (rules, room c.args.dims c.args.j c.requires c.put_binary-at.ensures)
-
-pub overflow_add-out : goal.overflow_add-out
-overflow_add-out c = search (rules, room c.args.dims c.args.j c.requires c.put_binary-at.ensures)
-
-pub offset_bounds-out-at-2 : goal.offset_bounds-out-at-2
-offset_bounds-out-at-2 c = search (rules, room c.args.dims c.args.j c.requires c.put_binary-at.ensures)
-
 pub bounds-out-at-2 : goal.bounds-out-at-2
 bounds-out-at-2 c = simp length-set (search (rules, room c.args.dims c.args.j c.requires c.put_binary-at.ensures))
 
-pub overflow_add-out-2 : goal.overflow_add-out-2
-overflow_add-out-2 c = search (rules, room c.args.dims c.args.j c.requires c.put_binary-at.ensures)
-
-pub offset_bounds-out-at-3 : goal.offset_bounds-out-at-3
-offset_bounds-out-at-3 c = search (rules, room c.args.dims c.args.j c.requires c.put_binary-at.ensures)
-
 pub bounds-out-at-3 : goal.bounds-out-at-3
 bounds-out-at-3 c = simp length-set (search (rules, room c.args.dims c.args.j c.requires c.put_binary-at.ensures))
-
-pub overflow_add-result : goal.overflow_add-result
-overflow_add-result c = search (rules, room c.args.dims c.args.j c.requires c.put_binary-at.ensures)
 
 pub returns : goal.returns
 returns c =

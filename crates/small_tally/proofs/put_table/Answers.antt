@@ -1,46 +1,28 @@
 -- `small_tally::put_table` meets its contract. The invariant: the rows from bit j on are left to write.
-use Rattle.small_tally.proofs.Flat.{row-length, rows_none, rows_skip, rows-room, rows_more, rows-done}
+use Rattle.small_tally.proofs.Flat.{row-length, rows_none, rows-room, rows_more, rows-done}
 use borrow.Author.Rules.{rules}
 use Rattle.small_tally.proofs.put_table.Goals as goal
 use native.Mathlib.Omega.{arith}
 
 pub loop-j-init : goal.loop-j-init
-loop-j-init c = let a = c.args in (search rules, rows_none a.dims a.t _ a.out.now c.sets_of-j-end.ensures)
-
-pub loop-j-preserved-then-odd-ne1 : goal.loop-j-preserved-then-odd-ne1
-loop-j-preserved-then-odd-ne1 c =
-    let a = c.args in
-    let l = c.loop-j in
-    (search rules, rows_skip a.dims a.t _ l.rest l.j l.invariant.1 c.loop-j-test.true (omega arith))
-
-pub offset_bounds-out-at : goal.offset_bounds-out-at
-offset_bounds-out-at c = search (rules, rows-room c.args.dims c.args.t _ c.loop-j.rest c.loop-j.j c.loop-j.invariant.1 c.loop-j-test.true (omega arith) c.requires.1)
-
-pub slice_bounds-put_row-count : goal.slice_bounds-put_row-count
-slice_bounds-put_row-count c = search (rules, rows-room c.args.dims c.args.t _ c.loop-j.rest c.loop-j.j c.loop-j.invariant.1 c.loop-j-test.true (omega arith) c.requires.1)
-
-pub slice_bounds-put_row-start : goal.slice_bounds-put_row-start
-slice_bounds-put_row-start c = search (rules, rows-room c.args.dims c.args.t _ c.loop-j.rest c.loop-j.j c.loop-j.invariant.1 c.loop-j-test.true (omega arith) c.requires.1)
+loop-j-init c = let a = c.args in rows_none a.dims a.t _ a.out.now c.sets_of-j-end.ensures
 
 pub put_row-at-requires : goal.put_row-at-requires
-put_row-at-requires c = search (rules, rows-room c.args.dims c.args.t _ c.loop-j.rest c.loop-j.j c.loop-j.invariant.1 c.loop-j-test.true (omega arith) c.requires.1)
+put_row-at-requires c = search (rules, rows-room c.args.dims c.args.t _ c.loop-j.rest c.loop-j.j c.loop-j.invariant c.loop-j-test.true (omega arith) c.requires.1)
 
 pub overflow_add-at : goal.overflow_add-at
 overflow_add-at c =
     let l = c.loop-j in
-    search (rules, rows-room c.args.dims c.args.t _ c.loop-j.rest c.loop-j.j c.loop-j.invariant.1 c.loop-j-test.true (omega arith) c.requires.1, row-length c.args.dims l.j)
+    search (rules, rows-room c.args.dims c.args.t _ c.loop-j.rest c.loop-j.j c.loop-j.invariant c.loop-j-test.true (omega arith) c.requires.1, row-length c.args.dims l.j)
 
 pub loop-j-preserved : goal.loop-j-preserved
 loop-j-preserved c =
     let a = c.args in
     let l = c.loop-j in
-    (search rules, rows_more a.dims a.t _ l.rest l.j l.invariant.1 c.loop-j-test.true (omega arith) c.put_row-at.ensures)
-
-pub shape_of-out : goal.shape_of-out
-shape_of-out c = c.loop-j.invariant.1.wrote.same
+    rows_more a.dims a.t _ l.rest l.j l.invariant c.loop-j-test.true (omega arith) c.put_row-at.ensures
 
 pub returns : goal.returns
 returns c =
     let a = c.args in
     let l = c.loop-j in
-    rows-done a.dims a.t _ l.rest l.j l.invariant.1 c.loop-j-test.false
+    rows-done a.dims a.t _ l.rest l.j l.invariant c.loop-j-test.false

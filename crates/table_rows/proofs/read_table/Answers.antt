@@ -10,9 +10,8 @@ use lib.ListN.{length, get_or}
 use Rattle.lists.proofs.Members.{in_at}
 use Rattle.fields.specs.Words.{word_at}
 use Rattle.fields_walk.specs.Limits.{Bytes}
-use Rattle.stops.proofs.Handed.{handed}
 use Rattle.table.specs.Reading.{Rowed}
-use Rattle.table_rows.proofs.Rows.{Placed, placed, rowed_table, read_answer, stop-answer}
+use Rattle.table_rows.proofs.Rows.{Placed, placed, rowed_table, read_answer}
 use Rattle.table_rows.proofs.read_table.Goals as goal
 use Rattle.table_rows.proofs.read_table.Goals.{In_ok-check_table, After-word_at-dims, After-word_at-n}
 
@@ -48,12 +47,6 @@ fold_table-count-requires c =
     let n = count (goal.at.fold_table-count-requires c).After-word_at-n p d in
     let r = rowed_table s g.0 (bytes s c.type_inv.s) g.1 in
     (subst (λ (d : ℕ). Rowed s d c.word_at-n.result) (sym d) (subst (Rowed s (length g.0.sizes)) (sym n) r), search rules)
-
-pub returns-in_err-check_table : goal.returns-in_err-check_table
-returns-in_err-check_table c =
-    let a = c.args in
-    let e = stop-answer a.s.now c.in_err-check_table.ensures.says a.rows.now in
-    rw (handed c.from_residual.result c.from_residual.ensures.1) (record { value = e.0; stored = e.1 })
 
 pub returns : goal.returns
 returns c =
