@@ -4,6 +4,7 @@ pub mod Walkable
 pub mod Entered
 pub mod Limits
 pub mod Accepted
+pub mod Bytes
 pub mod Stops
 pub mod Bounds
 pub mod After

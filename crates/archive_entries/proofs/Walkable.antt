@@ -1,16 +1,19 @@
 -- What the walk over an archive's fields passes, as bytes: the fields that are read are those that were written.
 use mathlib.Core.Path.{◌≡◌, refl, sym, ◌∙◌}
 use mathlib.Core.List.{List, [], ◌++◌}
-use Prim.Native.Nat.{ℕ, ◌^◌, ◌≤◌, ◌<◌}
+use Prim.Native.Nat.{ℕ, ◌-◌, ◌^◌, ◌≤◌, ◌<◌}
 use native.Mathlib.Omega.{arith}
-use lib.ListN.{length}
+use borrow.Author.Tests.{eqb-true}
+use lib.Dec.{eqb}
+use lib.ListN.{length, take}
 use Rattle.lists.specs.Lists.{◌∈◌}
+use Rattle.lists.proofs.Pigeonhole.{no_more}
 use Rattle.fields_walk.specs.Parsed.{Parsed, got, and_then}
-use Rattle.fields_walk.specs.Fields.{header, header_bytes}
+use Rattle.fields_walk.specs.Fields.{word, header, header_bytes, ended, close}
 use Rattle.fields_walk.specs.Limits.{Sized, Bytes}
-use Rattle.fields_walk.proofs.Steps.{then_made}
+use Rattle.fields_walk.proofs.Steps.{then_made, through, passed}
 use Rattle.fields_walk.proofs.Codec.{Codec, codec_as, pair, codec_pair}
-use Rattle.fields_walk.proofs.Ends.{header_codec, sizes-words, closing, closed, closed-back, closed_forth}
+use Rattle.fields_walk.proofs.Ends.{header_codec, sizes-words, closing, closed, closed-got, closed-back, closed_forth}
 use Rattle.cube.specs.declared.Total.{Total}
 use Rattle.cube.specs.Measure.{Row}
 use Rattle.archive_entries.specs.Layout.{CUBE, Based, Held, base_bytes, cell_bytes, section, layout}
@@ -51,6 +54,18 @@ unfolding walk_archive
 walk_as s =
     (λ i. and_then (header CUBE s) (λ zs l. then_made (λ bs cs. (bs, cs)) (bases zs l) (λ bs. cells (length zs)) (λ p. closing s (held zs p)) i))
     ∙ then_made held (header CUBE s) sections (closing s)
+
+-- nothing stands behind what it passes, whether the numbers are bytes or not
+pub walk_end : (s : List ℕ) {a : Held} {rest : List ℕ} → walk_archive s ≡ got a rest → rest ≡ []
+unfolding close
+walk_end s {rest = rest} e =
+    let c = closed-got body s (sym (walk_as s) ∙ e) in
+    let t = through (word c.0) (ended (take (length s - length c.0) s)) c.2 in
+    let p = passed (eqb (length t.1) 0) _ 10 t.3 in
+    let q = passed _ (got tt t.1) 11 p.1 in
+    let n : t.1 ≡ [] = no_more t.1 (eqb-true (length t.1) 0 p.0) in
+    let r : t.1 ≡ rest = cc q.1 in
+    sym r ∙ n
 
 pub walk_forth : (s : List ℕ) (a : Held) (rest : List ℕ) → Bytes s → walk_archive s ≡ got a rest → Walkable a × (s ≡ layout a) × (rest ≡ [])
 unfolding layout

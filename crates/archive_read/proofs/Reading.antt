@@ -13,7 +13,6 @@ use Rattle.lists.specs.Order.{same}
 use Rattle.lists.proofs.Tests.{cases, truth}
 use Rattle.fields.specs.Words.{words_at}
 use Rattle.fields_walk.specs.Parsed.{Parsed, stop, got, and_then}
-use Rattle.fields_walk.specs.Limits.{Bytes}
 use Rattle.cube.specs.declared.Total.{Total}
 use Rattle.cube.specs.Measure.{Row}
 use Rattle.archive_entries.specs.Layout.{Held, archive_bytes}
@@ -21,7 +20,7 @@ use Rattle.archive_entries.specs.Reading.{walk_archive, judged, read_archive, ro
 use Rattle.std.specs.Prelude.{Ok, Err}
 use Rattle.archive_entries.specs.declared.Shape.{Shape}
 use Rattle.archive_entries.proofs.Fields.{Accepted, accepted}
-use Rattle.archive_entries.proofs.Walkable.{walk_forth}
+use Rattle.archive_entries.proofs.Walkable.{walk_end}
 use Rattle.rows_ready.proofs.Ready.{rows-front}
 use Rattle.lattice.proofs.Sets.{full-lt}
 use Rattle.rows.specs.Rows.{width, cut, rows_of}
@@ -35,7 +34,7 @@ use Rattle.archive_judge.proofs.Judged.{sizes-at}
 stored-walked : (p : Parsed Held) {a : Held} {rest : List ℕ} (ws : List ℕ) → p ≡ got a rest → Stored p ws → rows_of (length a.sizes) (length a.bases) ws ≡ rows_in a
 stored-walked p ws e h = subst (λ (q : Parsed Held). Stored q ws) e h
 
-module _ {s : List ℕ} {shape : Shape} (b : Bytes s) (e : archive_answer (walk_archive s) ≡ Ok shape) where
+module _ (s : List ℕ) {shape : Shape} (e : archive_answer (walk_archive s) ≡ Ok shape) where
   abbrev d : ℕ
   d = shape.dims
 
@@ -46,7 +45,7 @@ module _ {s : List ℕ} {shape : Shape} (b : Bytes s) (e : archive_answer (walk_
   walk = accepted s shape e
 
   walked : walk_archive s ≡ got walk.held []
-  walked = walk.walked ∙ ap (got walk.held) (walk_forth s walk.held walk.rest b walk.walked).2
+  walked = walk.walked ∙ ap (got walk.held) (walk_end s walk.walked)
 
   read_small : n * width d ≤ 11264
   read_small = rows_small d n walk.few walk.few-bases

@@ -4,7 +4,6 @@
 ghost use Rattle.std.specs.Prelude.{◌≡◌, ◌*◌, ◌≤◌, length, take, Ok};
 ghost use Rattle.rows.specs.Rows.{width};
 ghost use Rattle.stops.specs.Numbers.{numbered};
-ghost use Rattle.fields_walk.specs.Limits.{Bytes};
 ghost use Rattle.archive_entries.specs.Reading.{walk_archive, read_archive, archive_answer, Stored};
 ghost use Rattle.archive_normals.specs.Grouped.{Grouped};
 ghost use Rattle.archive_read.specs.Sharing.{Shares};
@@ -12,12 +11,11 @@ ghost use Rattle.archive_read.specs.Sharing.{Shares};
 use archive_entries::Shape;
 use stops::Stop;
 
-// An archive whose fields are right (stops 1 to 11 have passed): its bytes, and what was read of it. That the bytes are bytes is so of every slice of u8; a field's value does not tell it.
+// An archive whose fields are right (stops 1 to 11 have passed): its bytes, and what was read of it.
 #[derive(Drop)]
 pub struct Legible<'a> {
     pub bytes: &'a [u8],
     pub shape: Shape,
-    ghost bytes_are: { Bytes bytes.now },
     ghost walked: { archive_answer (walk_archive bytes.now) ≡ Ok shape },
 }
 

@@ -3,21 +3,17 @@ use mathlib.Core.Path.{◌≡◌, refl, sym, ap, subst, ◌∙◌}
 use mathlib.Core.Bool.{true, false, false≢true}
 use mathlib.Core.List.{List, []}
 use Prim.Native.Nat.{ℕ, ◌*◌, ◌≤◌}
-use native.Mathlib.Omega.{arith}
-use mir.Syntax.{w8}
-use mir.Val.{Fits}
-use lib.ListN.{length, get_or, take}
+use lib.ListN.{length, take}
 use Rattle.std.specs.Prelude.{Ok}
 use Rattle.rows.proofs.Rows.{rows_small}
 use Rattle.rows.proofs.Fronts.{Front, fronted}
 use Rattle.fields_walk.specs.Parsed.{Parsed, stop, got}
-use Rattle.fields_walk.specs.Limits.{Bytes}
-use Rattle.fields_walk.proofs.Limits.{bytes_of}
 use Rattle.rows.specs.Rows.{width, rows_of}
 use Rattle.archive_entries.specs.Layout.{Held, required, archive_bytes}
 use Rattle.archive_entries.specs.Reading.{walk_archive, read_archive, rows_in, archive_answer, Stored}
 use Rattle.archive_entries.specs.declared.Shape.{Shape}
 use Rattle.archive_entries.proofs.Accepted.{read_forth, archive_forth}
+use Rattle.archive_entries.proofs.Bytes.{read_bytes}
 use Rattle.fields.specs.Words.{words_at}
 use Rattle.archive_normals.specs.Grouped.{Grouped}
 use Rattle.archive_judge.proofs.Judged.{sizes-at, read-ready}
@@ -45,14 +41,15 @@ grouped-read s {e} {f} ws {store} {used} h k g =
     let same : e ≡ f = cc (sym h ∙ ap archive_answer ((read_forth s t.2).0 ∙ sym t.2) ∙ k) in
     subst (λ (x : Shape). Grouped x.dims x.bases (take (x.bases * width x.dims) ws) store used) same g
 
-pub opened : {s ws : List ℕ} {e : Shape} → Bytes s → Accepts s ws e → OpenedIn s e.dims e.bases e.cells ws
-opened {s} {ws} b x =
+pub opened : {s ws : List ℕ} {e : Shape} → Accepts s ws e → OpenedIn s e.dims e.bases e.cells ws
+opened {s} {ws} x =
     let t = told (read_archive s) x.told in
+    let b = read_bytes s t.2 in
     let a = t.0 in
     let walked = (read_forth s t.2).0 in
     let same_read : read_archive s ≡ walk_archive s = t.2 ∙ sym walked in
     let stored : Stored (walk_archive s) ws = subst (λ (p : Parsed Held). Stored p ws) same_read x.stored in
-    let r = read_of b (ap archive_answer (sym same_read) ∙ x.told) ws x.room stored in
+    let r = read_of s (ap archive_answer (sym same_read) ∙ x.told) ws x.room stored in
     let e : got a t.1 ≡ got r.held [] = sym walked ∙ r.walked in
     let same-held : r.held ≡ a = cc e in
     let done : t.1 ≡ [] = cc e in
@@ -70,7 +67,7 @@ opened {s} {ws} b x =
 
 -- an archive that was accepted, and its base rows as they are lent
 pub opened_of : (a : Accepted) → OpenedIn a.bytes.now a.shape.dims a.shape.bases a.shape.cells a.words.now
-opened_of a = opened a.bytes_are a.accepts
+opened_of a = opened a.accepts
 
 pub opened_rows : {d n : ℕ} {ws : List ℕ} (a : Accepted) → Front a.shape.dims a.shape.bases a.words.now d n ws → Opened a.bytes.now d n a.shape.cells ws
 opened_rows a f = fronted a.words.now (λ d n ws. Opened a.bytes.now d n a.shape.cells ws) f (opened_of a)

@@ -12,7 +12,6 @@ ghost use Rattle.archive_normals.specs.Grouped.{Grouped};
 ghost use Rattle.call_cuboids.specs.Cuboids.{cuboid_bytes, expansion_bytes};
 ghost use Rattle.call_answers.specs.Answers.{bytes, Answered};
 ghost use Rattle.call_answers.specs.Calls.{checks, lists_cuboid, expands};
-ghost use Rattle.fields_walk.specs.Limits.{Bytes};
 ghost use Rattle.call_ask.specs.Accepts.{Accepts, accepts_prop};
 
 use archive_entries::Shape;
@@ -32,13 +31,12 @@ pub fn check(archive: &[u8]) -> Result<Counts, Stop>
     })
 }
 
-// An archive that was accepted: its bytes, what was read of it, and words that have its base rows in front. That the bytes are bytes is so of every slice of u8; a field's value does not tell it. Who reads an archive makes one by a literal: what a function for it would ensure, each would have to carry over.
+// An archive that was accepted: its bytes, what was read of it, and words that have its base rows in front. Who reads an archive makes one by a literal: what a function for it would ensure, each would have to carry over.
 #[derive(Drop)]
 pub struct Accepted<'a> {
     pub bytes: &'a [u8],
     pub shape: Shape,
     pub words: &'a [u32],
-    ghost bytes_are: { Bytes bytes.now },
     ghost accepts: { Accepts bytes.now words.now shape } by { accepts_prop bytes.now words.now shape },
 }
 

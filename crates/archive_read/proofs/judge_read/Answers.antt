@@ -2,7 +2,6 @@
 use mathlib.Core.Path.{◌≡◌, sym, ◌∙◌}
 use mathlib.Core.List.{List}
 use Prim.Native.Nat.{ℕ, ◌*◌}
-use native.Mathlib.Omega.{arith}
 use lib.ListN.{take}
 use Rattle.lists.specs.Order.{same}
 use Rattle.fields.specs.Words.{words_at}
@@ -17,7 +16,7 @@ use Rattle.archive_read.proofs.judge_read.Goals.{After-rows_in-rows, After-is_re
 
 -- the base rows that were read are in the front of the array
 front : (c : goal.After-rows_in-rows) → (let a = c.args in let h = a.archive.now.shape in Read a.archive.now.bytes.now h.dims h.bases (take (h.bases * width h.dims) a.rows.now))
-front c = let a = c.args in let p = c.requires in read_of a.archive.now.bytes_are a.archive.now.walked a.rows.now p.in_bounds.0 p.in_bounds.1
+front c = let a = c.args in let p = c.requires in read_of a.archive.now.bytes.now a.archive.now.walked a.rows.now p.in_bounds.0 p.in_bounds.1
 
 -- whether the archive is the one that they require
 told : (c : goal.After-is_required) → (let s = c.args.archive.now.bytes.now in let h = c.args.archive.now.shape in
@@ -30,7 +29,7 @@ pub rows_in-rows-requires : goal.rows_in-rows-requires
 rows_in-rows-requires c =
     let a = c.args in
     let p = c.requires in
-    ((accepted a.archive.now.bytes.now a.archive.now.shape a.archive.now.walked).few, read-size a.archive.now.bytes_are a.archive.now.walked a.rows.now p.in_bounds.0 p.in_bounds.1)
+    ((accepted a.archive.now.bytes.now a.archive.now.shape a.archive.now.walked).few, read-size a.archive.now.bytes.now a.archive.now.walked a.rows.now p.in_bounds.0 p.in_bounds.1)
 
 pub is_required-requires : goal.is_required-requires
 is_required-requires c =

@@ -1,15 +1,10 @@
 -- `archive_read::read_lent` meets its contract: the walk answers for its stops, and what has right fields is stored and judged.
 use mathlib.Core.Path.{sym}
-use native.Mathlib.Omega.{arith}
-use Rattle.fields_walk.proofs.Limits.{bytes_of}
 use Rattle.stops.proofs.Handed.{handed}
 use Rattle.archive_entries.specs.Reading.{walk_archive}
 use Rattle.archive_entries.proofs.Fields.{stopped_stored}
 use Rattle.archive_read.proofs.Reading.{stop-required, stored-required}
 use Rattle.archive_read.proofs.read_lent.Goals as goal
-
-pub invariant_of-read_judged-clause-bytes_are : goal.invariant_of-read_judged-clause-bytes_are
-invariant_of-read_judged-clause-bytes_are c = bytes_of c.args.s.now (λ i. omega (arith, c.type_inv.s i))
 
 pub returns-in_err-shape : goal.returns-in_err-shape
 returns-in_err-shape c =

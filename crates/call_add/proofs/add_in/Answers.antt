@@ -1,13 +1,8 @@
 -- `call_add::add_in` meets its contract: the reader's stops, or the record added to an archive that it accepts.
 use mathlib.Core.Path.{sym}
-use native.Mathlib.Omega.{arith}
-use Rattle.fields_walk.proofs.Limits.{bytes_of}
 use Rattle.call_answers.proofs.Answers.{stopped_on}
 use Rattle.call_add.proofs.Adding.{adds-refused}
 use Rattle.call_add.proofs.add_in.Goals as goal
-
-pub invariant_of-archive-clause-bytes_are : goal.invariant_of-archive-clause-bytes_are
-invariant_of-archive-clause-bytes_are c = bytes_of c.args.archive.now (λ i. omega (arith, c.type_inv.archive i))
 
 pub returns-in_err-shape : goal.returns-in_err-shape
 returns-in_err-shape c =

@@ -1,14 +1,9 @@
 -- `call_ask::expand` meets its contract: the walk answers for its stops, and what has right fields is judged and expanded.
 use mathlib.Core.Path.{sym}
-use native.Mathlib.Omega.{arith}
-use Rattle.fields_walk.proofs.Limits.{bytes_of}
 use Rattle.archive_read.proofs.Reading.{stop-required}
 use Rattle.call_answers.proofs.Answers.{stopped_on}
 use Rattle.call_ask.proofs.Outcomes.{expand-refused}
 use Rattle.call_ask.proofs.expand.Goals as goal
-
-pub invariant_of-archive-clause-bytes_are : goal.invariant_of-archive-clause-bytes_are
-invariant_of-archive-clause-bytes_are c = bytes_of c.args.archive.now (λ i. omega (arith, c.type_inv.archive i))
 
 pub returns-in_err-shape : goal.returns-in_err-shape
 returns-in_err-shape c =

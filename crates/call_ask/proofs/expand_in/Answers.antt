@@ -5,9 +5,6 @@ use Rattle.call_ask.proofs.Opened.{grouped-read}
 use Rattle.call_ask.proofs.Outcomes.{expand-refused}
 use Rattle.call_ask.proofs.expand_in.Goals as goal
 
-pub invariant_of-archive-clause-bytes_are : goal.invariant_of-archive-clause-bytes_are
-invariant_of-archive-clause-bytes_are c = c.args.archive.now.bytes_are
-
 pub expand_read-requires : goal.expand_read-requires
 expand_read-requires c =
     let r = c.in_ok-shape.ensures in

@@ -1,13 +1,8 @@
 -- `call_fee::share_in` meets its contract: the reader's stops, or the shares over an archive that it accepts.
 use mathlib.Core.Path.{sym}
-use native.Mathlib.Omega.{arith}
-use Rattle.fields_walk.proofs.Limits.{bytes_of}
 use Rattle.call_answers.proofs.Answers.{stopped_on}
 use Rattle.call_fee.proofs.Outcomes.{fee_refused}
 use Rattle.call_fee.proofs.share_in.Goals as goal
-
-pub invariant_of-archive-clause-bytes_are : goal.invariant_of-archive-clause-bytes_are
-invariant_of-archive-clause-bytes_are c = bytes_of c.args.s.now (λ i. omega (arith, c.type_inv.s i))
 
 pub returns-in_err-shape : goal.returns-in_err-shape
 returns-in_err-shape c =

@@ -1,16 +1,8 @@
 -- `call_join::join_in` meets its contract: the first file's stops, the second's, or both archives joined.
 use mathlib.Core.Path.{sym}
-use native.Mathlib.Omega.{arith}
-use Rattle.fields_walk.proofs.Limits.{bytes_of}
 use Rattle.call_answers.proofs.Answers.{stopped_on}
 use Rattle.call_join.proofs.Outcomes.{first-refused, second-refused}
 use Rattle.call_join.proofs.join_in.Goals as goal
-
-pub invariant_of-first-clause-bytes_are : goal.invariant_of-first-clause-bytes_are
-invariant_of-first-clause-bytes_are c = bytes_of c.args.first.now (λ i. omega (arith, c.type_inv.first i))
-
-pub invariant_of-second-clause-bytes_are : goal.invariant_of-second-clause-bytes_are
-invariant_of-second-clause-bytes_are c = bytes_of c.args.second.now (λ i. omega (arith, c.type_inv.second i))
 
 pub returns-in_err-shape1 : goal.returns-in_err-shape1
 returns-in_err-shape1 c =

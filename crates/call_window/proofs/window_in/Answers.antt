@@ -1,13 +1,8 @@
 -- `call_window::window_in` meets its contract: the reader's stops, or the answer of an archive that it accepts.
 use mathlib.Core.Path.{sym}
-use native.Mathlib.Omega.{arith}
-use Rattle.fields_walk.proofs.Limits.{bytes_of}
 use Rattle.stops.proofs.Handed.{handed}
 use Rattle.call_window.proofs.Windows.{window-refused}
 use Rattle.call_window.proofs.window_in.Goals as goal
-
-pub invariant_of-archive-clause-bytes_are : goal.invariant_of-archive-clause-bytes_are
-invariant_of-archive-clause-bytes_are c = bytes_of c.args.archive.now (λ i. omega (arith, c.type_inv.archive i))
 
 pub returns-in_err-shape : goal.returns-in_err-shape
 returns-in_err-shape c =
