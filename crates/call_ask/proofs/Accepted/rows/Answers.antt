@@ -7,4 +7,4 @@ pub rows_in-requires : goal.rows_in-requires
 rows_in-requires c =
     let a = c.args.self.now in
     let o = opened_of a in
-    (o.ready.dims, omega (arith, opened_small o, a.accepts.room))
+    (omega (arith, o.ready.dims), omega (arith, opened_small o, a.accepts.room))
