@@ -164,10 +164,7 @@ fn store_row(s: &[u8], dims: usize, at: usize, i: usize, rows: &mut [u32])
     requires { (at + 4 * width dims ≤ length s.now) × (i * width dims + width dims ≤ length rows.old) }
     ensures { rows_of dims (i + 1) rows.new ≡ rows_of dims i rows.old ++ row_there s.now dims at ∷ [] }
 {
-    let width = dims + rows::TOTAL_WORDS;
-    let from = i * width;
-    let to = from + width;
-    fields::read_words(s, at, &mut rows[from..to]);
+    fields::read_words(s, at, &mut rows[rows::places(dims, i)]);
 }
 
 // The base rows of an archive whose fields are right.

@@ -31,9 +31,8 @@ fn put_common(out: &mut [u8], rows: &RowSlice, slots: &Slots) -> usize
 {
     let all = lattice::sets_of(rows.dims as u32) - 1;
     let mut at = 0;
-    // By place: `set_at` alone says which set stands there.
-    for k in 0..256 {
-        let set = lattice::set_at(k);
+    for &set in lattice::in_order() {
+        let set = u32::from(set);
         if all <= set {
             continue;
         }
@@ -85,9 +84,8 @@ fn match_common(s: &[u8], start: usize, rows: &RowSlice, slots: &Slots) -> Resul
 {
     let all = lattice::sets_of(rows.dims as u32) - 1;
     let mut at = start;
-    // By place: `set_at` alone says which set stands there.
-    for k in 0..256 {
-        let set = lattice::set_at(k);
+    for &set in lattice::in_order() {
+        let set = u32::from(set);
         if all <= set {
             continue;
         }

@@ -42,7 +42,7 @@ fn find_cells(rows: &RowSlice, set: u32, index: &mut [u32], cells: &mut [u32]) -
     rows_runs::group_rows(rows, set, index, cells)
 }
 
-// Writes a count, and so many cells: the words of the first rows of the array that is lent.
+// Writes a count, and so many cells: the words of the first rows of the array that is lent. It takes no `RowSlice`: that the words of a struct's slice fit 32 bits is not known, and their bytes ask it.
 fn put_counted(out: &mut [u8], cells: &[u32], n: usize, dims: usize) -> usize
     requires { (dims ≤ 8) × (n ≤ 1024) × (n * width dims ≤ length cells.now) × (4 + n * (4 * dims + 12) ≤ length out.old) }
     ensures { Wrote (section cell_bytes (rows_of dims n cells.now)) out.old out.new result }

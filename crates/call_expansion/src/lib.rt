@@ -49,9 +49,8 @@ fn expansion_len(rows: &RowSlice, slots: &Slots) -> usize
 {
     let all = lattice::sets_of(rows.dims as u32);
     let mut len = 0;
-    // By place: `set_at` alone says which set stands there.
-    for k in 0..256 {
-        let set = lattice::set_at(k);
+    for &set in lattice::in_order() {
+        let set = u32::from(set);
         if set < all {
             len += cuboid_len(rows, set, slots);
         }
@@ -94,9 +93,8 @@ fn put_expansion(out: &mut [u8], rows: &RowSlice, slots: &Slots) -> usize
 {
     let all = lattice::sets_of(rows.dims as u32);
     let mut at = 0;
-    // By place: `set_at` alone says which set stands there.
-    for k in 0..256 {
-        let set = lattice::set_at(k);
+    for &set in lattice::in_order() {
+        let set = u32::from(set);
         if all <= set {
             continue;
         }

@@ -1,12 +1,13 @@
 -- A set fixes another just if neighbours in the order of the set do: rows that agree on the set stand side by side there.
 use mathlib.Core.Path.{◌≡◌, sym, ap, ap₂, ◌∙◌}
-use mathlib.Core.Bool.{true, false, false≢true}
+use mathlib.Core.Bool.{Bool, true, false, false≢true}
 use mathlib.Core.List.{List, []}
-use Prim.Native.Nat.{ℕ, ◌+◌, ◌-◌, ◌≤◌, ◌<◌}
+use Prim.Native.Nat.{ℕ, zero, suc, ◌+◌, ◌-◌, ◌≤◌, ◌<◌}
 use native.Mathlib.Omega.{arith}
 use lib.Dec.{eqb, ltb}
 use lib.ListN.{get_or}
 use borrow.Author.Tests.{eqb-true, eqb-false, ltb-true, ltb-false}
+use Rattle.std.specs.List.{list_all, range_with_len}
 use Rattle.lists.specs.Lists.{◌∈◌}
 use Rattle.lists.specs.Order.{earlier}
 use Rattle.lists.proofs.Tests.{cases, truth, refuted}
@@ -105,3 +106,14 @@ module _ {rows dims s : ℕ} {ws index : List ℕ} (x : Indexed rows dims s ws i
         go e = cases (truth (agree s (at (k - 1)) (at k)))
             (λ b. follows_as s t (at (k - 1)) (at k) b ∙ fixes-in (plain dims) xs s t e (at_row (k - 1) (omega arith)) (at_row k h) b)
             (follows-apart s t (at (k - 1)) (at k))
+
+  -- whether the row at a place follows the row in front of it
+  abbrev pub next : ℕ → ℕ → Bool
+  next t k = follows s t (at (k - 1)) (at k)
+
+  -- the pairs from place k on tell the rest
+  pub fixed_rest : (t m k : ℕ) → FixedTo xs index s t k → 1 ≤ k → m ≡ rows - k → list_all (next t) (range_with_len k m) ≡ fixes (plain dims) xs s t
+  fixed_rest t zero k m a e = sym (fixed_all t m (omega (arith, e)))
+  fixed_rest t (suc n) k m a e = cases (truth (next t k))
+      (λ f. rw f (fixed_rest t n (k + 1) (fixed_on t m a (omega (arith, e)) f) (omega arith) (omega (arith, e))))
+      (λ f. rw f (sym (fixed_off t a (omega (arith, e)) f)))

@@ -46,15 +46,7 @@ fn neighbours_fix(rows: &RowSlice, set: u32, fixed: u32, index: &mut [u32]) -> b
     ensures { result ≡ fixing (plain rows.now.dims) (codes rows.now) set fixed }
 {
     rows_arrange::order_rows(rows, set, index);
-    // By place: a row and the one in front of it.
-    for k in 1..rows.n {
-        let i = index[k - 1] as usize;
-        let j = index[k] as usize;
-        if !pair_fixes(rows, set, fixed, i, j) {
-            return false;
-        }
-    }
-    true
+    (1..rows.n).all(|k| pair_fixes(rows, set, fixed, index[k - 1] as usize, index[k] as usize))
 }
 
 // Whether rows that agree on a set agree on a set of `fixed` dimensions.

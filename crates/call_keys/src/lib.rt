@@ -30,13 +30,7 @@ pub fn is_bare(dims: usize, used: &[usize], set: u32) -> bool
 fn holds_listed(set: u32, list: &[u32]) -> bool
     ensures { result ≡ some (holds 32 set) list.now }
 {
-    // By a loop: the proof of `any` did not close.
-    for &listed in list {
-        if lattice::holds_set(set, listed) {
-            return true;
-        }
-    }
-    false
+    list.iter().any(|&listed| lattice::holds_set(set, listed))
 }
 
 // The smallest sets of which no cell is shared, over the front of a lent list. Returns how many there are.
@@ -46,9 +40,8 @@ fn list_bare(dims: usize, used: &[usize], list: &mut [u32]) -> usize
 {
     let all = lattice::sets_of(dims as u32);
     let mut n = 0;
-    // By place: `set_at` alone says which set stands there.
-    for k in 0..256 {
-        let set = lattice::set_at(k);
+    for &set in lattice::in_order() {
+        let set = u32::from(set);
         if all <= set {
             continue;
         }

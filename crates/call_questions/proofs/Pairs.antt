@@ -1,4 +1,4 @@
--- Tests of two lists, one dimension after the other: whether a row falls in a cell, and a question fits the sizes.
+-- Tests of two lists, one dimension after the other: whether a row falls in a cell, and whether a code of a question fits its size.
 use mathlib.Core.Path.{◌≡◌, refl, ap}
 use mathlib.Core.Logic.{◌≢◌}
 use mathlib.Core.Bool.{Bool, true, false, ◌&&◌, ◌||◌, or-true, and-false}
@@ -48,11 +48,8 @@ meets-code a b e = rw (e, or-true)
 
 -- ---- a size and a question's code
 
-abbrev allows : ℕ → ℕ → Bool
+abbrev pub allows : ℕ → ℕ → Bool
 allows z c = ltb c z || eqb c ALL
-
-pub asks_pairs : ByPairs asks allows
-asks_pairs = record { none = refl; more = λ z c zs q. refl }
 
 -- a question has as many codes as there are sizes
 pub asks-length : (zs q : List ℕ) → length q ≢ length zs → asks zs q ≡ false

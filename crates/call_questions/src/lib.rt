@@ -28,10 +28,8 @@ pub fn fits(s: &[u8], dims: usize, question: &[u32]) -> bool
     if question.len() != dims {
         return false;
     }
-    // By number: the size of dimension d stands at a place in the bytes.
-    for d in 0..dims {
-        let code = question[d];
-        let size = fields::word_at(s, 8 + 4 * d);
+    for (&code, bytes) in question.iter().zip(s[8..8 + 4 * dims].chunks_exact(4)) {
+        let size = fields::word_at(bytes, 0);
         if code >= size && code != 65535 {
             return false;
         }

@@ -1,2 +1,3 @@
 -- Laws that serve several functions.
 pub mod Stands
+pub mod Chunks

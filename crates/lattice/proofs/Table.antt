@@ -44,6 +44,10 @@ table_is l e =
 pub table_at : (l : List ℕ) (k : ℕ) → right l ≡ true → get_or l k 0 ≡ get_or (sets 8) k 0
 table_at l k e = ap (λ (t : List ℕ). get_or t k 0) (table_is l e)
 
+-- the set that is read at a place of the lattice order
+pub set_read : {l : List ℕ} (k : ℕ) {s : ℕ} → l ≡ sets 8 → s ≡ get_or l k 0 → s ≡ get_or (sets 8) k 0
+set_read k e h = rw e at h
+
 pub all-sets : length (sets 8) ≡ 256
 unfolding sets ones ones_in
 all-sets = refl

@@ -21,6 +21,13 @@ const SETS: [u8; 256] = [
     223, 239, 247, 251, 253, 254, 255,
 ];
 
+// The sets of 8 dimensions in lattice order.
+pub fn in_order() -> &'static [u8; 256]
+    ensures { result.now ≡ sets 8 }
+{
+    &SETS
+}
+
 // The set at a place of the lattice order.
 pub fn set_at(k: usize) -> u32
     requires { k < 256 }

@@ -1,5 +1,5 @@
 -- What holds of the rows in the front of words holds of them as a slice, and back: the parts of `RowSlice::front` put in the place of the words, the number and the dimensions.
-use mathlib.Core.Path.{◌≡◌, sym, subst}
+use mathlib.Core.Path.{◌≡◌}
 use mathlib.Core.List.{List}
 use Prim.Native.Nat.{ℕ, ◌*◌}
 use lib.ListN.{take}

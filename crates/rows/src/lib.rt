@@ -1,10 +1,11 @@
 // Rows in one flat slice of words: row i of `dims` codes starts at i * (dims + 3); its codes, the low and the high word of its sum, its count.
 #![tactic(auto)]
 
-ghost use Rattle.std.specs.Prelude.{◌≡◌, ◌*◌, ◌<◌, ◌≤◌, length, take, drop};
+ghost use Rattle.std.specs.Prelude.{◌≡◌, ◌+◌, ◌*◌, ◌^◌, ◌<◌, ◌≤◌, length, take, drop};
 ghost use Rattle.rows.specs.Rows.{width, row_of, row_at};
 
 use cube::Total;
+use std::ops::Range;
 
 // How many words a total has.
 pub const TOTAL_WORDS: usize = 3;
@@ -41,10 +42,7 @@ impl<'a> RowSlice<'a> {
         requires { row < self.now.n }
         ensures { (result.now ≡ take (width self.now.dims) (drop (row * width self.now.dims) self.now.words.now)) × (length result.now ≡ width self.now.dims) }
     {
-        let width = self.dims + TOTAL_WORDS;
-        let from = row * width;
-        let to = from + width;
-        &self.words[from..to]
+        &self.words[places(self.dims, row)]
     }
 
     // The codes of a row.
@@ -66,6 +64,16 @@ impl<'a> RowSlice<'a> {
         let count = words[self.dims + 2];
         Total { sum, count }
     }
+}
+
+// The places that the words of a row have. A row to be written is cut out by its places: a function that lends a part to be written has no proof but one by hand.
+pub fn places(dims: usize, row: usize) -> Range<usize>
+    requires { row * width dims + width dims < 2 ^ 64 }
+    ensures { (result.start ≡ row * width dims) × (result.end ≡ row * width dims + width dims) }
+{
+    let width = dims + TOTAL_WORDS;
+    let from = row * width;
+    from..from + width
 }
 
 // Writes a total behind the codes of a row.

@@ -22,9 +22,8 @@ pub fn complete_slots(rows: &RowSlice, store: &mut [u16], sizes: &mut [usize])
     let passed = [0u32; 32];
     rows_columns::read_columns(rows, &mut columns);
     let all = lattice::sets_of(rows.dims as u32) - 1;
-    // By place: `set_at` alone says which set stands there.
-    for k in 0..256 {
-        let set = lattice::set_at(k);
+    for &set in lattice::in_order() {
+        let set = u32::from(set);
         if all <= set {
             continue;
         }

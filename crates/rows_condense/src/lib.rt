@@ -6,7 +6,6 @@ ghost use Rattle.lists.specs.Lists.{keep};
 ghost use Rattle.lattice.specs.Sets.{full};
 ghost use Rattle.cube.specs.Codes.{plain};
 ghost use Rattle.cube.specs.Condensed.{normals, Base};
-ghost use Rattle.rows.specs.Rows.{cut};
 ghost use Rattle.rows.specs.Slices.{codes};
 ghost use Rattle.rows_order.specs.Index.{key, Valid};
 ghost use Rattle.rows_slots.specs.Slots.{crowds, packed};
@@ -18,12 +17,10 @@ ghost use Rattle.rows_alone.specs.Alone.{is_new, Lower, Told};
 use rows::RowSlice;
 use rows_crowds::Slots;
 
-// One set more: its slot is filled, and it is put behind the lists of the rows that come out alone there and on no smaller set. Returns how many cells of it rows share. Thirteen parameters: the rows, their lists, and work arrays that are lent once a call.
+// One set more: its slot is filled, and it is put behind the lists of the rows that come out alone there and on no smaller set. Returns how many cells of it rows share. Eleven parameters: the rows, their lists, and work arrays that are lent once a call.
 #[tactic(auto, using(rows_crowds::proofs::Filling::below_all))]
 fn list_set(
-    rows: &[u32],
-    n: usize,
-    dims: usize,
+    rows: &RowSlice,
     columns: &[u32],
     set: u32,
     alone: &mut [u32],
@@ -35,21 +32,21 @@ fn list_set(
     lone: &mut [u32],
     lists: &mut [u8],
 ) -> usize
-    requires n_bound { (n ≤ 1024) × Valid dims (cut dims n rows.now) × (dims ≤ 8) × Columns dims n rows.now columns.now × (set < 2 ^ dims) × (1 ≤ set → Holds 2 dims n rows.now store.old sizes.old (shorter set)) }
+    requires n_bound { (rows.now.n ≤ 1024) × Valid rows.now.dims (codes rows.now) × (rows.now.dims ≤ 8) × Columns rows.now.dims rows.now.n rows.now.words.now columns.now × (set < 2 ^ rows.now.dims) × (1 ≤ set → Holds 2 rows.now.dims rows.now.n rows.now.words.now store.old sizes.old (shorter set)) }
     requires in_bounds { (262144 ≤ length store.old) × (256 ≤ length sizes.old) × (length order.old ≡ 1024) × (length marks.old ≡ 1024) × (length lone.old ≡ 1026) }
-    requires in_bounds_2 { (8192 ≤ length alone.old) × (length passed.old ≡ 32) × Lower dims n rows.now alone.old set }
-    requires n_in_bounds { (n * 71 ≤ length lists.old) × Short n lists.old × Fit (noted set (keep (is_new alone.old set) (left_out 2 (cut dims n rows.now) n set)) (lists_of n lists.old)) }
-    ensures filled { Filled 2 dims n rows.now store.old sizes.old store.new sizes.new set }
-    ensures told { Told dims n rows.now alone.old alone.new set }
-    ensures lists_after { (lists_of n lists.new ≡ noted set (keep (is_new alone.old set) (left_out 2 (cut dims n rows.now) n set)) (lists_of n lists.old)) × Short n lists.new }
-    ensures value { result ≡ ends (packed (crowds 2 (key set (cut dims n rows.now)) n)) }
+    requires in_bounds_2 { (8192 ≤ length alone.old) × (length passed.old ≡ 32) × Lower rows.now.dims rows.now.n rows.now.words.now alone.old set }
+    requires n_in_bounds { (rows.now.n * 71 ≤ length lists.old) × Short rows.now.n lists.old × Fit (noted set (keep (is_new alone.old set) (left_out 2 (codes rows.now) rows.now.n set)) (lists_of rows.now.n lists.old)) }
+    ensures filled { Filled 2 rows.now.dims rows.now.n rows.now.words.now store.old sizes.old store.new sizes.new set }
+    ensures told { Told rows.now.dims rows.now.n rows.now.words.now alone.old alone.new set }
+    ensures lists_after { (lists_of rows.now.n lists.new ≡ noted set (keep (is_new alone.old set) (left_out 2 (codes rows.now) rows.now.n set)) (lists_of rows.now.n lists.old)) × Short rows.now.n lists.new }
+    ensures value { result ≡ ends (packed (crowds 2 (key set (codes rows.now)) rows.now.n)) }
 {
     rows_alone::pass_rows(alone, set, passed);
     let left = rows_crowds::fill_set(
-        rows, n, dims, columns, 2, set, passed, store, sizes, order, marks, lone,
+        rows.words, rows.n, rows.dims, columns, 2, set, passed, store, sizes, order, marks, lone,
     );
     let new = &lone[..left];
-    rows_lists::note_lone(new, set as u8, lists, n);
+    rows_lists::note_lone(new, set as u8, lists, rows.n);
     rows_alone::add_rows(new, passed);
     rows_alone::put_words(passed, set as usize, alone);
     let slot = Slots { store, sizes }.slot_of(set as usize);
@@ -79,16 +76,13 @@ pub fn condense_rows(
     rows_columns::read_columns(rows, &mut columns);
     let all = lattice::sets_of(rows.dims as u32) - 1;
     let mut cells = 0;
-    // By place: `set_at` alone says which set stands there.
-    for k in 0..256 {
-        let set = lattice::set_at(k);
+    for &set in lattice::in_order() {
+        let set = u32::from(set);
         if all <= set {
             continue;
         }
         cells += list_set(
-            rows.words,
-            rows.n,
-            rows.dims,
+            rows,
             &columns,
             set,
             &mut alone,

@@ -29,10 +29,7 @@ fn store_row(s: &[u8], dims: usize, at: usize, i: usize, rows: &mut [u32])
     requires { (at + (4 * dims + 4) ≤ length s.now) × (i * width dims + width dims ≤ length rows.old) }
     ensures { rows_of dims (i + 1) rows.new ≡ rows_of dims i rows.old ++ record_there s.now dims at ∷ [] }
 {
-    let width = dims + rows::TOTAL_WORDS;
-    let from = i * width;
-    let to = from + width;
-    fill_row(&mut rows[from..to], s, dims, at);
+    fill_row(&mut rows[rows::places(dims, i)], s, dims, at);
 }
 
 // The rows from a place on into the array that is lent.

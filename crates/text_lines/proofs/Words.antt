@@ -1,42 +1,38 @@
--- The words from a place on as text, each by the same text of a word, and how a loop writes them: those from word i on are left.
-use mathlib.Core.Path.{◌≡◌}
+-- The words from a place on as text, each by the same text of a word, and how a loop writes them: the words of the bytes that are left are still to write.
+use mathlib.Core.Path.{◌≡◌, refl}
 use mathlib.Core.List.{List, ◌++◌, flat_map}
 use Prim.Native.Nat.{ℕ, ◌+◌, ◌-◌, ◌*◌, ◌≤◌, ◌<◌}
-use native.Mathlib.Numerals.{unary_clauses}
-use lib.ListN.{length}
+use lib.ListN.{length, take, drop}
 use borrow.Rule.Slice.PartMut.{mid_of, put_mid}
-use Rattle.fields.specs.Words.{word_at, words_at}
-use Rattle.fields.specs.WordsLaws.{words_at_on, words_at_done}
+use Rattle.fields.specs.Words.{word_at, words_at, words}
+use Rattle.fields.specs.WordsLaws.{words_none}
+use Rattle.fields.proofs.Chunks.{words_part, words_chunk}
 use Rattle.fields.specs.Written.{Wrote}
 use Rattle.archive_cells.specs.Writing.{Writing}
 use Rattle.archive_cells.specs.WritingLaws.{writing_none, writing_more, writing_room, writing_done}
 
 module _ (text : ℕ → List ℕ) (s : List ℕ) (n at : ℕ) where
-  -- the text of all words, and of those from word k on
+  -- the text of all words
   abbrev all : List ℕ
   all = flat_map text (words_at s n at)
 
-  abbrev from : ℕ → List ℕ
-  from k = flat_map text (words_at s (n - k) (at + 4 * k))
+  pub texts_none : {rest : List ℕ} (l : List ℕ) → at + 4 * n ≤ length s → rest ≡ take (4 * n) (drop at s) → Writing all (flat_map text (words rest)) l l 0
+  texts_none l h e = rw (e, words_part s n at h) (writing_none all l)
 
-  pub texts_none : (l : List ℕ) → Writing all (from 0) l l 0
-  texts_none l = simp unary_clauses (writing_none all l)
+  module _ (rest next x : List ℕ) {l m : List ℕ} {c done : ℕ} (w : Writing all (flat_map text (words rest)) l m done) (e : rest ≡ x ++ next) (k : length x ≡ 4) (v : c ≡ word_at x 0) where
+    -- the word that the loop reads, and what is left behind it
+    texts-next : flat_map text (words rest) ≡ text c ++ flat_map text (words next)
+    unfolding flat_map
+    texts-next = rw (e, words_chunk x next k, v) refl
 
-  -- the word that the loop reads, and what is left behind it
-  texts_next : {i c : ℕ} → i < n → c ≡ word_at s (at + 4 * i) → from i ≡ text c ++ from (i + 1)
-  unfolding flat_map
-  texts_next h e = rw (words_at_on s at h, e)
-
-  module _ {i : ℕ} {l m : List ℕ} {done : ℕ} (w : Writing all (from i) l m done) where
     -- there is room for one more word where there is room for all
-    pub texts_room : {c : ℕ} → i < n → c ≡ word_at s (at + 4 * i) → length all ≤ length l → done + length (text c) ≤ length m
-    texts_room {c} h e k = writing_room (text c) (from (i + 1)) (rw (texts_next h e) at w) k
+    pub texts_room : length all ≤ length l → done + length (text c) ≤ length m
+    texts_room h = writing_room (text c) (flat_map text (words next)) (rw texts-next at w) h
 
     -- one more is written over the front of the rest
-    pub texts_more : {c : ℕ} {r : List ℕ} {k : ℕ} → i < n → c ≡ word_at s (at + 4 * i) → Wrote (text c) (mid_of done (length m - done) m) r k
-        → Writing all (from (i + 1)) l (put_mid done (length m - done) m r) (done + k)
-    texts_more {c} h e v = writing_more (text c) (from (i + 1)) (rw (texts_next h e) at w) v
+    pub texts_more : {r : List ℕ} {j : ℕ} → Wrote (text c) (mid_of done (length m - done) m) r j → Writing all (flat_map text (words next)) l (put_mid done (length m - done) m r) (done + j)
+    texts_more u = writing_more (text c) (flat_map text (words next)) (rw texts-next at w) u
 
-    pub texts_done : n ≤ i → Wrote all l m done
-    unfolding flat_map
-    texts_done h = writing_done (rw (words_at_done s at h) at w)
+  pub texts_done : (rest : List ℕ) {l m : List ℕ} {done : ℕ} → Writing all (flat_map text (words rest)) l m done → length rest < 4 → Wrote all l m done
+  unfolding flat_map
+  texts_done rest w h = writing_done (rw (words_none rest h) at w)

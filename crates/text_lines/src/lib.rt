@@ -9,6 +9,8 @@ ghost use Rattle.fields.specs.Words.{words_at};
 ghost use Rattle.archive_entries.specs.Places.{row_there, base_there, width_there};
 ghost use Rattle.text_lines.specs.Lines.{code_text, row_text, set_text, base_text, cell_text, head_text};
 
+use archive_entries::Shape;
+
 // Writes a number, and the character that ends it.
 fn put_number(out: &mut [u8], n: u32, end: u8) -> usize
     requires { length (decimal n) + 1 ≤ length out.old }
@@ -76,10 +78,10 @@ fn put_words<T: Text>(out: &mut [u8], s: &[u8], at: usize, n: usize) -> usize
     requires at_in_bounds { length (flat_map T.text (words_at s.now n at)) ≤ length out.old }
     ensures { Wrote (flat_map T.text (words_at s.now n at)) out.old out.new result }
 {
+    let words = &s[at..at + 4 * n];
     let mut done = 0;
-    // By place: the words stand in bytes, and `word_at` reads one of them.
-    for i in 0..n {
-        let word = fields::word_at(s, at + 4 * i);
+    for bytes in words.chunks_exact(4) {
+        let word = fields::word_at(bytes, 0);
         done += T::put(&mut out[done..], word);
     }
     done
@@ -128,11 +130,11 @@ pub fn put_cell(out: &mut [u8], s: &[u8], at: usize, dims: usize) -> usize
 
 // Writes the first line: D, the base count, the normal count.
 #[tactic(auto, using(crate::proofs::Texts::head_text_length, crate::proofs::Texts::number_length))]
-pub fn put_head(out: &mut [u8], dims: u32, bases: u32, cells: u32) -> usize
-    requires { length (head_text dims bases cells) ≤ length out.old }
-    ensures { Wrote (head_text dims bases cells) out.old out.new result }
+pub fn put_head(out: &mut [u8], shape: Shape) -> usize
+    requires { length (head_text shape.dims shape.bases shape.cells) ≤ length out.old }
+    ensures { Wrote (head_text shape.dims shape.bases shape.cells) out.old out.new result }
 {
-    let mut done = put_number(out, dims, b' ');
-    done += put_number(&mut out[done..], bases, b' ');
-    done + put_number(&mut out[done..], cells, b'\n')
+    let mut done = put_number(out, shape.dims, b' ');
+    done += put_number(&mut out[done..], shape.bases, b' ');
+    done + put_number(&mut out[done..], shape.cells, b'\n')
 }

@@ -8,6 +8,8 @@ ghost use Rattle.archive_entries.specs.Reading.{read_archive};
 ghost use Rattle.text_lines.specs.Lines.{base_text, cell_text};
 ghost use Rattle.text_listing.specs.Listing.{listing, held_by, Accepted};
 
+use archive_entries::Shape;
+
 // Writes the lines of the base entries of an accepted archive.
 fn put_bases(out: &mut [u8], s: &[u8], dims: usize, bases: usize) -> usize
     requires by_index { (m : ℕ) × Accepted s.now dims bases m }
@@ -47,7 +49,7 @@ pub fn put_listing(out: &mut [u8], s: &[u8], bases: u32, cells: u32) -> usize
     ensures { Wrote (listing (held_by (read_archive s.now))) out.old out.new result }
 {
     let dims = fields::word_at(s, 4);
-    let mut done = text_lines::put_head(out, dims, bases, cells);
+    let mut done = text_lines::put_head(out, Shape { dims, bases, cells });
     done += put_bases(&mut out[done..], s, dims as usize, bases as usize);
     done + put_cells(&mut out[done..], s, dims as usize, cells as usize)
 }

@@ -1,10 +1,9 @@
 -- `archive_entries::store_row` meets its contract: the row's words are those of the entry's fields.
-use mathlib.Core.Path.{◌≡◌, ap, ◌∙◌}
-use Prim.Native.Nat.{ℕ, ◌+◌, ◌*◌, ◌-◌}
+use mathlib.Core.Path.{◌≡◌}
+use Prim.Native.Nat.{◌+◌, ◌*◌, ◌-◌}
 use native.Mathlib.Omega.{arith}
 use lib.ListN.{length, take, drop, length-drop}
 use lib.Seq.{length-take-le}
-use Rattle.fields.specs.Words.{words_at}
 use Rattle.rows.specs.Rows.{width}
 use Rattle.archive_entries.proofs.Storing.{row_read}
 use Rattle.archive_entries.proofs.store_row.Goals as goal
@@ -18,9 +17,11 @@ part c =
     rw e (length-take-le (width a.dims) (drop (a.i * width a.dims) a.rows.now) (simp length-drop (omega (arith, c.requires.1))))
 
 pub read_words-requires : goal.read_words-requires
-read_words-requires c = rw (part (goal.at.read_words-requires c).Start) c.requires.0
+read_words-requires c = rw (c.places.ensures.0, c.places.ensures.1, part (goal.at.read_words-requires c).Start) c.requires.0
 
 pub returns : goal.returns
 returns c =
     let a = c.args in
-    row_read a.s.now a.dims a.at a.i a.rows.now _ c.requires.1 (c.read_words.ensures ∙ ap (λ (n : ℕ). words_at a.s.now n a.at) (part (goal.at.returns c).Start))
+    let e = c.read_words.ensures in
+    let read = rw (c.places.ensures.0, c.places.ensures.1, part (goal.at.returns c).Start) at e in
+    rw (c.places.ensures.0, c.places.ensures.1) (row_read a.s.now a.dims a.at a.i a.rows.now _ c.requires.1 read)

@@ -5,6 +5,6 @@ use Rattle.archive_cells.proofs.Turns.{turns}
 use Rattle.archive_normals.specs.Normals.{shared_bytes, common_bytes}
 use Rattle.archive_normals.proofs.match_common.Given as goal
 
-abbrev pub invariant-loop-k : goal.invariant-loop-k
-invariant-loop-k l =
-    Matching (common_bytes l.rows.dims (held l.rows)) (turns (shared_bytes l.rows.dims (held l.rows)) (full l.rows.dims) l.k) l.s l.start l.at
+abbrev pub invariant-loop-set : goal.invariant-loop-set
+invariant-loop-set l =
+    Matching (common_bytes l.rows.dims (held l.rows)) (turns (shared_bytes l.rows.dims (held l.rows)) (full l.rows.dims) l.set-index) l.s l.start l.at

@@ -4,6 +4,7 @@ use Prim.Native.Nat.{◌+◌, ◌^◌, ◌≤◌, ◌<◌}
 use native.Mathlib.Omega.{arith}
 use mathlib.Core.List.{List}
 use lib.ListN.{length, length-take, length-drop}
+use Rattle.lattice.proofs.Table.{set_read}
 use Rattle.rows.specs.Slices.{held}
 use Rattle.archive_cells.specs.Writing.{Writing}
 use Rattle.archive_cells.specs.WritingLaws.{writing_none}
@@ -14,25 +15,25 @@ use Rattle.call_expansion.proofs.put_expansion.Goals as goal
 use Rattle.call_expansion.proofs.put_expansion.Goals.{Else-all-set}
 
 -- the set has its turn, and there is room for its cuboid
-has-turn : (c : goal.Else-all-set) → c.set_at-set.result < 2 ^ c.args.rows.now.dims
+has-turn : (c : goal.Else-all-set) → c.from-set.result < 2 ^ c.args.rows.now.dims
 has-turn c = omega (arith, c.if-all-set.false, c.sets_of-all.ensures)
 
 room : (c : goal.Else-all-set) → (let a = c.args in
-    c.loop-k.at + length (cuboid_bytes a.rows.now.dims (held a.rows.now) c.set_at-set.result) ≤ length c.loop-k.out)
-room c = write_room _ (2 ^ c.args.rows.now.dims) c.loop-k-test.true c.set_at-set.ensures c.loop-k.invariant.1 (has-turn c) c.requires.rows_in_bounds
+    c.loop-set.at + length (cuboid_bytes a.rows.now.dims (held a.rows.now) c.from-set.result) ≤ length c.loop-set.out)
+room c = write_room _ (2 ^ c.args.rows.now.dims) c.loop-set-test.true (set_read _ c.in_order-set-items.ensures c.from-set.ensures) c.loop-set.invariant (has-turn c) c.requires.rows_in_bounds
 
-pub loop-k-init : goal.loop-k-init
-loop-k-init c =
+pub loop-set-init : goal.loop-set-init
+loop-set-init c =
     let a = c.args in
     let rows = held a.rows.now in
     let all = expansion_bytes a.rows.now.dims rows in
-    (omega arith, subst (λ (x : List _). Writing all x a.out.now a.out.now 0) (sym (turns_start a.rows.now.dims rows c.requires.slotted.ready.dims)) (writing_none all a.out.now))
+    subst (λ (x : List _). Writing all x a.out.now a.out.now 0) (sym (turns_start a.rows.now.dims rows c.requires.slotted.ready.dims)) (writing_none all a.out.now)
 
-pub loop-k-preserved-then-all-set : goal.loop-k-preserved-then-all-set
-loop-k-preserved-then-all-set c =
+pub loop-set-preserved-then-all-set : goal.loop-set-preserved-then-all-set
+loop-set-preserved-then-all-set c =
     let a = c.args in
-    let k = c.loop-k-test.true in
-    (omega (arith, k), write_skip _ (2 ^ a.rows.now.dims) k c.set_at-set.ensures c.loop-k.invariant.1 (omega (arith, c.if-all-set.true, c.sets_of-all.ensures)))
+    let k = c.loop-set-test.true in
+    write_skip _ (2 ^ a.rows.now.dims) k (set_read _ c.in_order-set-items.ensures c.from-set.ensures) c.loop-set.invariant (omega (arith, c.if-all-set.true, c.sets_of-all.ensures))
 
 pub put_cuboid-at-requires-clause-set_in_bounds : goal.put_cuboid-at-requires-clause-set_in_bounds
 put_cuboid-at-requires-clause-set_in_bounds c = simp (length-take, length-drop) (omega (arith, room (goal.at.put_cuboid-at-requires-clause-set_in_bounds c).Else-all-set))
@@ -40,11 +41,11 @@ put_cuboid-at-requires-clause-set_in_bounds c = simp (length-take, length-drop) 
 pub overflow_add-at : goal.overflow_add-at
 overflow_add-at c = omega (arith, room (goal.at.overflow_add-at c).Else-all-set, c.put_cuboid-at.ensures.count)
 
-pub loop-k-preserved : goal.loop-k-preserved
-loop-k-preserved c =
+pub loop-set-preserved : goal.loop-set-preserved
+loop-set-preserved c =
     let a = c.args in
-    let k = c.loop-k-test.true in
-    (omega (arith, k), write_more _ (2 ^ a.rows.now.dims) k c.set_at-set.ensures c.loop-k.invariant.1 (has-turn (goal.at.loop-k-preserved c).Else-all-set) c.put_cuboid-at.ensures)
+    let k = c.loop-set-test.true in
+    write_more _ (2 ^ a.rows.now.dims) k (set_read _ c.in_order-set-items.ensures c.from-set.ensures) c.loop-set.invariant (has-turn (goal.at.loop-set-preserved c).Else-all-set) c.put_cuboid-at.ensures
 
 pub returns : goal.returns
-returns c = write_done _ (2 ^ c.args.rows.now.dims) c.loop-k.invariant.1 c.loop-k-test.false
+returns c = write_done _ (2 ^ c.args.rows.now.dims) c.loop-set.invariant c.loop-set-test.false

@@ -9,7 +9,6 @@ use Rattle.archive_cells.specs.ListBytes.{list_bytes}
 use Rattle.call_ask.proofs.Opened.{opened_of}
 use Rattle.call_keys.proofs.Bare.{least-bare, bare-short}
 use Rattle.call_keys.proofs.Outcomes.{laid, shared_in}
-use borrow.Author.Rules.{rules}
 use Rattle.call_keys.proofs.keys_read.Goals as goal
 
 pub fit_bare-requires : goal.fit_bare-requires

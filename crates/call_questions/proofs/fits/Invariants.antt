@@ -1,12 +1,12 @@
 use mathlib.Core.Path.{◌≡◌}
-use Prim.Native.Nat.{◌≤◌, ◌-◌}
-use lib.ListN.{drop}
-use Rattle.fields.specs.Words.{words_at}
+use Prim.Native.Nat.{◌*◌}
+use lib.ListN.{length}
+use Rattle.fields.specs.Words.{words, words_at}
 use Rattle.call_questions.specs.Questions.{asks}
 use Rattle.call_questions.proofs.fits.Given as goal
 
-abbrev pub invariant-loop-d : goal.invariant-loop-d
-invariant-loop-d l = (l.d ≤ l.dims) × (asks (drop l.d (words_at l.s l.dims 8)) (drop l.d l.question) ≡ asks (words_at l.s l.dims 8) l.question)
-
-abbrev pub decreases-loop-d : goal.decreases-loop-d
-decreases-loop-d l = l.dims - l.d
+abbrev pub invariant-loop-code : goal.invariant-loop-code
+invariant-loop-code l =
+    let bytes = l.code-iterator.b.rest.now in
+    let codes = l.code-iterator.a.rest.now in
+    (l.code-iterator.b.size ≡ 4) × (length bytes ≡ 4 * length codes) × (asks (words bytes) codes ≡ asks (words_at l.s l.dims 8) l.question)

@@ -1,13 +1,9 @@
 -- `call_window::window_read` meets its contract: the window and the question are tested in their order, and a look-up answers, without its entry's number.
-use mathlib.Core.Path.{◌≡◌, sym, ap, ◌∙◌}
-use mathlib.Core.Bool.{true}
+use mathlib.Core.Path.{◌≡◌, sym, ◌∙◌}
 use Prim.Native.Nat.{ℕ}
 use native.Mathlib.Omega.{arith}
-use borrow.Author.Tests.{not-true, not-false}
 use Rattle.std.specs.Prelude.{Option, Result}
 use Rattle.stops.proofs.Handed.{handed}
-use Rattle.fields.specs.Words.{words_at}
-use Rattle.call_questions.specs.Questions.{asks}
 use Rattle.call_questions.specs.declared.Cell.{Cell}
 use Rattle.call_answers.specs.Calls.{looks_up}
 use Rattle.call_ask.proofs.Opened.{OpenedIn, opened_of}

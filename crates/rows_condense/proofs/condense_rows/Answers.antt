@@ -1,11 +1,13 @@
--- `rows_condense::condense_rows` meets its contract: before the set at place k the slots of the sets that had a turn are filled, the rows that are single on these are told, the
+-- `rows_condense::condense_rows` meets its contract: before each set the slots of the sets that had a turn are filled, the rows that are single on these are told, the
 -- lists are ours for these, and so many shared cells have been counted as these have.
-use mathlib.Core.Path.{sym, ap, ap₂, ◌∙◌}
+use mathlib.Core.Path.{◌≡◌, sym, ap, ap₂, ◌∙◌}
 use Prim.Native.Nat.{ℕ, zero, suc, ◌+◌, ◌≤◌, ◌<◌}
 use native.Mathlib.Omega.{arith}
 use lib.Pow.{pow_mono}
-use Rattle.lattice.specs.Sets.{full}
+use lib.ListN.{get_or}
+use Rattle.lattice.specs.Sets.{sets, full}
 use Rattle.lattice.proofs.Sets.{full-lt}
+use Rattle.lattice.proofs.Table.{set_read}
 use Rattle.cube.specs.Codes.{plain}
 use Rattle.rows.specs.Slices.{codes}
 use Rattle.rows.proofs.Rows.{cut-length}
@@ -15,7 +17,7 @@ use Rattle.rows_crowds.proofs.Turns.{filling_start, filling_skip, filling_shorte
 use Rattle.rows_condense.proofs.Listing.{Given, listing_start, listing_skip, listing_lower, listing_fit, listing-more, listing-few, listing-done}
 use borrow.Author.Rules.{rules}
 use Rattle.rows_condense.proofs.condense_rows.Goals as goal
-use Rattle.rows_condense.proofs.condense_rows.Goals.{After-sets_of-all, Else-all-set}
+use Rattle.rows_condense.proofs.condense_rows.Goals.{After-sets_of-all, After-from-set, Else-all-set}
 
 -- the base rows, and how many sets have a turn
 base : (c : goal.After-sets_of-all) → let r = c.args.rows.now in Given r.dims r.n r.words.now
@@ -24,8 +26,12 @@ base c = let p = c.requires.n_bound in record { dims = p.1; few = p.0; size = c.
 few : (c : goal.After-sets_of-all) → full c.args.rows.now.dims ≤ 256
 few c = omega (arith, full-lt c.args.rows.now.dims, pow_mono {i = c.args.rows.now.dims} {j = 8} c.requires.n_bound.1)
 
--- the set has its turn
-below : (c : goal.Else-all-set) → c.set_at-set.result < full c.args.rows.now.dims
+-- the set whose turn it is
+turn : (c : goal.After-from-set) → c.from-set.result ≡ get_or (sets 8) c.loop-set.set-index 0
+turn c = set_read _ c.in_order-set-items.ensures (omega (arith, c.from-set.ensures))
+
+-- it has one
+below : (c : goal.Else-all-set) → c.from-set.result < full c.args.rows.now.dims
 below c = omega (arith, c.if-all-set.false, c.sets_of-all.ensures)
 
 -- the lists and the common cells when all sets had their turn, and how many cells there are then
@@ -33,32 +39,34 @@ one : (n : ℕ) → blanks n ≤ 1
 one zero = omega arith
 one (suc n) = omega arith
 
-all_listed : (c : goal.After-blanks) → blanks c.args.rows.now.n + c.loop-k.cells ≤ 262145
+all_listed : (c : goal.After-blanks) → blanks c.args.rows.now.n + c.loop-set.cells ≤ 262145
 all_listed c =
     let p = c.requires.n_bound in
     let r = c.args.rows.now in
     let g : Given r.dims r.n r.words.now = record { dims = p.1; few = p.0; size = r.whole; base = p.2 } in
-    omega (arith, one r.n, listing-few g c.loop-k.invariant.1)
+    omega (arith, one r.n, listing-few g c.loop-set.invariant.1)
 
-pub loop-k-init : goal.loop-k-init
-loop-k-init c = (filling_start (few c) c.args.store.now c.args.sizes.now, listing_start (base c) _ _ c.clear_lists.ensures)
+pub loop-set-init : goal.loop-set-init
+loop-set-init c =
+    let all = (goal.at.loop-set-init c).After-sets_of-all in
+    (filling_start (few all) c.args.store.now c.args.sizes.now, listing_start (base all) _ _ c.clear_lists.ensures)
 
-pub loop-k-preserved-then-all-set : goal.loop-k-preserved-then-all-set
-loop-k-preserved-then-all-set c =
-    let v = c.loop-k.invariant in
-    let h = c.loop-k-test.true in
-    let e = c.set_at-set.ensures in
-    let f : full c.args.rows.now.dims ≤ c.set_at-set.result = omega (arith, c.if-all-set.true, c.sets_of-all.ensures) in
-    let all = (goal.at.loop-k-preserved-then-all-set c).After-sets_of-all in
+pub loop-set-preserved-then-all-set : goal.loop-set-preserved-then-all-set
+loop-set-preserved-then-all-set c =
+    let v = c.loop-set.invariant in
+    let h = c.loop-set-test.true in
+    let e = turn (goal.at.loop-set-preserved-then-all-set c).After-from-set in
+    let f : full c.args.rows.now.dims ≤ c.from-set.result = omega (arith, c.if-all-set.true, c.sets_of-all.ensures) in
+    let all = (goal.at.loop-set-preserved-then-all-set c).After-sets_of-all in
     (filling_skip (few all) v.0 h e f, listing_skip (base all) v.1 h e f)
 
 pub list_set-cells-requires : goal.list_set-cells-requires
 list_set-cells-requires c =
     let p = c.requires in
-    let l = c.loop-k in
+    let l = c.loop-set in
     let v = l.invariant in
-    let h = c.loop-k-test.true in
-    let e = c.set_at-set.ensures in
+    let h = c.loop-set-test.true in
+    let e = turn (goal.at.list_set-cells-requires c).After-from-set in
     let f = below (goal.at.list_set-cells-requires c).Else-all-set in
     let all = (goal.at.list_set-cells-requires c).After-sets_of-all in
     let g = base all in
@@ -73,15 +81,15 @@ pub overflow_add-cells : goal.overflow_add-cells
 overflow_add-cells c =
     let all = (goal.at.overflow_add-cells c).After-sets_of-all in
     let r = c.list_set-cells.ensures in
-    omega (arith, listing-few (base all) (listing-more (base all) c.loop-k.invariant.1 c.loop-k-test.true c.set_at-set.ensures (below (goal.at.overflow_add-cells c).Else-all-set) r.told r.lists_after r.value))
+    omega (arith, listing-few (base all) (listing-more (base all) c.loop-set.invariant.1 c.loop-set-test.true (turn (goal.at.overflow_add-cells c).After-from-set) (below (goal.at.overflow_add-cells c).Else-all-set) r.told r.lists_after r.value))
 
-pub loop-k-preserved : goal.loop-k-preserved
-loop-k-preserved c =
-    let v = c.loop-k.invariant in
-    let h = c.loop-k-test.true in
-    let e = c.set_at-set.ensures in
-    let f = below (goal.at.loop-k-preserved c).Else-all-set in
-    let all = (goal.at.loop-k-preserved c).After-sets_of-all in
+pub loop-set-preserved : goal.loop-set-preserved
+loop-set-preserved c =
+    let v = c.loop-set.invariant in
+    let h = c.loop-set-test.true in
+    let e = turn (goal.at.loop-set-preserved c).After-from-set in
+    let f = below (goal.at.loop-set-preserved c).Else-all-set in
+    let all = (goal.at.loop-set-preserved c).After-sets_of-all in
     let r = c.list_set-cells.ensures in
     (filling_more (few all) v.0 h e f r.filled, listing-more (base all) v.1 h e f r.told r.lists_after r.value)
 
@@ -91,11 +99,11 @@ overflow_add-result c = omega (arith, all_listed c, c.blanks.ensures)
 pub returns : goal.returns
 returns c =
     let r = c.args.rows.now in
-    let v = c.loop-k.invariant in
+    let v = c.loop-set.invariant in
     let all = (goal.at.returns c).After-sets_of-all in
-    let w = listing-done (base all) v.1 c.loop-k-test.false in
+    let w = listing-done (base all) v.1 c.loop-set-test.false in
     record {
-      all_hold = filling_done (few all) v.0 c.loop-k-test.false;
+      all_hold = filling_done (few all) v.0 c.loop-set-test.false;
       lists_after = (w.0, v.1.short);
       value = ap₂ ◌+◌ (c.blanks.ensures ∙ ap blanks (sym (cut-length r.dims r.n r.words.now))) w.1 ∙ sym (normals-count (plain r.dims) (codes r));
     }

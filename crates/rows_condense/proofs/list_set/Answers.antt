@@ -8,7 +8,7 @@ use lib.Dec.{eqb}
 use lib.ListN.{get_or, take}
 use Rattle.lists.specs.Lists.{some, keep}
 use Rattle.lists.proofs.Members.{at_in, keep_in}
-use Rattle.rows.specs.Rows.{cut}
+use Rattle.rows.specs.Slices.{codes}
 use Rattle.rows_bits.specs.Rowsets.{has}
 use Rattle.rows_deals.specs.Deals.{Names}
 use Rattle.rows_crowds.specs.Crowds.{left_out}
@@ -28,7 +28,7 @@ new-named alone xs n s i h =
     let new = new-rows alone xs n s in
     (left_in 2 xs n s (get_or new i 0) (keep_in (is_new alone s) (left_out 2 xs n s) (at_in 0 new i h)).0).0
 
-left-new : (c : goal.After-fill_set-left) → let a = c.args in take c.fill_set-left.result c.fill_set-left.new.lone ≡ new-rows a.alone.now (cut a.dims a.n a.rows.now) a.n a.set
+left-new : (c : goal.After-fill_set-left) → let a = c.args in take c.fill_set-left.result c.fill_set-left.new.lone ≡ new-rows a.alone.now (codes a.rows.now) a.rows.now.n a.set
 left-new c = c.fill_set-left.ensures.lone_after.0 ∙ lower_new c.requires.in_bounds_2.2 c.pass_rows.new.passed c.pass_rows.ensures.1
 
 pub fill_set-left-requires-clause-dims_bound : goal.fill_set-left-requires-clause-dims_bound
@@ -43,16 +43,16 @@ note_lone-requires c =
     let p = c.requires.n_in_bounds in
     let e = sym (left-new (goal.at.note_lone-requires c).After-fill_set-left) in
     record {
-      n_in_bounds = (p.0, p.1, subst (λ (l : List ℕ). Names l a.n) e (new-named a.alone.now (cut a.dims a.n a.rows.now) a.n a.set));
-      fit = subst (λ (l : List ℕ). Fit (noted a.set l (lists_of a.n a.lists.now))) e p.2;
+      n_in_bounds = (p.0, p.1, subst (λ (l : List ℕ). Names l a.rows.now.n) e (new-named a.alone.now (codes a.rows.now) a.rows.now.n a.set));
+      fit = subst (λ (l : List ℕ). Fit (noted a.set l (lists_of a.rows.now.n a.lists.now))) e p.2;
     }
 
 pub add_rows-requires : goal.add_rows-requires
 add_rows-requires c =
     let a = c.args in
-    let xs = cut a.dims a.n a.rows.now in
+    let xs = codes a.rows.now in
     let few = c.requires.n_bound.0 in
-    let names : Names (new-rows a.alone.now xs a.n a.set) 1024 = λ i h. omega (arith, new-named a.alone.now xs a.n a.set i h, few) in
+    let names : Names (new-rows a.alone.now xs a.rows.now.n a.set) 1024 = λ i h. omega (arith, new-named a.alone.now xs a.rows.now.n a.set i h, few) in
     (subst (λ (l : List ℕ). Names l 1024) (sym (left-new (goal.at.add_rows-requires c).After-fill_set-left)) names, c.pass_rows.ensures.0)
 
 pub returns-clause-told : goal.returns-clause-told
@@ -62,5 +62,5 @@ returns-clause-told c =
     let w = c.add_rows in
     let passed = r.new.passed in
     let e = left-new (goal.at.returns-clause-told c).After-fill_set-left in
-    let n : (x : ℕ) → has w.new.words x ≡ some (eqb x) (new-rows a.alone.now (cut a.dims a.n a.rows.now) a.n a.set) || has passed x = λ x. w.ensures.1 x ∙ ap (λ (l : List ℕ). some (eqb x) l || has passed x) e in
+    let n : (x : ℕ) → has w.new.words x ≡ some (eqb x) (new-rows a.alone.now (codes a.rows.now) a.rows.now.n a.set) || has passed x = λ x. w.ensures.1 x ∙ ap (λ (l : List ℕ). some (eqb x) l || has passed x) e in
     lower_told c.requires.in_bounds_2.2 passed r.ensures.1 w.new.words c.put_words.new.alone n c.put_words.ensures

@@ -13,5 +13,5 @@ pub returns : goal.returns
 returns c =
     let a = c.args in
     let d = length a.mine.now in
-    row-stored d a.k a.cells.now _ (search rules) c.requires
-    ∙ ap (λ (r : Row Total). rows_of d a.k a.cells.now ++ r ∷ []) c.fill_row.ensures
+    rw (c.places.ensures.0, c.places.ensures.1)
+    (row-stored d a.k a.cells.now c.fill_row.new.row (search rules) c.requires ∙ ap (λ (r : Row Total). rows_of d a.k a.cells.now ++ r ∷ []) c.fill_row.ensures)

@@ -11,5 +11,5 @@ use Rattle.table_rows.proofs.store_row.Goals as goal
 pub returns : goal.returns
 returns c =
     let a = c.args in
-    row-stored a.dims a.i a.rows.now _ (search rules) c.requires.1
-    ∙ ap (λ (r : Row Total). rows_of a.dims a.i a.rows.now ++ r ∷ []) c.fill_row.ensures
+    rw (c.places.ensures.0, c.places.ensures.1)
+    (row-stored a.dims a.i a.rows.now c.fill_row.new.row (search rules) c.requires.1 ∙ ap (λ (r : Row Total). rows_of a.dims a.i a.rows.now ++ r ∷ []) c.fill_row.ensures)

@@ -5,6 +5,6 @@ use Rattle.text_lines.proofs.put_head.Goals as goal
 
 pub returns : goal.returns
 returns c =
-    let a = c.args in
-    rw (head_text_is a.dims a.bases a.cells)
+    let shape = c.args.shape in
+    rw (head_text_is shape.dims shape.bases shape.cells)
     (wrote_then (wrote_then c.put_number-done.ensures c.put_number-done-2.ensures) c.put_number.ensures)

@@ -1,5 +1,5 @@
 -- `rows::RowSlice::words_at` meets its contract: a row's places are within the flat list.
-use mathlib.Core.Path.{◌≡◌, ap, ◌∙◌}
+use mathlib.Core.Path.{◌≡◌, ap, ap₂, ◌∙◌}
 use Prim.Native.Nat.{ℕ, ◌+◌, ◌*◌, ◌-◌, ◌≤◌}
 use native.Mathlib.Omega.{arith}
 use lib.ListN.{length, take, drop, length-drop}
@@ -12,26 +12,21 @@ use Rattle.rows.proofs.RowSlice.words_at.Goals.{Start}
 within : (c : goal.Start) → (let s = c.args.self.now in c.args.row * width s.dims + width s.dims ≤ s.n * width s.dims)
 within c = row_within (width c.args.self.now.dims) c.args.self.now.n c.args.row c.requires
 
-pub overflow_add-width : goal.overflow_add-width
-overflow_add-width c = omega (arith, within (goal.at.overflow_add-width c).Start, c.args.self.now.whole, c.ranges)
+pub places-requires : goal.places-requires
+places-requires c = omega (arith, within (goal.at.places-requires c).Start, c.args.self.now.whole, c.ranges)
 
-pub overflow_mul-from : goal.overflow_mul-from
-overflow_mul-from c = omega (arith, within (goal.at.overflow_mul-from c).Start)
-
-pub overflow_add-to : goal.overflow_add-to
-overflow_add-to c = omega (arith, within (goal.at.overflow_add-to c).Start)
-
-pub offset_bounds-self-from : goal.offset_bounds-self-from
-offset_bounds-self-from c = omega (arith, within (goal.at.offset_bounds-self-from c).Start)
+pub offset_bounds-self-places : goal.offset_bounds-self-places
+offset_bounds-self-places c = omega (arith, within (goal.at.offset_bounds-self-places c).Start, c.args.self.now.whole, c.places.ensures.0)
 
 pub slice_bounds-result-end : goal.slice_bounds-result-end
-slice_bounds-result-end c = omega (arith, within (goal.at.slice_bounds-result-end c).Start)
+slice_bounds-result-end c = omega (arith, within (goal.at.slice_bounds-result-end c).Start, c.args.self.now.whole, c.places.ensures.1)
 
 pub returns : goal.returns
 returns c =
     let s = c.args.self.now in
     let from = c.args.row * width s.dims in
     let rest = drop from s.words.now in
-    let size : from + width s.dims - from ≡ width s.dims = omega arith in
-    let e = ap (λ (k : ℕ). take k rest) size in
-    (e, ap length e ∙ length-take-le (width s.dims) rest (simp length-drop (omega (arith, within (goal.at.returns c).Start, c.args.self.now.whole))))
+    let p = c.places.ensures in
+    let size : c.places.result.end - c.places.result.start ≡ width s.dims = omega (arith, p.0, p.1) in
+    let e = ap₂ (λ (k j : ℕ). take k (drop j s.words.now)) size p.0 in
+    (e, ap length e ∙ length-take-le (width s.dims) rest (simp length-drop (omega (arith, within (goal.at.returns c).Start, s.whole))))
