@@ -119,5 +119,10 @@ pub fn readings_in(rows: &RowSlice) -> u32
     requires { count_of (held rows.now) ≤ most }
     ensures { result ≡ count_of (held rows.now) }
 {
-    (0..rows.n).map(|row| rows.total_at(row).count).sum()
+    // Not by `sum`: its start is the library's, so that no must-fail edit reaches it.
+    let mut all = 0;
+    for row in 0..rows.n {
+        all += rows.total_at(row).count;
+    }
+    all
 }
