@@ -23,7 +23,7 @@ fn put_shared(out: &mut [u8], rows: &RowSlice, set: u32, slots: &Slots) -> usize
     archive_groups::put_groups(out, rows, set, slot)
 }
 
-// Writes the normal entries of all sets.
+// Writes the normal entries of all sets. `call_expansion::put_expansion` is like it, of other sets: one loop over a closure that writes would ask of it what it writes and for how much room.
 fn put_common(out: &mut [u8], rows: &RowSlice, slots: &Slots) -> usize
     requires grouped { Grouped rows.now.dims rows.now.n rows.now.words.now slots.now.store.now slots.now.sizes.now }
     requires rows_in_bounds { length (common_bytes rows.now.dims (held rows.now)) ≤ length out.old }

@@ -9,7 +9,7 @@ ghost use Rattle.archive_sections.specs.Sections.{word_there, bases_from, cells_
 
 use stops::Stop;
 
-// The word at a place, 0 where the input ends before it: a reader asks for one behind sections that are right, where it never does.
+// The word at a place, 0 where the input ends before it: a reader asks for one behind sections that are right, where it never does. By its clause it cannot fail, so it answers no `Option`.
 pub fn word_there(s: &[u8], at: usize) -> u32
     ensures { result ≡ word_there s.now at }
 {

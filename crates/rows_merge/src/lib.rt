@@ -119,7 +119,7 @@ pub fn readings_in(rows: &RowSlice) -> u32
     requires { count_of (held rows.now) ≤ most }
     ensures { result ≡ count_of (held rows.now) }
 {
-    // Not by `sum`: its start is the library's, so that no must-fail edit reaches it.
+    // A loop, and no `sum`: the start, 0, is written here, where a wrong one is refused.
     let mut all = 0;
     for row in 0..rows.n {
         all += rows.total_at(row).count;

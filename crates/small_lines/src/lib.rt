@@ -6,7 +6,7 @@ ghost use Rattle.fields.specs.Written.{Wrote};
 ghost use Rattle.small_model.specs.Tally.{tally};
 ghost use Rattle.small_lines.specs.Lines.{gap, pair_text, text_from};
 
-// Writes a space and a number.
+// Writes a space and a number. `text_lines::put_set` is like it, of a set: one function below both would bring a third definition beside `gap` and `set_text`.
 #[tactic(auto, using(crate::proofs::Texts::gap_length))]
 fn put_gap(out: &mut [u8], n: u64) -> usize
     requires { length (gap n) ≤ length out.old }

@@ -14,7 +14,7 @@ pub fn put_character(out: &mut [u8], c: u8) -> usize
     1
 }
 
-// Writes a number: the digits of its tenth part, then its last digit.
+// Writes a number: the digits of its tenth part, then its last digit. By hand: what `Display` writes is told of a `String` alone, which needs a heap.
 #[tactic(auto, using(crate::proofs::Digits::length_more))]
 pub fn put_decimal(out: &mut [u8], n: u64) -> usize
     requires { length (decimal n) ≤ length out.old }
