@@ -1,6 +1,6 @@
 use Rattle.std.proofs.Common.{◌≡◌, ◌%◌, length}
 use Rattle.fields_check.proofs.Summed.{Summed}
-use Rattle.fields_check.proofs.sum_blocks.Given as goal
+use Rattle.fields_check.proofs.check_word.Given as goal
 
 abbrev pub invariant-loop-block : goal.invariant-loop-block
 invariant-loop-block l =

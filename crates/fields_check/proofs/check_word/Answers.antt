@@ -1,11 +1,11 @@
--- `fields_check::sum_blocks` meets its contract: whole blocks, and the bytes behind them.
+-- `fields_check::check_word` meets its contract: whole blocks, and the bytes behind them.
 use Rattle.std.proofs.Common.{◌≡◌, arith, ◌∙◌, ap, length, length-append}
 use Rattle.fields_check.specs.Check.{check_of}
 use Rattle.fields_check.specs.CheckLaws.{check_lt}
 use Rattle.fields_check.proofs.Summed.{summed-none, summed_on, summed-all}
 use Rattle.fields_check.proofs.CheckLaws.{check_split}
-use Rattle.fields_check.proofs.sum_blocks.Goals as goal
-use Rattle.fields_check.proofs.sum_blocks.Goals.{After-into_iter-block-iterator}
+use Rattle.fields_check.proofs.check_word.Goals as goal
+use Rattle.fields_check.proofs.check_word.Goals.{After-into_iter-block-iterator}
 
 -- the loop goes over all whole blocks
 all : (c : goal.After-into_iter-block-iterator) → c.into_iter-block-iterator.result.rest.now ≡ c.split_at.result.0.now
