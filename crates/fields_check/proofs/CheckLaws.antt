@@ -24,7 +24,7 @@ check_append k a b e = ap check_sum (words_append k a b e) ∙ check_sum_append 
 pub check_split : {s : List ℕ} (front behind : List ℕ) → s ≡ front ++ behind → length front % 4 ≡ 0 → check_of s ≡ (check_of front + check_of behind) % 2 ^ 32
 check_split {s} front behind e h = ap check_of e ∙ check_append (length front / 4) front behind (omega arith)
 
--- bytes that are no word, one word, and four words
+-- bytes that are no word, and one word
 pub check_none : (x : List ℕ) → length x < 4 → check_of x ≡ 0
 unfolding check_of
 check_none x h = ap check_sum (words_none x h)
@@ -33,15 +33,3 @@ pub check_one : (x : List ℕ) → length x ≡ 4 → check_of x ≡ word_at x 0
 unfolding check_of
 check_one x e =
     omega (arith, ap words_sum (words_cons x 0 (omega arith)), ap words_sum (words_none (drop 4 x) (simp length-drop (omega arith))))
-
-pub check_four : (x : List ℕ) → length x ≡ 16 → check_of x ≡ (word_at x 0 + word_at x 4 + word_at x 8 + word_at x 12) % 2 ^ 32
-unfolding check_of
-check_four x e =
-    omega (
-      arith,
-      ap words_sum (words_cons x 0 (omega arith)),
-      ap words_sum (words_cons x 4 (omega arith)),
-      ap words_sum (words_cons x 8 (omega arith)),
-      ap words_sum (words_cons x 12 (omega arith)),
-      ap words_sum (words_none (drop 16 x) (simp length-drop (omega arith))),
-    )

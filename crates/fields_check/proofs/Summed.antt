@@ -11,15 +11,10 @@ pub record Summed (s : List ℕ) (sum : ℕ) (rest : List ℕ) : Type 0 where
 pub summed-none : (s : List ℕ) → Summed s 0 s
 summed-none s = record { same = omega (arith, check_lt s) }
 
--- a part of k words more, from the front
+-- a part of k words more
 pub summed_on : {s rest next : List ℕ} {sum r : ℕ} (k : ℕ) (x : List ℕ) (w : ℕ) → Summed s sum rest → rest ≡ x ++ next → length x ≡ 4 * k
     → check_of x ≡ w % 2 ^ 32 → r % 2 ^ 32 ≡ (sum + w) % 2 ^ 32 → Summed s r next
 summed_on {s} {rest} {next} k x w d e n f g = record { same = omega (arith, d.same, ap check_of e, check_append k x next n, f, g) }
-
--- and from the back, where the rest is of whole words too
-pub summed_back : {s rest next : List ℕ} {sum r : ℕ} (k : ℕ) (x : List ℕ) (w : ℕ) → Summed s sum rest → rest ≡ next ++ x → length next ≡ 4 * k
-    → check_of x ≡ w % 2 ^ 32 → r % 2 ^ 32 ≡ (sum + w) % 2 ^ 32 → Summed s r next
-summed_back {s} {rest} {next} k x w d e n f g = record { same = omega (arith, d.same, ap check_of e, check_append k next x n, f, g) }
 
 pub summed-all : {s rest : List ℕ} {sum : ℕ} → Summed s sum rest → length rest < 4 → sum % 2 ^ 32 ≡ check_of s
 summed-all {s} {rest} d h = omega (arith, d.same, check_none rest h)
