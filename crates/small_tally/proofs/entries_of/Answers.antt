@@ -13,14 +13,14 @@ put_table-size-requires c = (omega (arith, c.requires), rows-room c.args.dims c.
 
 pub front-requires : goal.front-requires
 front-requires c =
-    let w = c.put_table-size.ensures in
+    let w = c.put_table-size.ensures.wrote in
     (omega (arith, c.requires), rw (rows-whole c.args.dims c.args.t w) (wrote_within w))
 
 pub rows_entries-requires : goal.rows_entries-requires
 rows_entries-requires c =
-    fronted c.put_table-size.new.out Tabled c.front.ensures (made-rows c.args.dims c.args.t c.put_table-size.ensures c.requires)
+    fronted c.put_table-size.new.out Tabled c.front.ensures (made-rows c.args.dims c.args.t c.put_table-size.ensures.wrote c.requires)
 
 pub returns : goal.returns
 returns c =
-    made-entries c.args.dims c.args.t c.put_table-size.ensures
+    made-entries c.args.dims c.args.t c.put_table-size.ensures.wrote
     (of_front c.put_table-size.new.out (λ (d n : ℕ) (ws : List ℕ). c.rows_entries.result ≡ entries_in d n ws) c.front.ensures c.rows_entries.ensures)
