@@ -16,7 +16,6 @@ use Rattle.fields.specs.WrittenLaws.{wrote_one}
 use Rattle.archive_cells.specs.Writing.{Writing}
 use Rattle.archive_cells.specs.WritingLaws.{writing_none, writing_more, writing_room, writing_done}
 use Rattle.cube.specs.declared.Total.{Total}
-use Rattle.cube.specs.Measure.{Row}
 use Rattle.rows.specs.Rows.{width, total_in, row_of}
 use Rattle.small_model.specs.Small.{from, up_to, bit_of, binary, row}
 use Rattle.small_model.proofs.Binary.{binary-length}
