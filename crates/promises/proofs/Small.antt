@@ -38,7 +38,7 @@ sizes_each zero k m = absurd (Memᴰ.not-nil m)
 sizes_each (suc d) k (Memᴰ.head e) = e
 sizes_each (suc d) k (Memᴰ.tail m) = sizes_each d k m
 
--- of 2 at least are above digits
+-- digits are below sizes of 2 or more
 digits-below : (d k : ℕ) (x : List ℕ) → 2 ≤ k → Digits d x → Below (replicate d k) x
 digits-below zero k [] h g = tt
 digits-below zero k (a ∷ x) h g = absurd g
