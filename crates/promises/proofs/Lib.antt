@@ -8,6 +8,7 @@ pub mod Fees
 pub mod Joins
 pub mod Late
 pub mod Windows
+pub mod Small
 pub mod Examples
 pub mod Numbers
 pub mod CheckWords

@@ -2,7 +2,7 @@
 -- call_look, call_keys, call_fixes, call_fee, call_join, call_add and call_window), each an equation with its definition in specs/ of crate call_answers, or for a fee, a late record and a window
 -- in specs/ of its own crate. Beside this page: Stops.antt (when a base entry stops with 8 and a file with 12), Room.antt (outputs that are always enough), Numbers.antt (the
 -- number that another language gets tells a stop from a success), Empty.antt (an archive without base rows), Keys.antt (which codes fix which), Fees.antt (what is written for a fee), Joins.antt (two archives into one),
--- Late.antt (one late reading), Windows.antt (questions through a window), Examples.antt (the worked examples of document 01).
+-- Late.antt (one late reading), Windows.antt (questions through a window), Small.antt (the small tables as files), Examples.antt (the worked examples of document 01).
 -- Pages of other crates: cube, proofs/Promises.antt (the same demands on rows, without bytes); small_model, proofs/Promises.antt (C-23: all the small tables);
 -- program_texts, proofs/Promises.antt (what builder and lister print).
 use mathlib.Core.Path.{◌≡◌, refl, sym, ap, ap₂, subst, ◌∙◌}

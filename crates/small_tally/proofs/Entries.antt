@@ -25,14 +25,14 @@ use Rattle.cube.proofs.Codes.{plain_laws}
 use Rattle.cube.proofs.Normals.{normals-most}
 use Rattle.cube.proofs.Ours.{ours-length}
 use Rattle.cube.proofs.Folded.{folded-same}
-use Rattle.rows.specs.Rows.{width, cut}
+use Rattle.rows.specs.Rows.{width, cut, rows_of}
 use Rattle.rows.proofs.Rows.{cut-length}
 use Rattle.small_model.specs.Small.{up_to, bit_of, binary, row, codes_at, table}
 use Rattle.small_model.specs.Tally.{entries}
 use Rattle.small_model.proofs.Binary.{binary_digits, digits_coded}
 use Rattle.small_model.proofs.Tables.{codes_in, codes-rising, codes-few, codes-rows, table_small}
 use Rattle.small_tally.specs.Flat.{flat_row, flat_rows, Coding}
-use Rattle.small_tally.proofs.Flat.{row-codes, row-length}
+use Rattle.small_tally.proofs.Flat.{row-codes, row-length, row_read}
 
 -- base rows have few normal entries
 pub normals_fit : (d n : ℕ) (ws : List ℕ) → d ≤ 8 → n ≤ 8 → length (normals (plain d) (cut d n ws)) ≤ 2048
@@ -56,6 +56,13 @@ cut-flat d (j ∷ l) =
     ap₂ (λ (x : List ℕ) (xs : List (List ℕ)). x ∷ xs) (row-codes d j (flat_map (flat_row d) l))
     (ap (cut d (length l)) (drop_at (flat_row d j) (flat_map (flat_row d) l) (width d) (row-length d j)) ∙ cut-flat d l)
 
+rows-flat : (d : ℕ) (l : List ℕ) → rows_of d (length l) (flat_map (flat_row d) l) ≡ map row (map (binary d) l)
+unfolding rows_of flat_map
+rows-flat d [] = refl
+rows-flat d (j ∷ l) =
+    ap₂ (λ (r : Row Total) (rs : List (Row Total)). r ∷ rs) (row_read d j (flat_map (flat_row d) l))
+    (ap (rows_of d (length l)) (drop_at (flat_row d j) (flat_map (flat_row d) l) (width d) (row-length d j)) ∙ rows-flat d l)
+
 flat-size : (d : ℕ) (l : List ℕ) → length (flat_map (flat_row d) l) ≡ length l * width d
 unfolding flat_map
 flat-size d [] = omega arith
@@ -69,6 +76,10 @@ module _ (d t : ℕ) where
   pub rows_cut : cut d (length (codes_at d t)) (flat_rows d t) ≡ codes_at d t
   unfolding flat_rows codes_at
   rows_cut = let l = keep (bit_of t) (up_to (2 ^ d)) in ap (λ (n : ℕ). cut d n (flat_map (flat_row d) l)) (length-map l (binary d)) ∙ cut-flat d l
+
+  pub rows-table : rows_of d (length (codes_at d t)) (flat_rows d t) ≡ table d t
+  unfolding flat_rows codes_at
+  rows-table = let l = keep (bit_of t) (up_to (2 ^ d)) in ap (λ (n : ℕ). rows_of d n (flat_map (flat_row d) l)) (length-map l (binary d)) ∙ rows-flat d l
 
   -- ---- the entries
 
@@ -116,6 +127,10 @@ module _ (d t : ℕ) where
 
     cut-here : cut d (size / width d) (take (size / width d * width d) m) ≡ codes_at d t
     cut-here = ap₂ (cut d) rows-here (ap (λ (k : ℕ). take k m) rows-whole ∙ wrote_front w) ∙ rows_cut
+
+    -- its rows are those of the table
+    pub made-table : rows_of d (size / width d) (take size m) ≡ table d t
+    made-table = ap₂ (rows_of d) rows-here (wrote_front w) ∙ rows-table
 
     -- what the entries of its rows need
     pub made-rows : d ≤ 3 → Tabled d (size / width d) (take (size / width d * width d) m)

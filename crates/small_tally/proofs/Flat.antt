@@ -6,8 +6,8 @@ use Prim.Native.Nat.{ℕ, zero, suc, ◌+◌, ◌-◌, ◌/◌, ◌%◌, ◌^◌
 use native.Mathlib.Numerals.{add-one}
 use native.Mathlib.Omega.{arith}
 use lib.Dec.{eqb}
-use lib.ListN.{length, take, set, length-append}
-use lib.Seq.{take_at}
+use lib.ListN.{length, take, drop, set, length-append}
+use lib.Seq.{take_at, drop_at}
 use borrow.Author.Tests.{eq-eqb, ne_eqb}
 use borrow.Rule.Slice.PartMut.{mid_of, put_mid}
 use Rattle.lists.specs.Lists.{only, keep}
@@ -15,8 +15,9 @@ use Rattle.fields.specs.Written.{Wrote}
 use Rattle.fields.specs.WrittenLaws.{wrote_one}
 use Rattle.archive_cells.specs.Writing.{Writing}
 use Rattle.archive_cells.specs.WritingLaws.{writing_none, writing_more, writing_room, writing_done}
-use Rattle.rows.specs.Rows.{width}
-use Rattle.small_model.specs.Small.{from, up_to, bit_of, binary}
+use Rattle.cube.specs.declared.Total.{Total}
+use Rattle.rows.specs.Rows.{width, total_in, row_of}
+use Rattle.small_model.specs.Small.{from, up_to, bit_of, binary, row}
 use Rattle.small_model.proofs.Binary.{binary-length}
 use Rattle.small_tally.specs.Flat.{flat_row, flat_rows}
 
@@ -33,21 +34,29 @@ binary-last (suc d) j h = let e : suc d - 1 ≡ d = omega arith in rw e
 
 pub row-codes : (d j : ℕ) (rest : List ℕ) → take d (flat_row d j ++ rest) ≡ binary d j
 unfolding flat_row
-row-codes d j rest = ap (take d) (append_assoc (binary d j) (0 ∷ 0 ∷ 0 ∷ []) rest) ∙ take_at (binary d j) (0 ∷ 0 ∷ 0 ∷ rest) d (binary-length d j)
+row-codes d j rest = ap (take d) (append_assoc (binary d j) (1 ∷ 0 ∷ 1 ∷ []) rest) ∙ take_at (binary d j) (1 ∷ 0 ∷ 1 ∷ rest) d (binary-length d j)
 
 pub row-length : (d j : ℕ) → length (flat_row d j) ≡ width d
 unfolding flat_row
-row-length d j = omega (arith, length-append (binary d j) (0 ∷ 0 ∷ 0 ∷ []), binary-length d j)
+row-length d j = omega (arith, length-append (binary d j) (1 ∷ 0 ∷ 1 ∷ []), binary-length d j)
 
--- three zeros behind the digits
-pub row_wrote : (d j : ℕ) {l m : List ℕ} {at : ℕ} → at + 3 ≤ length l → Wrote (binary d j) l m at → Wrote (flat_row d j) l (set (set (set m at 0) (at + 1) 0) (at + 2) 0) (at + 3)
+-- the words of its total behind the digits
+pub row_wrote : (d j : ℕ) {l m : List ℕ} {at : ℕ} → at + 3 ≤ length l → Wrote (binary d j) l m at → Wrote (flat_row d j) l (set (set (set m at 1) (at + 1) 0) (at + 2) 1) (at + 3)
 unfolding flat_row
 row_wrote d j {at = at} h w =
     let two : at + 1 + 1 ≡ at + 2 = omega arith in
     let three : at + 2 + 1 ≡ at + 3 = omega arith in
-    let first = wrote_one 0 (omega (arith, h)) w in
+    let first = wrote_one 1 (omega (arith, h)) w in
     let second = rw two at (wrote_one 0 (omega (arith, h)) first) in
-    simp append_assoc at (rw three at (wrote_one 0 (omega (arith, h)) second))
+    simp append_assoc at (rw three at (wrote_one 1 (omega (arith, h)) second))
+
+row-total : (d j : ℕ) (rest : List ℕ) → drop d (flat_row d j ++ rest) ≡ 1 ∷ 0 ∷ 1 ∷ rest
+unfolding flat_row
+row-total d j rest = ap (drop d) (append_assoc (binary d j) (1 ∷ 0 ∷ 1 ∷ []) rest) ∙ drop_at (binary d j) (1 ∷ 0 ∷ 1 ∷ rest) d (binary-length d j)
+
+-- read as a row, they are the row of these digits
+pub row_read : (d j : ℕ) (rest : List ℕ) → row_of d (flat_row d j ++ rest) ≡ row (binary d j)
+row_read d j rest = ap₂ (λ (x : List ℕ) (t : Total). record { codes = x; total = t }) (row-codes d j rest) (ap total_in (row-total d j rest))
 
 -- ---- the bits that are set
 

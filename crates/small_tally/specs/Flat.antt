@@ -1,6 +1,6 @@
 -- The small tables as the code makes them.
 --
---   flat_row d j       the words of row j: j in binary as its codes, and three zeros where its total would stand
+--   flat_row d j       the words of row j: j in binary as its codes, and the total of one reading, 1
 --   flat_rows d t      the rows of table t in a flat list
 --   Coding d xs       each of xs is d codes
 --   Zeros l           a list of zeros
@@ -11,7 +11,7 @@ use Rattle.cube.specs.Codes.{Coded}
 use Rattle.small_model.specs.Small.{up_to, bit_of, binary}
 
 unfoldable pub flat_row : ℕ → ℕ → List ℕ
-flat_row d j = binary d j ++ (0 ∷ 0 ∷ 0 ∷ [])
+flat_row d j = binary d j ++ (1 ∷ 0 ∷ 1 ∷ [])
 
 unfoldable pub flat_rows : ℕ → ℕ → List ℕ
 flat_rows d t = flat_map (flat_row d) (keep (bit_of t) (up_to (2 ^ d)))

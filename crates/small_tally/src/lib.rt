@@ -1,12 +1,12 @@
 // The small tables generated, their entries tallied, and the report.
 #![tactic(auto)]
 
-ghost use Rattle.std.specs.Prelude.{◌≡◌, map, suc, ◌+◌, ◌*◌, ◌≤◌, length};
+ghost use Rattle.std.specs.Prelude.{◌≡◌, map, suc, ◌+◌, ◌*◌, ◌/◌, ◌≤◌, length, take};
 ghost use Rattle.lists.specs.Lists.{Distinct};
 ghost use Rattle.fields.specs.Written.{Wrote};
 ghost use Rattle.cube.specs.Codes.{plain};
 ghost use Rattle.cube.specs.Condensed.{normals};
-ghost use Rattle.rows.specs.Rows.{width};
+ghost use Rattle.rows.specs.Rows.{width, rows_of};
 ghost use Rattle.rows.specs.Slices.{codes};
 ghost use Rattle.small_model.specs.Small.{up_to, binary, table};
 ghost use Rattle.small_model.specs.Tally.{entries, tally, most_entries};
@@ -29,23 +29,24 @@ fn put_binary(out: &mut [u32], dims: usize, j: u32) -> usize
     at + 1
 }
 
-// Writes a row: a number in binary, and three zeros where its total would stand, which no tally needs.
+// Writes a row: a number in binary, and the total of one reading, 1. Its sum is 1 and its count is 1.
 #[tactic(auto, using(crate::proofs::Rooms::digits_length))]
 fn put_row(out: &mut [u32], dims: usize, j: u32) -> usize
     requires { width dims ≤ length out.old }
     ensures { Wrote (flat_row dims j) out.old out.new result }
 {
     let at = put_binary(out, dims, j);
-    out[at] = 0;
+    out[at] = 1;
     out[at + 1] = 0;
-    out[at + 2] = 0;
+    out[at + 2] = 1;
     at + 3
 }
 
 // Writes the rows of table t: row j for each bit j that is set.
 fn put_table(out: &mut [u32], dims: usize, t: u32) -> usize
     requires { (dims ≤ 8) × (length (flat_rows dims t) ≤ length out.old) }
-    ensures { Wrote (flat_rows dims t) out.old out.new result }
+    ensures wrote { Wrote (flat_rows dims t) out.old out.new result }
+    ensures rows { rows_of dims (result / width dims) (take result out.new) ≡ table dims t }
 {
     let mut at = 0;
     let mut rest = t;

@@ -1,4 +1,4 @@
--- `small_tally::put_row` meets its contract: the digits, then one zero after the other.
+-- `small_tally::put_row` meets its contract: the digits, then one word of the total after the other.
 use mathlib.Core.List.{List}
 use Prim.Native.Nat.{ℕ, ◌+◌, ◌≤◌}
 use native.Mathlib.Omega.{arith}

@@ -1,5 +1,6 @@
 -- `small_tally::put_table` meets its contract. The invariant: the rows from bit j on are left to write.
 use Rattle.small_tally.proofs.Flat.{row-length, rows_none, rows-room, rows_more, rows-done}
+use Rattle.small_tally.proofs.Entries.{made-table}
 use borrow.Author.Rules.{rules}
 use Rattle.small_tally.proofs.put_table.Goals as goal
 use native.Mathlib.Omega.{arith}
@@ -25,4 +26,5 @@ pub returns : goal.returns
 returns c =
     let a = c.args in
     let l = c.loop-j in
-    rows-done a.dims a.t _ l.rest l.j l.invariant c.loop-j-test.false
+    let w = rows-done a.dims a.t _ l.rest l.j l.invariant c.loop-j-test.false in
+    record { wrote = w; rows = made-table a.dims a.t w }
