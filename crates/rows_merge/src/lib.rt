@@ -119,7 +119,7 @@ pub fn readings_in(rows: &RowSlice) -> u32
     requires { count_of (held rows.now) ≤ most }
     ensures { result ≡ count_of (held rows.now) }
 {
-    // A loop, and no `sum`: the start, 0, is written here, where a wrong one is refused.
+    // A loop: its start, 0, is written here, where a wrong one is refused, and not in `sum`. The proof of `fold` did not close.
     let mut all = 0;
     for row in 0..rows.n {
         all += rows.total_at(row).count;
