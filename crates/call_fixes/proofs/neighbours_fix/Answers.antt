@@ -6,6 +6,7 @@ use borrow.Author.Rules.{rules}
 use Rattle.std.proofs.lemmas.Iterator.{YieldsList-from_range, serves_from_Range}
 use Rattle.std.proofs.lemmas.Iterator.Search.{all_from_yields_List}
 use Rattle.rows.specs.Slices.{codes}
+use Rattle.rows_order.specs.Index.{Indexed}
 use Rattle.rows_runs.proofs.Indexed.{indexed_below}
 use Rattle.call_fixes.proofs.Neighbours.{fixed_none, fixed_rest, next}
 use Rattle.call_fixes.proofs.neighbours_fix.Goals as goal
@@ -18,7 +19,7 @@ all-requires-clause-callable c =
 pub returns : goal.returns
 returns c =
     let a = c.args in
-    let x = c.order_rows.ensures in
-    let n = a.rows.now.n in
-    all_from_yields_List (next x a.fixed) c.all.new.self _ c.all.result c.all.ensures.ran (YieldsList-from_range 1 n (n - 1) refl refl) (λ k b q e. search rules)
-    ∙ fixed_rest x a.fixed (n - 1) 1 (fixed_none (codes a.rows.now) _ a.set a.fixed) (omega arith) refl
+    let r = a.rows.now in
+    let x : Indexed r.n r.dims a.set r.words.now c.order_rows.new.index = c.order_rows.ensures in
+    all_from_yields_List (next x a.fixed) c.all.new.self _ c.all.result c.all.ensures.ran (YieldsList-from_range 1 r.n (r.n - 1) refl refl) (λ k b q e. search rules)
+    ∙ fixed_rest x a.fixed (r.n - 1) 1 (fixed_none (codes r) _ a.set a.fixed) (omega arith) refl
