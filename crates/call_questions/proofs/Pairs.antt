@@ -3,48 +3,25 @@ use mathlib.Core.Path.{◌≡◌, refl, ap}
 use mathlib.Core.Logic.{◌≢◌}
 use mathlib.Core.Bool.{Bool, true, false, ◌&&◌, ◌||◌, or-true, and-false}
 use mathlib.Core.List.{List, [], ◌∷◌}
-use Prim.Native.Nat.{ℕ, suc, ◌+◌, ◌≤◌, ◌<◌}
-use native.Mathlib.Numerals.{add-one}
+use Prim.Native.Nat.{ℕ, suc, ◌≤◌, ◌<◌}
+use native.Mathlib.Omega.{arith}
 use lib.Dec.{eqb, ltb}
-use lib.ListN.{length, get_or, drop, drop_of_length-le}
-use lib.Seq.{drop-cons}
-use borrow.Author.Tests.{eq-eqb, lt-ltb, le-ltb}
+use lib.ListN.{length}
+use borrow.Author.Tests.{lt-ltb, le-ltb}
+use Rattle.std.specs.List.{list_all, zip}
 use Rattle.cube.specs.Codes.{ALL, falls}
 use Rattle.call_questions.specs.Questions.{asks}
 
--- f tests two lists of one length by the test t of each dimension
-pub record ByPairs (f : List ℕ → List ℕ → Bool) (t : ℕ → ℕ → Bool) : Type 0 where
-  pub none : f [] [] ≡ true
-  pub more : (a b : ℕ) (x y : List ℕ) → f (a ∷ x) (b ∷ y) ≡ t a b && f x y
-
-module _ {f : List ℕ → List ℕ → Bool} {t : ℕ → ℕ → Bool} (p : ByPairs f t) (xs ys : List ℕ) (i : ℕ) where
-  pub pairs_done : length xs ≤ i → length ys ≤ i → f (drop i xs) (drop i ys) ≡ true
-  pairs_done h k = rw (drop_of_length-le xs h, drop_of_length-le ys k) p.none
-
-  -- one dimension more, where the test passes, and where it does not
-  module _ (h : i < length xs) (k : i < length ys) where
-    pairs_more : f (drop i xs) (drop i ys) ≡ t (get_or xs i 0) (get_or ys i 0) && f (drop (i + 1) xs) (drop (i + 1) ys)
-    pairs_more = rw (add-one, drop-cons xs i 0 h, drop-cons ys i 0 k) (p.more _ _ _ _)
-
-    pub pairs_skip : t (get_or xs i 0) (get_or ys i 0) ≡ true → f (drop (i + 1) xs) (drop (i + 1) ys) ≡ f (drop i xs) (drop i ys)
-    pairs_skip e = rw (pairs_more, e)
-
-    pub pairs_stop : t (get_or xs i 0) (get_or ys i 0) ≡ false → f (drop i xs) (drop i ys) ≡ false
-    pairs_stop e = rw (pairs_more, e)
-
 -- ---- a cell's code and a row's
 
-abbrev meets : ℕ → ℕ → Bool
+abbrev pub meets : ℕ → ℕ → Bool
 meets a b = eqb a ALL || eqb a b
 
-pub falls_pairs : ByPairs falls meets
-falls_pairs = record { none = refl; more = λ a b x y. refl }
-
-pub meets-all : (a b : ℕ) → a ≡ ALL → meets a b ≡ true
-meets-all a b e = rw (eq-eqb a ALL e)
-
-pub meets-code : (a b : ℕ) → eqb a b ≡ true → meets a b ≡ true
-meets-code a b e = rw (e, or-true)
+pub falls-zip : (c x : List ℕ) → length c ≡ length x → list_all (λ p. meets p.0 p.1) (zip c x) ≡ falls c x
+falls-zip [] [] e = refl
+falls-zip [] (b ∷ x) e = absurd (omega (arith, e))
+falls-zip (a ∷ c) [] e = absurd (omega (arith, e))
+falls-zip (a ∷ c) (b ∷ x) e = ap (λ (t : Bool). meets a b && t) (falls-zip c x (omega (arith, e)))
 
 -- ---- a size and a question's code
 

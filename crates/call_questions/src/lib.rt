@@ -42,14 +42,9 @@ fn falls_in(cell: &[u32], mine: &[u32]) -> bool
     requires { length cell.now ≡ length mine.now }
     ensures { result ≡ falls cell.now mine.now }
 {
-    // By index: `zip` with `all` was tried, and its proof did not close.
-    for d in 0..cell.len() {
-        let code = cell[d];
-        if code != 65535 && code != mine[d] {
-            return false;
-        }
-    }
-    true
+    cell.iter()
+        .zip(mine)
+        .all(|(&code, &x)| code == 65535 || code == x)
 }
 
 // The first row that falls in a cell.

@@ -1,22 +1,14 @@
--- `call_questions::falls_in` meets its contract: what is left of the row falls in what is left of the cell just where the row falls in the cell.
+-- `call_questions::falls_in` meets its contract: each code of the cell is ALL or the row's.
 use mathlib.Core.Path.{◌∙◌}
 use borrow.Author.Rules.{rules}
-use borrow.Author.Tests.{eq-eqb}
-use lib.ListN.{get_or}
-use Rattle.call_questions.proofs.Pairs.{pairs_skip, falls_pairs, meets-all, meets-code}
+use Rattle.std.proofs.lemmas.Iterator.{YieldsList-from_slice, YieldsList-from_zip}
+use Rattle.std.proofs.lemmas.Iterator.Search.{all_from_yields_List}
+use Rattle.call_questions.proofs.Pairs.{meets, falls-zip}
 use Rattle.call_questions.proofs.falls_in.Goals as goal
-use Rattle.call_questions.proofs.falls_in.Goals.{else-code-ne65535-via-then-code-ne65535+else-code-mine, else-code-ne65535-via-else-code-ne65535}
 
-pub loop-d-preserved : goal.loop-d-preserved
-loop-d-preserved c =
-    let cell = c.args.cell.now in
-    let mine = c.args.mine.now in
-    let d = c.loop-d.d in (
-      search rules,
-      pairs_skip falls_pairs cell mine d (search rules) (search rules)
-          (elim c.else-code-ne65535.branch [
-            | else-code-ne65535-via-then-code-ne65535+else-code-mine w ↦ meets-code (get_or cell d 0) (get_or mine d 0) (eq-eqb (get_or cell d 0) (get_or mine d 0) w.if-code-mine.false)
-            | else-code-ne65535-via-else-code-ne65535 w ↦ meets-all (get_or cell d 0) (get_or mine d 0) w.if-code-ne65535.false
-          ])
-          ∙ c.loop-d.invariant.1,
-    )
+pub returns : goal.returns
+returns c =
+    let a = c.args in
+    all_from_yields_List (λ p. meets p.0 p.1) c.all.new.self _ c.all.result c.all.ensures.ran
+    (YieldsList-from_zip (YieldsList-from_slice a.cell.now (search rules)) (YieldsList-from_slice a.mine.now (search rules))) (λ x b q k. search rules)
+    ∙ falls-zip a.cell.now a.mine.now c.requires
