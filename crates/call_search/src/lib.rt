@@ -27,15 +27,7 @@ fn cell_before(mine: &[u32], cell: &[u32]) -> bool
 {
     let set = set_of(mine);
     let other = set_of(cell);
-    let size = lattice::size_of_set(set);
-    let other_size = lattice::size_of_set(other);
-    if size != other_size {
-        return size < other_size;
-    }
-    if set != other {
-        return set < other;
-    }
-    mine < cell
+    (lattice::size_of_set(set), set, mine) < (lattice::size_of_set(other), other, cell)
 }
 
 // Whether the entry at a place is listed before a cell.
