@@ -1,9 +1,10 @@
 -- Where the entries of an accepted archive stand, and that its text is short enough.
-use mathlib.Core.Path.{◌≡◌, sym, ap, subst, ◌∙◌}
+use mathlib.Core.Path.{◌≡◌, sym, ap, ap₂, subst, ◌∙◌}
 use mathlib.Core.List.{List, ◌++◌, flat_map, append_assoc}
 use Prim.Native.Nat.{ℕ, ◌+◌, ◌-◌, ◌*◌, ◌≤◌}
 use native.Mathlib.Omega.{arith}
-use lib.ListN.{length, drop, length-append}
+use lib.ListN.{length, take, drop, length-append}
+use lib.Seq.{take_at}
 use Rattle.lists.proofs.Parts.{drop-front}
 use Rattle.fields.specs.Words.{word_bytes, word_at}
 use Rattle.fields_check.specs.Check.{check_of}
@@ -21,7 +22,9 @@ use Rattle.archive_entries.proofs.Lengths.{cell-length}
 use Rattle.text_lines.specs.Lines.{head_text, base_text, cell_text}
 use Rattle.text_listing.specs.Listing.{listing, held_by, Accepted}
 use Rattle.text_listing.proofs.Fits.{RowFits, BaseFits, walkable_fits}
+use Rattle.archive_cells.specs.WritingLaws.{writing_none}
 use Rattle.text_listing.proofs.Turns.{Turn, turn-start}
+use Rattle.text_listing.proofs.Cuts.{Cut}
 use Rattle.text_listing.proofs.Bound.{listing-within}
 
 -- parts one behind the other
@@ -104,9 +107,14 @@ module _ {s : List ℕ} {d n m : ℕ} (b : Bytes s) (x : Accepted s d n m) where
   bases-start l = rw held_is (turn-start base_bytes base_text (BaseFits d) s a.bases l behind (sym x.bases) (omega (arith, whole)) bases_there
       (λ e i. subst (λ (k : ℕ). BaseFits k e) (sym x.dims) (walkable_fits walkable e i)))
 
-  pub cells-start : (l : List ℕ) → Turn cell_bytes cell_text (RowFits d) s (held_by (read_archive s)).cells l l 0 m (length s - 4 - m * (4 * d + 12)) 0
-  cells-start l = rw held_is (turn-start cell_bytes cell_text (RowFits d) s a.cells l check (sym x.cells) (omega arith) cells_there
-      (λ r i. subst (λ (k : ℕ). RowFits k r) (sym x.dims) (walkable.each r i)))
+  pub cells-cut : (l : List ℕ) {rest : List ℕ} {at n : ℕ} → rest ≡ take n (drop at s) → at ≡ length s - 4 - m * (4 * d + 12) → n ≡ m * (4 * d + 12)
+      → Cut cell_bytes cell_text (RowFits d) rest (flat_map cell_text (held_by (read_archive s)).cells) l l 0
+  cells-cut l e p q = rw held_is (record {
+    left = a.cells;
+    here = e ∙ ap₂ (λ (k j : ℕ). take k (drop j s)) q p ∙ ap (take (m * (4 * d + 12))) cells_there ∙ take_at cells check (m * (4 * d + 12)) cells-length;
+    each = λ r i. subst (λ (k : ℕ). RowFits k r) (sym x.dims) (walkable.each r i);
+    writing = writing_none (flat_map cell_text a.cells) l;
+  })
 
   -- the three parts of the text, by what the code knows
   abbrev held : Held

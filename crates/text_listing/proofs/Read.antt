@@ -6,17 +6,11 @@ use native.Mathlib.Omega.{arith}
 use lib.ListN.{length, drop}
 use Rattle.fields.specs.Words.{word_at}
 use Rattle.fields.specs.WordsLaws.{length_words_at}
-use Rattle.cube.specs.declared.Total.{Total}
-use Rattle.cube.specs.Measure.{Row}
-use Rattle.archive_entries.specs.Layout.{Based, cell_bytes, base_bytes}
-use Rattle.archive_entries.specs.Places.{row_there, base_there, width_there}
-use Rattle.archive_entries.proofs.Lengths.{cell-length, base-length}
-use Rattle.archive_entries.proofs.There.{cell_there, base_there_lem}
-use Rattle.text_listing.proofs.Fits.{RowFits, BaseFits}
-
-pub cell_reads : (d : ℕ) (s : List ℕ) (r : Row Total) → RowFits d r → (at : ℕ) (rest : List ℕ) → at ≤ length s → drop at s ≡ cell_bytes r ++ rest
-    → (row_there s d at ≡ r) × (4 * d + 12 ≡ length (cell_bytes r))
-cell_reads d s r f at rest h e = (cell_there s d r f at rest h e, sym (cell-length d r f.0.0))
+use Rattle.archive_entries.specs.Layout.{Based, base_bytes}
+use Rattle.archive_entries.specs.Places.{base_there, width_there}
+use Rattle.archive_entries.proofs.Lengths.{base-length}
+use Rattle.archive_entries.proofs.There.{base_there_lem}
+use Rattle.text_listing.proofs.Fits.{BaseFits}
 
 pub base_reads : (d : ℕ) (s : List ℕ) (b : Based) → BaseFits d b → (at : ℕ) (rest : List ℕ) → at ≤ length s → drop at s ≡ base_bytes b ++ rest
     → (base_there s d at ≡ b) × (width_there s d at ≡ length (base_bytes b))

@@ -18,6 +18,7 @@ fn put_bases(out: &mut [u8], s: &[u8], dims: usize, bases: usize) -> usize
 {
     let mut done = 0;
     let mut at = 12 + 4 * dims;
+    // From entry to entry: each is as long as its list makes it.
     for _ in 0..bases {
         done += text_lines::put_base(&mut out[done..], s, at, dims);
         let sets = fields::word_at(s, at + 4 * dims + 12) as usize;
@@ -33,11 +34,10 @@ fn put_cells(out: &mut [u8], s: &[u8], dims: usize, cells: usize) -> usize
     ensures { Wrote (flat_map cell_text (held_by (read_archive s.now)).cells) out.old out.new result }
 {
     let width = 4 * dims + 12;
+    let end = s.len() - 4;
     let mut done = 0;
-    let mut at = s.len() - 4 - cells * width;
-    for _ in 0..cells {
-        done += text_lines::put_cell(&mut out[done..], s, at, dims);
-        at += width;
+    for bytes in s[end - cells * width..end].chunks_exact(width) {
+        done += text_lines::put_cell(&mut out[done..], bytes, 0, dims);
     }
     done
 }
