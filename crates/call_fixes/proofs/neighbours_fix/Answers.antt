@@ -21,5 +21,5 @@ returns c =
     let a = c.args in
     let r = a.rows.now in
     let x : Indexed r.n r.dims a.set r.words.now c.order_rows.new.index = c.order_rows.ensures in
-    all_from_yields_List (next x a.fixed) c.all.new.self _ c.all.result c.all.ensures.ran (YieldsList-from_range 1 r.n (r.n - 1) refl refl) (λ k b q e. search rules)
+    all_from_yields_List (next x a.fixed) c.all.new.self _ c.all.result c.all.ensures.ran (YieldsList-from_range 1 r.n (r.n - 1) refl refl) (λ k b q e. (search rules, search rules))
     ∙ fixed_rest x a.fixed (r.n - 1) 1 (fixed_none (codes r) _ a.set a.fixed) (omega arith) refl

@@ -18,5 +18,5 @@ any-some p (x ∷ l) = ap (λ (b : Bool). p x || b) (any-some p l)
 pub returns : goal.returns
 returns c =
     let a = c.args in
-    any_from_yields_List (holds 32 a.set) c.any.new.self _ c.any.result c.any.ensures.ran (YieldsList-from_slice a.list.now (search rules)) (λ x b q k. search rules)
+    any_from_yields_List (holds 32 a.set) c.any.new.self _ c.any.result c.any.ensures.ran (YieldsList-from_slice a.list.now (search rules)) (λ x b q k. (search rules, search rules))
     ∙ any-some (holds 32 a.set) a.list.now
