@@ -148,7 +148,7 @@ fn what_is_not_there_is_found() {
         ("| Edit (crate cube) |\n|---|\n| `key_by_one_row` |", "| Edit (crate lists) |\n|---|\n| `key_by_one_row` |"),
         ("`built_fewest`", "`built_few`"),
         ("`keys-enough`, `fee_enough` (`Room.antt`)", "`keys-enough`, `fee_written` (`Room.antt`)"),
-        ("`call_join::same_sizes`, `join_rows`", "`call_join::same_sizes`, `merge_rows`"),
+        ("`call_file::fit_archive`, `join_rows`", "`call_file::fit_archive`, `same_sizes`"),
         ("`cube::Total::plus`", "`cube::Total::minus`"),
         ("`table_answer (read_table s)`", "`table_answer (table_read s)`"),
         ("`crates/cube/specs/Cube.antt`", "`crates/cube/specs/Cubes.antt`"),

@@ -29,7 +29,7 @@ use Rattle.call_answers.specs.Answers.{Outcome, stop, Answered}
 use Rattle.call_answers.specs.Joins.{filed}
 use Rattle.call_answers.proofs.Opened.{Opened}
 use Rattle.call_ask.proofs.Outcomes.{refused}
-use Rattle.call_join.specs.Stores.{Store}
+use Rattle.call_file.specs.Stores.{Store}
 use Rattle.call_add.specs.Adds.{coded, record_of, added, adds}
 use Rattle.call_add.proofs.Codes.{coded-below}
 use Rattle.call_add.proofs.Records.{record_limits}

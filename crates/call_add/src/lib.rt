@@ -6,7 +6,7 @@ ghost use Rattle.std.specs.Prelude.{◌≡◌, ◌+◌, ◌*◌, ◌≤◌, leng
 ghost use Rattle.fields.specs.Words.{words_at};
 ghost use Rattle.rows.specs.Slices.{held};
 ghost use Rattle.call_answers.specs.Answers.{Answered};
-ghost use Rattle.call_join.specs.Stores.{Store};
+ghost use Rattle.call_file.specs.Stores.{Store};
 ghost use Rattle.call_add.specs.Adds.{coded, added, adds};
 
 use call_ask::Accepted;
@@ -43,7 +43,7 @@ fn add_row(
     let mut late = [0u32; ROW];
     rows_runs::put_row(&mut late, 0, codes, 255, Total { sum, count: 1 });
     let late = RowSlice::front(&late, 1, codes.len());
-    call_join::join_rows(sizes, rows, &late, store, out)
+    call_file::join_rows(sizes, rows, &late, store, out)
 }
 
 // The same for an archive's sizes, which go into the buffer that is lent.

@@ -14,21 +14,6 @@ use rows::RowSlice;
 use stops::Stop;
 use table::Folded;
 
-// Writes the archive of sizes and base rows where there is room for it, with a lent array for slots.
-pub fn fit_archive(
-    out: &mut [u8],
-    sizes: &[u32],
-    rows: &RowSlice,
-    store: &mut [u16],
-) -> Result<usize, Stop>
-    requires ready { Ready rows.now.dims rows.now.n rows.now.words.now × (rows.now.dims ≡ length sizes.now) × Limits sizes.now (held rows.now) }
-    requires room { 262144 ≤ length store.old }
-    ensures { Answered (bytes (archive_bytes sizes.now (held rows.now))) out.old out.new result }
-{
-    let needed = archive_write::write_archive(out, sizes, rows, store);
-    call_answers::fitting(needed, out.len())
-}
-
 // Writes the archive of a table's base rows where there is room for it; the sizes, which stand in the table, go into the buffer that is lent.
 fn write_sized(
     s: &[u8],
@@ -42,7 +27,7 @@ fn write_sized(
     ensures { Answered (bytes (archive_bytes (words_at s.now rows.now.dims 8) (held rows.now))) out.old out.new result }
 {
     fields::read_words(s, 8, sizes);
-    fit_archive(out, sizes, rows, store)
+    call_file::fit_archive(out, sizes, rows, store)
 }
 
 // Writes the archive of a table that was accepted; the array has its base rows.

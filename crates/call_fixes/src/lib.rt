@@ -73,8 +73,8 @@ fn fixes_read(archive: &Accepted, used: &[usize], set: u32, dimension: u32) -> R
     if shape.dims < dimension {
         return Err(Stop::Dimension);
     }
-    let d = shape.dims as usize;
-    if call_keys::is_bare(d, used, set) {
+    let bare = used[set as usize] == 0;
+    if bare {
         return Ok(true);
     }
     let fixed = lattice::sets_of(dimension - 1);

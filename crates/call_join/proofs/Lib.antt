@@ -1,3 +1,2 @@
 -- Two archives into one: what the code meets.
-pub mod Uniting
 pub mod Outcomes

@@ -32,7 +32,7 @@ use Rattle.call_answers.specs.Calls.{outcome}
 use Rattle.call_answers.specs.Joins.{filed, unites, joins}
 use Rattle.call_answers.proofs.Opened.{Opened}
 use Rattle.call_ask.proofs.Outcomes.{refused}
-use Rattle.call_join.specs.Stores.{Store}
+use Rattle.call_file.specs.Stores.{Store}
 
 pub first-refused : (s t : List ℕ) {k : ℕ} → archive_answer (read_archive s) ≡ Err k → joins s t ≡ stop k
 unfolding joins

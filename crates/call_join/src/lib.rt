@@ -5,15 +5,10 @@
 ghost use Rattle.std.specs.Prelude.{◌≡◌, ◌+◌, ◌*◌, ◌≤◌, length};
 ghost use Rattle.lists.specs.Order.{same};
 ghost use Rattle.fields.specs.Words.{words_at};
-ghost use Rattle.cube.specs.Measure.{sums as totals};
-ghost use Rattle.rows.specs.Slices.{held};
-ghost use Rattle.rows_merge.specs.United.{united};
 ghost use Rattle.call_answers.specs.Answers.{Answered};
-ghost use Rattle.call_answers.specs.Joins.{filed, joins};
-ghost use Rattle.call_join.specs.Stores.{Store};
+ghost use Rattle.call_answers.specs.Joins.{joins};
 
 use call_ask::Accepted;
-use rows::RowSlice;
 use stops::Stop;
 
 // Whether two archives of the same dimensions have the same sizes. The buffers that are lent have them afterwards.
@@ -25,27 +20,6 @@ fn same_sizes(first: &[u8], second: &[u8], sizes: &mut [u32], others: &mut [u32]
     fields::read_words(first, 8, sizes);
     fields::read_words(second, 8, others);
     *sizes == *others
-}
-
-// Writes the archive of two lists of base rows, of the same sizes, as one, with a lent array for slots.
-pub fn join_rows(
-    sizes: &[u32],
-    first: &RowSlice,
-    second: &RowSlice,
-    store: &mut [u16],
-    out: &mut [u8],
-) -> Result<usize, Stop>
-    requires stores { Store sizes.now first.now.n first.now.words.now × Store sizes.now second.now.n second.now.words.now }
-    requires dims { (first.now.dims ≡ length sizes.now) × (second.now.dims ≡ length sizes.now) × (262144 ≤ length store.old) }
-    ensures { Answered (filed sizes.now (united totals (length sizes.now) (held first.now) (held second.now))) out.old out.new result }
-{
-    if 1048576 < rows_merge::readings_in(first) + rows_merge::readings_in(second) {
-        return Err(Stop::Many);
-    }
-    let mut rows = [0u32; rows::ROOM];
-    let k = rows_merge::merge_rows(first, second, &mut rows).ok_or(Stop::Many)?;
-    let rows = RowSlice::front(&rows, k, sizes.len());
-    call_build::fit_archive(out, sizes, &rows, store)
 }
 
 // Joins two archives that were accepted.
@@ -67,7 +41,7 @@ fn join_read(
     if same_sizes(first.bytes, second.bytes, &mut sizes[..d], &mut others[..d]) {
         let rows1 = first.rows();
         let rows2 = second.rows();
-        join_rows(&sizes[..d], &rows1, &rows2, store, out)
+        call_file::join_rows(&sizes[..d], &rows1, &rows2, store, out)
     } else {
         Err(Stop::Sizes)
     }

@@ -1,6 +1,6 @@
 -- A set is a key just if no cell of it is shared.
 use mathlib.Core.Path.{◌≡◌, refl, sym, ap, ◌∙◌}
-use mathlib.Core.Bool.{Bool, true, false, not, ◌&&◌, ◌||◌, false≢true}
+use mathlib.Core.Bool.{Bool, true, not, ◌&&◌, ◌||◌, false≢true}
 use mathlib.Core.List.Memᴰ
 use mathlib.Core.List.{List, [], ◌∷◌, ◌++◌}
 use Prim.Native.Nat.{ℕ, suc, ◌≤◌, ◌<◌}
@@ -40,6 +40,13 @@ smallest-same d p q [] acc h = refl
 smallest-same d p q (s ∷ l) acc h =
     ap (λ (b : Bool). smallest (plain d) p l (acc ++ only (b && not (some ((plain d).holds s) acc)) s [])) (h s (Memᴰ.head refl))
     ∙ smallest-same d p q l (acc ++ only (q s && not (some ((plain d).holds s) acc)) s []) (λ t m. h t (Memᴰ.tail m))
+
+-- no row shares a cell of the set
+pub bare-none : (d : ℕ) (used : List ℕ) (s : ℕ) → get_or used s 0 ≡ 0 → bare d used s ≡ true
+unfolding bare
+bare-none d used s e = cases (truth (eqb s (full d)))
+    (λ t. ap (λ (b : Bool). b || eqb (get_or used s 0) 0) t)
+    (λ t. ap (λ (b : Bool). b || eqb (get_or used s 0) 0) t ∙ eq-eqb (get_or used s 0) 0 e)
 
 module _ {d n : ℕ} {ws used : List ℕ} (rows : Laid d n ws) (told : Sharing d n ws used) where
   abbrev xs : List (List ℕ)

@@ -16,7 +16,7 @@ use call_ask::Accepted;
 use stops::Stop;
 
 // Whether no cell of a set is shared.
-pub fn is_bare(dims: usize, used: &[usize], set: u32) -> bool
+fn is_bare(dims: usize, used: &[usize], set: u32) -> bool
     requires { (dims ≤ 8) × (256 ≤ length used.now) × (set < 2 ^ dims) }
     ensures { result ≡ bare dims used.now set }
 {

@@ -1,10 +1,11 @@
 -- `call_fixes::fixes_read` meets its contract: the set's number is tested, then the dimension's; a key fixes each, and otherwise the rows tell.
-use mathlib.Core.Path.{◌≡◌, refl, sym, ap, ◌∙◌}
+use mathlib.Core.Path.{◌≡◌, refl, sym, ◌∙◌}
 use mathlib.Core.Bool.{true}
 use mathlib.Core.List.{List}
 use Prim.Native.Nat.{ℕ, ◌*◌}
 use native.Mathlib.Omega.{arith}
 use lib.ListN.{take}
+use lib.Pow.{pow_mono}
 use Rattle.lattice.proofs.Sets.{sets_of}
 use Rattle.cube.specs.Codes.{plain}
 use Rattle.cube.specs.Keys.{fixes, dimension}
@@ -14,9 +15,8 @@ use Rattle.rows.proofs.Fronts.{fronted, of_front}
 use Rattle.call_answers.proofs.Outcomes.{fixes_no_set, fixes_zero, fixes-high, fixes-told}
 use Rattle.call_ask.proofs.Opened.{opened_of}
 use Rattle.call_keys.specs.Laid.{Laid}
-use Rattle.call_keys.proofs.Bare.{bare-key}
+use Rattle.call_keys.proofs.Bare.{bare-none, bare-key}
 use Rattle.call_keys.proofs.Outcomes.{laid, shared_in}
-use borrow.Author.Rules.{rules}
 use Rattle.call_fixes.proofs.fixes_read.Goals as goal
 use Rattle.call_fixes.proofs.fixes_read.Goals.{After-rows_fix}
 
@@ -39,18 +39,19 @@ returns-then-dimension-eq0 c = fixes_zero (opened_of c.args.archive.now) (omega 
 pub returns-then-shape-dimension : goal.returns-then-shape-dimension
 returns-then-shape-dimension c = fixes-high (opened_of c.args.archive.now) (omega (arith, c.if-sets_of-set.false, c.sets_of.ensures)) c.if-shape-dimension.true
 
-pub is_bare-requires : goal.is_bare-requires
-is_bare-requires c =
+-- the set is one of the archive's, of which there are 256 at most
+pub bounds-used-set : goal.bounds-used-set
+bounds-used-set c =
     let o = opened_of c.args.archive.now in
-    (o.ready.dims, (shared_in o c.args.archive.now.words.now c.args.used.now refl c.requires).sets, omega (arith, c.if-sets_of-set.false, c.sets_of.ensures))
+    omega (arith, (shared_in o c.args.archive.now.words.now c.args.used.now refl c.requires).sets, c.if-sets_of-set.false, c.sets_of.ensures, pow_mono {i = c.args.archive.now.shape.dims} {j = 8} o.ready.dims)
 
 -- a key
-pub returns-then-is_bare : goal.returns-then-is_bare
-returns-then-is_bare c =
+pub returns-then-bare : goal.returns-then-bare
+returns-then-bare c =
     let a = c.args in
     let o = opened_of c.args.archive.now in
     let l = laid o in
-    let key = sym (bare-key l (shared_in o a.archive.now.words.now a.used.now refl c.requires) (sets_of a.archive.now.shape.dims (omega (arith, c.if-sets_of-set.false, c.sets_of.ensures)))) ∙ sym c.is_bare.ensures ∙ c.if-is_bare.true in
+    let key = sym (bare-key l (shared_in o a.archive.now.words.now a.used.now refl c.requires) (sets_of a.archive.now.shape.dims (omega (arith, c.if-sets_of-set.false, c.sets_of.ensures)))) ∙ bare-none a.archive.now.shape.dims a.used.now a.set (omega (arith, c.if-bare.true)) in
     fixes-told o (omega (arith, c.if-sets_of-set.false, c.sets_of.ensures)) c.if-dimension-eq0.false c.if-shape-dimension.false {b = true}
     (sym ((key-fixes a.archive.now.shape.dims (cut a.archive.now.shape.dims a.archive.now.shape.bases (take (a.archive.now.shape.bases * width a.archive.now.shape.dims) a.archive.now.words.now)) l.base.valid a.set).0 key a.dimension (omega (arith, c.if-dimension-eq0.false)) c.if-shape-dimension.false))
 

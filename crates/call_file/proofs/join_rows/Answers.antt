@@ -1,4 +1,4 @@
--- `call_join::join_rows` meets its contract: both lists are merged where their readings are not too many, and the archive is written where the rows are not.
+-- `call_file::join_rows` meets its contract: both lists are merged where their readings are not too many, and the archive is written where the rows are not.
 use mathlib.Core.Path.{sym, ap, ◌∙◌}
 use native.Mathlib.Omega.{arith}
 use lib.ListN.{length}
@@ -10,10 +10,10 @@ use Rattle.rows_merge.specs.United.{united}
 use Rattle.call_answers.specs.Joins.{filed}
 use Rattle.call_answers.specs.Answers.{stop}
 use Rattle.call_answers.proofs.Answers.{stopped, stopped_on, answered_as}
-use Rattle.call_join.proofs.Uniting.{stores_many, stored-over, stop_of, Written, stored}
+use Rattle.call_file.proofs.Uniting.{stores_many, stored-over, stop_of, Written, stored}
 use borrow.Author.Rules.{rules}
-use Rattle.call_join.proofs.join_rows.Goals as goal
-use Rattle.call_join.proofs.join_rows.Goals.{After-front-rows}
+use Rattle.call_file.proofs.join_rows.Goals as goal
+use Rattle.call_file.proofs.join_rows.Goals.{After-front-rows}
 
 -- the merged rows as the slice that is lent on
 lent : (c : goal.After-front-rows) → (let a = c.args in let zs = a.sizes.now in let r = c.front-rows.result in

@@ -1,4 +1,4 @@
--- What the code knows of the base rows of an archive in a flat list.
+-- Base rows in a flat list, as they are filed.
 --
 --   Store zs n ws   n base rows within the limits of an archive of sizes zs
 use Rattle.std.specs.Prelude.{List, ℕ, length}

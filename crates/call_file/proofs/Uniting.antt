@@ -24,7 +24,7 @@ use Rattle.archive_judge.proofs.Judged.{limits-ready}
 use Rattle.call_answers.specs.Answers.{Outcome, stop, bytes}
 use Rattle.call_answers.specs.Joins.{filed}
 use Rattle.call_answers.proofs.Limits.{filed-counts, filed-over, limits-merged, filed-merged}
-use Rattle.call_join.specs.Stores.{Store}
+use Rattle.call_file.specs.Stores.{Store}
 
 -- rows in a slice, of which an outcome's archive is written
 abbrev pub Written : List ℕ → Outcome → ℕ → ℕ → List ℕ → Type 0

@@ -1,0 +1,2 @@
+-- Base rows of two lists, filed as one: what the code meets.
+pub mod Uniting

@@ -1,0 +1,2 @@
+-- What the code knows of base rows that are filed.
+pub mod Stores

@@ -1,2 +1,0 @@
--- What the code knows of the base rows of an archive.
-pub mod Stores
