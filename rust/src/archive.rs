@@ -196,7 +196,7 @@ impl Archive {
     ///
     /// Each cell has the sums and counts of both. Which comes first does not matter; one without rows leaves the other's bytes.
     ///
-    /// Stop 17 if the dimensions or sizes differ, 18 if there are over 1,024 base rows or a total count over 1,048,576.
+    /// Stop 17 if the dimensions or sizes differ, 18 if the result has over 1,024 base rows or a total count over 1,048,576.
     ///
     /// ```
     /// use cube_archive::{Archive, Found, Stop, Table};

@@ -7,11 +7,12 @@
 //! comma, and no two columns have the same.
 //!
 //! Each further line is a record: in the dimensions' columns codes (unsigned decimal numbers below their sizes, at most 65,534),
-//! in the reading's a signed decimal number of 32 bits. A table has at most 1,024 records.
+//! in the reading's a signed decimal number of 32 bits. A table has at most 1,024 records; [`Reader`] reads more, for an archive.
 //!
 //! The text is UTF-8, with or without a byte order mark. Lines end with LF or CRLF, the last one also with neither. Spaces round
 //! a field and blank lines are passed over. A field in double quotes is taken as it is, with its commas, line ends and spaces; a
-//! double quote in it is written twice.
+//! double quote in it is written twice. A line with its line end, and with the lines to which its quoted fields go on, has at most
+//! 1,048,576 bytes ([`RECORD_BYTES`]), so that a quote which is never closed does not take in the rest of a long text.
 //!
 //! ```
 //! let table = cube_archive::csv::table_of("chip:7, port, reading\n0, 1, 50\n6, 5, -80\n")?;
@@ -24,14 +25,17 @@
 mod error;
 mod header;
 mod lines;
+mod reader;
 
 use crate::table::Table;
 pub use error::{Error, Fault};
-use header::Header;
 pub use header::{is_name, Column};
-use lines::Lines;
+pub use reader::{Reader, Record};
 
-/// CSV text taken apart: what stands in the dimensions' columns may be codes or anything else.
+/// The most bytes of a line with its line end, and with the lines to which its quoted fields go on.
+pub const RECORD_BYTES: usize = 1_048_576;
+
+/// CSV text taken apart whole: what stands in the dimensions' columns may be codes or anything else.
 ///
 /// ```
 /// use cube_archive::csv::Sheet;
@@ -50,23 +54,12 @@ pub struct Sheet {
     pub records: Vec<Record>,
 }
 
-/// A record: a field for each dimension, and the reading.
-#[derive(Clone, Debug, PartialEq, Eq)]
-pub struct Record {
-    /// The record's first line, counted from 1.
-    pub line: usize,
-    pub fields: Vec<String>,
-    pub reading: i32,
-}
-
 impl Sheet {
     /// Takes text apart. The reading's column is the one of this name, or the last.
     pub fn read(text: &str, reading: Option<&str>) -> Result<Sheet, Error> {
-        let mut lines = Lines::of(text);
-        let (line, header) = lines.next().unwrap_or(Err(Fault::NoHeader.at(1)))?;
-        let header = Header::read(&header, reading).map_err(|fault| fault.at(line))?;
-        let records = lines.map(|record| record.and_then(|(line, fields)| header.record(line, fields))).collect::<Result<_, _>>()?;
-        Ok(Sheet { line, dimensions: header.dimensions, records })
+        let reader = Reader::new(text.as_bytes(), reading)?;
+        let (line, dimensions) = (reader.line(), reader.dimensions().to_vec());
+        Ok(Sheet { line, dimensions, records: reader.collect::<Result<_, _>>()? })
     }
 
     /// The table of records whose fields are codes.

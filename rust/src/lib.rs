@@ -20,6 +20,7 @@
 //! ```
 //!
 //! * [`Table`]: the bytes of a table; [`csv`]: a table from CSV text
+//! * [`Records`]: the archive of more records than a table holds, built in parts and joined
 //! * [`Archive`]: build, open, check, entries, look up, list a cuboid, expand, list the smallest keys, tell what a set fixes, share a fee, join two
 //! * [`Stop`]: why a call refuses its input, with the documents' numbers
 //! * the command `cube` (`src/bin/cube`), for a person: docs/COMMAND.md
@@ -42,7 +43,9 @@ pub mod csv;
 mod entries;
 mod fields;
 mod head;
+mod quoted;
 pub mod raw;
+mod records;
 pub mod room;
 mod stop;
 mod table;
@@ -51,7 +54,9 @@ pub use archive::Archive;
 pub use cell::{Cell, Cuboid};
 pub use code::{Code, Codes, ALL};
 pub use entries::{Base, Entries};
+pub use quoted::quoted;
 pub use raw::{Counts, Found};
+pub use records::{RecordError, Records, TooMany};
 pub use stop::Stop;
 pub use table::{Table, TableError};
 

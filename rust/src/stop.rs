@@ -47,7 +47,7 @@ pub enum Stop {
     Dimension = 16,
     /// The dimensions or sizes of two archives differ.
     Sizes = 17,
-    /// Two archives have over 1,024 base rows together, or a total count over 1,048,576.
+    /// The result has over 1,024 base rows, or a total count over 1,048,576.
     Many = 18,
     /// The fee is above 1,000,000,000.
     Fee = 23,
@@ -113,7 +113,7 @@ impl Stop {
             Stop::Output => "the result is longer than the output",
             Stop::Dimension => "the dimension is not one of the archive's, which are counted from 1",
             Stop::Sizes => "the two archives have not the same dimensions and sizes",
-            Stop::Many => "the two archives together have over 1,024 base rows, or a total count over 1,048,576",
+            Stop::Many => "the result has over 1,024 base rows, or a total count over 1,048,576",
             Stop::Fee => "the fee is above 1,000,000,000 cents",
             Stop::NoRows => "the archive has no base row",
         }

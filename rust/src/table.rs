@@ -2,7 +2,7 @@
 use std::fmt;
 
 /// The most rows of a table.
-const ROWS: usize = 1_024;
+pub(crate) const ROWS: usize = 1_024;
 
 /// Records with their codes' sizes, from which the bytes of a table are made.
 ///

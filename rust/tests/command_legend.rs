@@ -327,6 +327,10 @@ fn what_is_no_legend() {
             format!("line {}: a backslash that begins none of the signs \\\\ \\t \\n \\r \\s \\u{{..}}", line("1\tTC37")),
         ),
         (
+            text.replace("1\tTC37", "1\t\\u{+41}"),
+            format!("line {}: a backslash that begins none of the signs \\\\ \\t \\n \\r \\s \\u{{..}}", line("1\tTC37")),
+        ),
+        (
             text.replace("chip\nsizes 3", "chip\nsizes 2"),
             format!("line {}: code 2 is not below the size of dimension \"chip\"", line("2\tTC39")),
         ),
@@ -359,8 +363,9 @@ fn columns_that_are_not_the_legends() {
     let folder = bench("legend_columns");
     for header in ["chip,port,late", "chip,port,task,late", "chip,port,priority,task,late"] {
         let fields = header.split(',').map(|_| "1").collect::<Vec<_>>().join(",");
-        let columns = header.rsplit_once(',').unwrap().0.replace(',', ", ");
-        let what = format!("x.csv: line 1: the columns are {columns}, but the legend's dimensions are chip, port, priority");
+        let columns = header.rsplit_once(',').unwrap().0.replace(',', "\", \"");
+        let dimensions = "\"chip\", \"port\", \"priority\"";
+        let what = format!("x.csv: line 1: the columns are \"{columns}\", but the legend's dimensions are {dimensions}");
         folder.write("x.csv", format!("{header}\n{fields}\n")).fails("build x.csv --legend bench.legend -o x.cube", &what);
     }
 }

@@ -2,8 +2,9 @@
 mod cube;
 
 use cube::Records;
-use cube_archive::csv::{table_of, text_of, Fault, Sheet};
+use cube_archive::csv::{table_of, text_of, Fault, Reader, Sheet, RECORD_BYTES};
 use cube_archive::TableError;
+use std::io::{self, BufReader, Read};
 
 /// The bytes of the table.
 fn bytes(text: &str) -> Vec<u8> {
@@ -53,6 +54,8 @@ fn sizes_are_given_or_found() {
 
 #[test]
 fn extreme_readings_and_signs() {
+    let zeros = "0".repeat(100_000);
+    assert_eq!(bytes(&format!("a:{zeros}9,r\n{zeros}8,-{zeros}7\n")), bytes("a:9,r\n8,-7\n"));
     let wanted = Records { sizes: vec![1], rows: [i32::MIN, i32::MAX, 7, 0].map(|reading| (vec![0], reading)).to_vec() };
     assert_eq!(bytes("a,r\n0,-2147483648\n0,2147483647\n00,+7\n0,-0\n"), wanted.table());
 }
@@ -188,6 +191,91 @@ fn wrong_quotes() {
     refused("a,\"r\n", 1, Fault::OpenQuote, "a quoted field has no closing quote");
 }
 
+/// Of a long field the error has the first 60 characters.
+#[test]
+fn long_fields_are_quoted_in_part() {
+    for length in [60, 61, 200_000] {
+        let field = "ä".repeat(length);
+        let quoted = format!("\"{}\"{}", "ä".repeat(60), if length > 60 { ".." } else { "" });
+        for (text, wanted) in [
+            (format!("a,r\n{field},1\n"), format!("line 2: {quoted} is no code: ")),
+            (format!("a,r\n0,{field}\n"), format!("line 2: {quoted} is no reading: ")),
+            (format!("a,r\n\"0\"{field},1\n"), format!("line 2: a quote or text beside one, {quoted}: ")),
+            (format!("a:{field},r\n"), format!("line 1: {quoted} is no size: ")),
+            (format!("{field},{field},r\n"), format!("line 1: two columns are named {quoted}: ")),
+        ] {
+            let words = fault(&text).2;
+            assert!(words.starts_with(&wanted), "{words}");
+        }
+    }
+    let name = "=".repeat(61);
+    assert!(fault(&format!("{name},r\n")).2.starts_with(&format!("line 1: {:?}.. is no column name: ", &name[..60])));
+}
+
+/// A header and a record of so many bytes, which ends with this.
+fn long(beginning: &str, fill: &str, end: &str, length: usize) -> String {
+    let room = length - beginning.len() - end.len();
+    let fill = fill.repeat(room / fill.len()) + &"x".repeat(room % fill.len());
+    format!("a,r\n{beginning}{fill}{end}")
+}
+
+#[test]
+fn records_as_long_as_they_may_be() {
+    for (beginning, fill, end) in [
+        ("\"", "x", "\",5\n"),
+        ("\"", "x", "\",5"),
+        ("\"", "\n", "\",5\r\n"),
+        ("\"", "0,1\n", "\",5\n"),
+        ("\"", "\"\"", "\",5\n"),
+        ("\"", "日本", "\",5\n"),
+        ("", "x", ",5\n"),
+        (" ", " ", "\"\",5\n"),
+    ] {
+        let length = fields(&long(beginning, fill, end, RECORD_BYTES))[0].len();
+        assert!(fill == " " || length >= RECORD_BYTES / 2 - 10, "{beginning:?} {fill:?} {end:?}: {length}");
+        let error = fault(&long(beginning, fill, end, RECORD_BYTES + 1));
+        assert_eq!((error.0, error.1), (2, Fault::Long), "{beginning:?} {fill:?} {end:?}");
+    }
+    // Each record has its own bytes.
+    let text = "a,r\n".to_string() + &long("\"", "x\n", "\",5\n", RECORD_BYTES)[4..].repeat(3);
+    assert_eq!(Sheet::read(&text, None).unwrap().records.len(), 3);
+}
+
+#[test]
+fn a_quote_that_is_not_closed_within_a_record() {
+    let words = "a quoted field has no closing quote within the 1048576 bytes that a record may have";
+    for fill in ["x", "\n", "0,1\n", "\"\"\n", "日本\n", "ä"] {
+        for beginning in ["\"", " \"", "x,\"", "\"\",  \"", "\"x"] {
+            let open = |length| long(beginning, fill, "y", length);
+            refused(&open(RECORD_BYTES), 2, Fault::OpenQuote, "a quoted field has no closing quote");
+            refused(&open(RECORD_BYTES + 1), 2, Fault::LongQuote, words);
+            refused(&open(3 * RECORD_BYTES), 2, Fault::LongQuote, words);
+        }
+        refused(&(long("\"", fill, "y", RECORD_BYTES) + "\",5\n"), 2, Fault::LongQuote, words);
+        refused(&long("\"\n\n\",\"", fill, "y", 2 * RECORD_BYTES), 4, Fault::LongQuote, words);
+        refused(&long("\"\n\n\",\"", fill, "y", 2 * RECORD_BYTES)[4..], 3, Fault::LongQuote, words);
+    }
+}
+
+/// The first fault is told as in a short record, and nothing is read behind it.
+#[test]
+fn other_faults_in_records_that_are_too_long() {
+    let error = |beginning: &str, fill: &str| fault(&long(beginning, fill, "", 2 * RECORD_BYTES));
+    for (beginning, shown) in [("5\" disk,1\n", "5\" disk"), ("\"\n\"b,\"", "b")] {
+        let line = 2 + usize::from(shown == "b");
+        assert_eq!((line, Fault::Quote(shown.into())), (error(beginning, "0,1\n").0, error(beginning, "0,1\n").1));
+    }
+    assert_eq!((2, Fault::CarriageReturn), (error("0,1\r", "0,1\r").0, error("0,1\r", "0,1\r").1));
+    for fill in [" ", "x", ",", "\0"] {
+        let words = "line 2: this record has more than the 1048576 bytes that a record may have";
+        assert_eq!(error("", fill), (2, Fault::Long, words.into()));
+    }
+    let text = [b"a,r\n\"\n\xC3".to_vec(), vec![b'\n'; 2 * RECORD_BYTES]].concat();
+    let mut reader = Reader::new(&text[..], None).unwrap();
+    assert_eq!(reader.next().unwrap().unwrap_err().to_string(), "line 3: this is no UTF-8 text: save the records as CSV in UTF-8");
+    assert!(reader.next().is_none());
+}
+
 #[test]
 fn a_byte_order_mark() {
     let text = include_str!("../../examples/five-rows.csv");
@@ -228,4 +316,41 @@ fn bytes_that_are_no_text() {
     let error = text_of(b"a,r\n0,1\n\xFF,1\n").unwrap_err();
     assert_eq!(error.to_string(), "line 3: this is no UTF-8 text: save the records as CSV in UTF-8");
     assert_eq!(text_of(b"a,r\n"), Ok("a,r\n"));
+}
+
+/// A text that cannot be read on behind its end.
+struct Broken(&'static [u8]);
+
+impl Read for Broken {
+    fn read(&mut self, lent: &mut [u8]) -> io::Result<usize> {
+        match self.0.read(lent)? {
+            0 => Err(io::Error::other("the cable is out")),
+            length => Ok(length),
+        }
+    }
+}
+
+#[test]
+fn what_cannot_be_read_on() {
+    let error = |text: &'static str| {
+        let reader = Reader::new(BufReader::with_capacity(3, Broken(text.as_bytes())), None);
+        reader.and_then(|reader| reader.codes(|_| ())).unwrap_err()
+    };
+    for (text, line) in [("", 1), ("a,r", 1), ("a,r\n0,1\n\n0,", 4), ("a,r\n0,1\n\"0\n\n", 5)] {
+        assert_eq!(error(text).to_string(), format!("line {line}: the cable is out"), "{text:?}");
+        assert_eq!(error(text).fault, Fault::Unread("the cable is out".into()));
+    }
+}
+
+/// Read in pieces of any length, a text gives the same.
+#[test]
+fn in_pieces() {
+    let text = "\u{FEFF}\r\na,\"b:7\",r\r\n\"ä\n, \"\"日\"\"\" ,\tx\u{a0},5\n\n \n\"\",\"\n\n\",-7\n\u{3000}\ny,\"z\",+0";
+    let whole = Sheet::read(text, None).unwrap();
+    assert_eq!(whole.records.iter().map(|record| record.line).collect::<Vec<_>>(), [3, 7, 11]);
+    for length in 1..20 {
+        let reader = Reader::new(BufReader::with_capacity(length, text.as_bytes()), None).unwrap();
+        assert_eq!((reader.line(), reader.dimensions()), (whole.line, &whole.dimensions[..]));
+        assert_eq!(reader.collect::<Result<Vec<_>, _>>(), Ok(whole.records.clone()));
+    }
 }

@@ -22,7 +22,7 @@ const STOPS: [(Stop, &str); 20] = [
     (Stop::Set, "the set has a dimension that the archive has not"),
     (Stop::Dimension, "the dimension is not one of the archive's, which are counted from 1"),
     (Stop::Sizes, "the two archives have not the same dimensions and sizes"),
-    (Stop::Many, "the two archives together have over 1,024 base rows, or a total count over 1,048,576"),
+    (Stop::Many, "the result has over 1,024 base rows, or a total count over 1,048,576"),
     (Stop::Fee, "the fee is above 1,000,000,000 cents"),
     (Stop::NoRows, "the archive has no base row"),
     (Stop::Output, "the result is longer than the output"),

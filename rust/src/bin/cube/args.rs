@@ -54,11 +54,20 @@ impl Args {
         Ok((file, rest.iter().map(|word| text(word)).collect::<Outcome<_>>()?))
     }
 
-    /// Just so many words, each of them a file.
-    pub fn files<const N: usize>(&self) -> Outcome<[&OsStr; N]> {
-        let files: Vec<&OsStr> = self.words.iter().map(OsString::as_os_str).collect();
-        let count = files.len();
-        files.try_into().map_err(|_| Failure::Usage(format!("expected {N} file{}, found {count}", if N == 1 { "" } else { "s" })))
+    /// The only word, which is a file.
+    pub fn file(&self) -> Outcome<&OsStr> {
+        match &self.words[..] {
+            [file] => Ok(file),
+            words => Err(Failure::Usage(format!("expected 1 file, found {}", words.len()))),
+        }
+    }
+
+    /// So many words or more, each of them a file.
+    pub fn files(&self, least: usize) -> Outcome<Vec<&OsStr>> {
+        match self.words.len() {
+            count if count < least => Err(Failure::Usage(format!("expected {least} files or more, found {count}"))),
+            _ => Ok(self.words.iter().map(OsString::as_os_str).collect()),
+        }
     }
 }
 

@@ -24,7 +24,8 @@ pub fn unescaped(text: &str) -> Option<String> {
         let (c, behind) = match sign.strip_prefix("u{") {
             Some(number) => {
                 let (number, behind) = number.split_once('}')?;
-                (char::from_u32(u32::from_str_radix(number, 16).ok()?)?, behind)
+                let number = u32::from_str_radix(number, 16).ok().filter(|_| !number.starts_with('+'))?;
+                (char::from_u32(number)?, behind)
             }
             None => {
                 let letter = sign.chars().next()?;

@@ -38,16 +38,17 @@ impl fmt::Display for Failure {
     }
 }
 
-/// What to do about a stop.
+const DAMAGED: &str = "; the file is damaged, take another copy";
+
+/// What to do about a stop. `cube join` has words of its own for 17 and 18.
 fn advice(stop: Stop) -> &'static str {
     match stop {
         Stop::Opening => "; is it an archive? 'cube build' makes one from CSV",
         Stop::Cut => "; the file was cut short, take another copy",
         Stop::Fee => "; share a smaller fee",
         Stop::NoRows => "; there is no record to share a fee by",
-        _ if stop.number() == 17 => "; build both with one legend, or give both headers the same sizes (NAME:SIZE)",
-        _ if stop.number() == 18 => "; keep them as two archives",
-        _ if stop.number() <= Stop::Entries.number() => "; the file is damaged, take another copy",
+        Stop::Dimensions | Stop::Size | Stop::Rows | Stop::Code | Stop::Order | Stop::Amount | Stop::List => DAMAGED,
+        Stop::Trailing | Stop::CheckWord | Stop::Entries => DAMAGED,
         _ => "",
     }
 }

@@ -1,12 +1,16 @@
 //! The legend: each dimension's name and sizes, and the label of each code. docs/LEGEND.md has its form.
 mod extend;
 mod fit;
+mod labels;
 mod text;
 
 use crate::failure::{Failure, Outcome};
+use cube_archive::quoted;
 use std::collections::HashMap;
 use std::fs;
 use std::path::{Path, PathBuf};
+
+pub use labels::Labels;
 
 #[derive(Clone, Debug, PartialEq, Eq)]
 pub struct Legend {
@@ -47,7 +51,9 @@ impl Dimension {
     /// Gives the next code to a new label, if there is one.
     fn push(&mut self, label: &str) -> Result<(), String> {
         let code = u16::try_from(self.labels.len()).ok().filter(|&code| code < u16::MAX);
-        let code = code.ok_or_else(|| format!("dimension {:?} has no code left for {label:?}: it has {} labels", self.name, u16::MAX))?;
+        let code = code.ok_or_else(|| {
+            format!("dimension {} has no code left for {}: it has {} labels", quoted(&self.name), quoted(label), u16::MAX)
+        })?;
         self.labels.push(label.into());
         self.codes.insert(label.into(), code);
         Ok(())

@@ -8,6 +8,7 @@ mod input;
 mod legend;
 mod opened;
 mod output;
+mod progress;
 mod report;
 
 use args::Args;

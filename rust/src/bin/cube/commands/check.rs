@@ -17,7 +17,7 @@ stop's number and what is wrong.
 };
 
 fn run(args: &Args) -> Outcome<()> {
-    let [file] = args.files()?;
+    let file = args.file()?;
     let opened = Opened::read(file, args)?;
     let counts = opened.ask(opened.archive.check())?;
     let answer = if args.csv {

@@ -14,7 +14,7 @@ pub const COMMAND: Command = Command {
 };
 
 fn run(args: &Args) -> Outcome<()> {
-    let [file] = args.files()?;
+    let file = args.file()?;
     let opened = Opened::read(file, args)?;
     let cuboids = opened.ask(opened.archive.expand())?;
     let mut columns = Columns::new(opened.names(), &["sum", "count"]);

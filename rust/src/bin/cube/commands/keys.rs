@@ -18,7 +18,7 @@ field.
 };
 
 fn run(args: &Args) -> Outcome<()> {
-    let [file] = args.files()?;
+    let file = args.file()?;
     let opened = Opened::read(file, args)?;
     let keys = opened.ask(opened.archive.smallest_keys())?;
     let mut columns = Columns::new(vec!["key".into()], &[]);

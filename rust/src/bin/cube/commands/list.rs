@@ -18,7 +18,7 @@ from 1, adds 2 to the power i-1. Unlike the program it takes archives of more th
 };
 
 fn run(args: &Args) -> Outcome<()> {
-    let [file] = args.files()?;
+    let file = args.file()?;
     let input = Input::read(file)?;
     let text = input.archive()?.entries().to_string();
     output::deliver(args.output.as_deref(), &[input.source()], text.as_bytes())

@@ -17,7 +17,7 @@ An archive that is refused has no page: the command says what is wrong with it.
 };
 
 fn run(args: &Args) -> Outcome<()> {
-    let [file] = args.files()?;
+    let file = args.file()?;
     let opened = Opened::read(file, args)?;
     opened.deliver(args, &page(&opened)?)
 }

@@ -1,6 +1,6 @@
 //! Which archives a legend is for, and whether two legends can be of one archive.
 use super::{Dimension, Legend};
-use cube_archive::Archive;
+use cube_archive::{quoted, Archive};
 
 impl Legend {
     /// A legend fits an archive that has as many dimensions, each of a size that the legend's has had, and no code without a label.
@@ -11,12 +11,12 @@ impl Legend {
             return Err(format!("it has {} dimensions, the archive {}", self.dimensions.len(), sizes.len()));
         }
         if let Some((dimension, size)) = self.dimensions.iter().zip(&sizes).find(|(dimension, size)| !dimension.sizes.contains(size)) {
-            return Err(format!("dimension {:?} has never had the archive's size {size}", dimension.name));
+            return Err(format!("dimension {} has never had the archive's size {size}", quoted(&dimension.name)));
         }
         let rows = archive.list_cuboid((1 << sizes.len()) - 1).map_err(|stop| stop.to_string())?.cells;
         for (dimension, i) in self.dimensions.iter().zip(0..) {
             if let Some(code) = rows.iter().filter_map(|row| row.codes[i]).find(|&code| dimension.label(code).is_none()) {
-                return Err(format!("dimension {:?} has no label for code {code}", dimension.name));
+                return Err(format!("dimension {} has no label for code {code}", quoted(&dimension.name)));
             }
         }
         Ok(())

@@ -2,6 +2,7 @@
 use super::{Dimension, Legend};
 use crate::escape::{escaped, unescaped};
 use cube_archive::csv::is_name;
+use cube_archive::quoted;
 
 const TITLE: &str = "Legend of condensed cube archives, form 1";
 
@@ -35,7 +36,7 @@ impl Legend {
             legend.add(line.trim()).map_err(|fault| format!("line {number}: {fault}"))?;
         }
         match legend.dimensions.iter().find(|dimension| dimension.sizes.is_empty()) {
-            Some(dimension) => Err(format!("dimension {:?} has no line with its sizes", dimension.name)),
+            Some(dimension) => Err(format!("dimension {} has no line with its sizes", quoted(&dimension.name))),
             None if legend.dimensions.is_empty() => Err("there is no line with a dimension".into()),
             None => Ok(legend),
         }
@@ -44,9 +45,9 @@ impl Legend {
     /// Takes in a line.
     fn add(&mut self, line: &str) -> Result<(), String> {
         if let Some(name) = dimension(line) {
-            let name = unescaped(name).filter(|name| is_name(name)).ok_or_else(|| format!("{name:?} is no name of a dimension"))?;
+            let name = unescaped(name).filter(|name| is_name(name)).ok_or_else(|| format!("{} is no name of a dimension", quoted(name)))?;
             if self.dimensions.iter().any(|dimension| dimension.name == name) {
-                return Err(format!("a second dimension {name:?}: take one of them out"));
+                return Err(format!("a second dimension {}: take one of them out", quoted(&name)));
             }
             self.dimensions.push(Dimension::new(name));
             return Ok(());
@@ -73,15 +74,15 @@ impl Dimension {
         let (code, label) = line.split_once([' ', '\t']).unwrap_or((line, ""));
         let next = self.labels.len();
         if code != next.to_string() {
-            return Err(format!("expected code {next} and its label, found {line:?}"));
+            return Err(format!("expected code {next} and its label, found {}", quoted(line)));
         }
         if self.sizes.is_empty() || next >= usize::from(self.size()) {
-            return Err(format!("code {next} is not below the size of dimension {:?}", self.name));
+            return Err(format!("code {next} is not below the size of dimension {}", quoted(&self.name)));
         }
         let label = unescaped(label.trim()).ok_or("a backslash that begins none of the signs \\\\ \\t \\n \\r \\s \\u{..}")?;
         match self.code(&label) {
             _ if label == "*" => Err("'*' stands for ALL and is no label".into()),
-            Some(code) => Err(format!("label {label:?} is that of code {code} too")),
+            Some(code) => Err(format!("label {} is that of code {code} too", quoted(&label))),
             None => self.push(&label),
         }
     }
