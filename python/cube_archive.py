@@ -49,7 +49,7 @@ STOPS = {
     10: 'bytes follow the check word',
     11: 'the check word is wrong',
     12: 'a list, the normal count or a normal entry is not what the base entries require',
-    13: "the question has not one code for each dimension, or a code that is not below its dimension's size",
+    13: "the question or record has not one code for each dimension, or a code that is not below its dimension's size",
     14: 'the set has a dimension that the archive has not',
     15: 'the result is longer than the output',
     16: "the dimension is not one of the archive's, which are counted from 1",
@@ -107,7 +107,8 @@ _library = _load()
 for _name, _arguments in {
         'build': _IN + _OUT, 'check': _IN, 'list_cuboid': _IN + [ctypes.c_uint32] + _OUT, 'expand': _IN + _OUT,
         'look_up': _IN + [ctypes.c_void_p, ctypes.c_size_t] + 3 * [ctypes.c_void_p], 'smallest_keys': _IN + _OUT,
-        'fixes': _IN + 2 * [ctypes.c_uint32], 'share_fee': _IN + 2 * [ctypes.c_uint32] + _OUT, 'join': _IN + _IN + _OUT}.items():
+        'fixes': _IN + 2 * [ctypes.c_uint32], 'share_fee': _IN + 2 * [ctypes.c_uint32] + _OUT, 'join': _IN + _IN + _OUT,
+        'add': _IN + [ctypes.c_void_p, ctypes.c_size_t, ctypes.c_int32] + _OUT}.items():
     _function = getattr(_library, 'cube_' + _name)
     _function.argtypes, _function.restype = _arguments, ctypes.c_uint64
 
@@ -261,7 +262,7 @@ class Archive:
         answer = _call('check', self._bytes)
         return Counts(answer & 0xFFFFFFFF, answer >> 32)
 
-    def cell(self, question=None, **labels):
+    def cell(self, question=None, /, **labels):
         """One cell: its sum, its count and the entry that carries them; None for 'no record'. A dimension that is not named is
         ALL, and so is one that is None or '*'. Behind a dimension's name comes a label, behind its number a code.
 
@@ -269,17 +270,9 @@ class Archive:
         >>> one.cell(chip='TC37', port='P00') == one.cell({1: 0, 'port': 'P00'}) == one.cell()
         True
         """
-        words, asked = [ALL] * len(self.sizes), set()
-        for dimension, label in [*(question or {}).items(), *labels.items()]:
-            place = self._place(dimension)
-            if place in asked:
-                raise CubeError('dimension %s is asked for twice' % _quoted(dimension))
-            asked.add(place)
-            if label is not None and label != '*':
-                words[place] = self._code(dimension, place, label)
+        words = self._words(self._named(question, labels))
         total, count, entry = ctypes.c_int64(), ctypes.c_uint32(), ctypes.c_uint32()
-        asked = (ctypes.c_uint32 * len(words))(*words)
-        found = _call('look_up', self._bytes, asked, len(words), *map(ctypes.byref, (total, count, entry)))
+        found = _call('look_up', self._bytes, words, len(words), *map(ctypes.byref, (total, count, entry)))
         return Cell(total.value, count.value, entry.value) if found else None
 
     def cuboid(self, *dimensions):
@@ -362,6 +355,22 @@ class Archive:
             data = _join(data, other._bytes)
         return Archive(data, legend)
 
+    def add(self, reading, record=None, /, **labels):
+        """This archive with one late record added: its reading, and as in `cell` a label or a code for each dimension.
+
+        >>> closed = Archive.build([('chip', 'port', 'late'), ('TC37', 'P00', 5), ('TC39', 'P02', 7)], legend=True)
+        >>> closed.add(-8, chip='TC37', port='P02').cell(port='P02')
+        Cell(sum=-1, count=2, entry=5)
+        """
+        number = _reading(reading)
+        if number is None:
+            raise CubeError(NO_READING % _quoted(reading))
+        words = self._words(self._named(record, labels))
+        if ALL in words:
+            raise CubeError('dimension %s is missing: a record has a code for each' % _quoted(self.names[list(words).index(ALL)]))
+        room = _archive_room(len(self.sizes), min(self._rows + 1, ROWS))
+        return Archive(_written(room, 'add', self._bytes, words, len(words), number), self.legend)
+
     def totals(self, *dimensions):
         """The cells of each dimension added up, beside the grand total: a record that was lost or counted twice makes them differ.
 
@@ -408,6 +417,20 @@ class Archive:
 
     def _set(self, dimensions):
         return sum(1 << place for place in {self._place(dimension) for dimension in dimensions})
+
+    def _named(self, question, labels):
+        """The code of each dimension that is named, or ALL, by the dimension's place."""
+        named = {}
+        for dimension, label in [*(question or {}).items(), *labels.items()]:
+            place = self._place(dimension)
+            if place in named:
+                raise CubeError('dimension %s is asked for twice' % _quoted(dimension))
+            named[place] = ALL if label is None or label == '*' else self._code(dimension, place, label)
+        return named
+
+    def _words(self, named):
+        """A question as the calls take it: the code of each dimension, ALL where it has none."""
+        return (ctypes.c_uint32 * len(self.sizes))(*(named.get(place, ALL) for place in range(len(self.sizes))))
 
     def _code(self, dimension, place, label):
         """The code in a question. One that no dimension has is passed on as a value that the call refuses."""
@@ -577,6 +600,14 @@ def _number(field, least, most, form='[0-9]+'):
     return field if isinstance(field, int) and least <= field <= most else None
 
 
+NO_READING = '%s is no reading: a reading is a number from -2147483648 to 2147483647'
+
+
+def _reading(field):
+    """The reading that a field is, if it is one."""
+    return _number(field, -1 << 31, (1 << 31) - 1, '[+-]?[0-9]+')
+
+
 def _quoted(value):
     """A value as messages quote it: of a long text the first 60 characters, and '..' behind the quotes."""
     if isinstance(value, int) and abs(value) >= 10 ** 60:
@@ -637,10 +668,9 @@ class _Records:
             if len(fields) != len(self.names) + 1:
                 raise self.error(place, 'expected %d fields, found %d' % (len(self.names) + 1, len(fields)))
             field = fields.pop(self.reading)
-            reading = _number(field, -1 << 31, (1 << 31) - 1, '[+-]?[0-9]+')
+            reading = _reading(field)
             if reading is None:
-                what = 'is no reading: a reading is a number from -2147483648 to 2147483647'
-                raise self.error(place, '%s %s' % (_quoted(field), what))
+                raise self.error(place, NO_READING % _quoted(field))
             count += 1
             key = tuple(fields) if self.unit == 'line' else None
             codes = known.get(key)

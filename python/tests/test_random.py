@@ -4,7 +4,7 @@ import re
 import unittest
 
 import command
-from cube_archive import Archive, Legend, RecordError
+from cube_archive import Archive, CubeError, Legend, RecordError
 
 LABELS = [
     '', ' ', 'a', 'B', 'a b', ' c', 'd ', 'x,y', '"', 'say "no"', 'line\nend', '\t', '\\', '\\n', 'ä', 'Ä', '日本', '\U0001f980', '0',
@@ -64,9 +64,22 @@ class Held(unittest.TestCase):
             cell = archive.cell(codes)
             words = ['%d=%d' % pair for pair in codes.items()]
             self.assertEqual(['', '', ''] if cell is None else list(map(str, cell)), ask('cell', *words)[0][dims:])
+        self.hold_late_record(folder, archive, draw, legend)
         for cell in draw.sample(archive.expand(), min(20, len(archive.expand()))):
             question = dict(zip(names, cell.values()))
             self.assertEqual(archive.cell(question)[:2], (cell['sum'], cell['count']))
+
+    def hold_late_record(self, folder, archive, draw, legend):
+        """A record added is that of the command; one with a code that has no label is refused by both."""
+        record = {place: draw.randrange(min(size, 4)) for place, size in enumerate(archive.sizes, 1)}
+        reading = draw.choice([-2**31, 2**31 - 1, draw.randrange(-9, 9)])
+        status, _, error = folder.run('add', 'x.cube', reading, *('%d=%d' % pair for pair in record.items()), *legend, '-o', 'late')
+        if archive.legend and any(code >= len(archive.legend.dimensions[place - 1].labels) for place, code in record.items()):
+            self.assertEqual(status, 1)
+            self.assertRaisesRegex(CubeError, 'has no label for code', archive.add, reading, record)
+        else:
+            self.assertEqual((status, error), (0, ''))
+            self.assertEqual(bytes(archive.add(reading, record)), folder.read('late'))
 
     def test_codes(self):
         for seed in range(32):

@@ -49,6 +49,12 @@ class Refused(unittest.TestCase):
         self.stops(23, five.fee, 2**40, 1)
         self.stops(24, Archive.build(FIVE[:1]).fee, 5, 1)
         self.stops(17, five.join, Archive.build([('a', 'r')]))
+        for codes in ({1: 7, 2: 1, 3: 1}, {1: 0, 2: 1, 3: -1}):
+            self.stops(13, five.add, 5, codes)
+        for reading in (2**31, '', '1.5', 1.5, None):
+            self.assertRaisesRegex(CubeError, 'is no reading: a reading is a number from', five.add, reading, {1: 0, 2: 1, 3: 1})
+        for codes in ({1: 0, 3: 1}, {1: 0, 2: '*', 3: 1}):
+            self.assertRaisesRegex(CubeError, 'dimension 2 is missing: a record has a code for each', five.add, 5, codes)
         names = Archive.build([('chip', 'late'), ('TC37', 1)], legend=True)
         self.assertRaisesRegex(CubeError, 'twice', names.cell, {1: 0}, chip='TC37')
         self.assertRaisesRegex(CubeError, "no label 'TC99'", names.cell, chip='TC99')
@@ -62,6 +68,7 @@ class Refused(unittest.TestCase):
         full = Archive.build([('a', 'r')] + [(0, 2**31 - 1)] * 1048576)
         self.assertEqual(full.cell(), (1048576 * (2**31 - 1), 1048576, 0))
         self.stops(18, full.join, Archive.build([('a', 'r'), (0, 1)]))
+        self.stops(18, full.add, 5, {1: 0})
         what = '^row 1048578: one record more than the 1048576 that an archive holds; those before it have 1 different'
         self.assertRaisesRegex(RecordError, what, Archive.build, [('a', 'r')] + [(0, 1)] * 1048577)
 

@@ -224,6 +224,35 @@ impl Archive {
         Ok(Archive::accepted(written(room, |out| raw::join(&self.bytes, &other.bytes, out))?))
     }
 
+    /// This archive with one record added: the archive of its base rows with the record folded in.
+    ///
+    /// Just the cells in which the record falls gain it, each by the reading and by one in count; every other cell keeps its values.
+    ///
+    /// Stop 13 if there are other than D codes, or one that is not below its size; 18 if the result has over 1,024 base rows or a total
+    /// count over 1,048,576.
+    ///
+    /// ```
+    /// use cube_archive::{Archive, Stop, Table};
+    ///
+    /// let mut table = Table::new(&[7, 6])?;
+    /// table.push(&[0, 1], 50)?;
+    /// let closed = Archive::build(&table.to_bytes())?;
+    /// let late = closed.add(&[2, 1], -8)?;
+    /// let amount = |archive: &Archive, cell: &[Option<u16>]| Ok::<_, Stop>(archive.look_up(cell)?.map(|found| (found.sum, found.count)));
+    /// assert_eq!(amount(&late, &[None, Some(1)])?, Some((42, 2)));
+    /// assert_eq!(amount(&late, &[Some(2), None])?, Some((-8, 1)));
+    /// assert_eq!(amount(&late, &[Some(0), None])?, amount(&closed, &[Some(0), None])?);
+    /// table.push(&[2, 1], -8)?;
+    /// assert_eq!(late, Archive::build(&table.to_bytes())?, "as built afresh");
+    /// assert_eq!(closed.add(&[2, 6], 1), Err(Stop::Question));
+    /// # Ok::<(), Box<dyn std::error::Error>>(())
+    /// ```
+    pub fn add(&self, codes: &[u16], reading: i32) -> Result<Archive, Stop> {
+        let codes: Vec<u32> = codes.iter().map(|&code| code.into()).collect();
+        let room = room::add(self.head.dims, self.head.rows);
+        Ok(Archive::accepted(written(room, |out| raw::add(&self.bytes, &codes, reading, out))?))
+    }
+
     /// The cuboids of these sets, which the bytes list one behind the other.
     fn decoded(&self, bytes: &[u8], sets: &[u32]) -> Vec<Cuboid> {
         let mut fields = Fields(bytes);

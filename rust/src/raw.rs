@@ -35,6 +35,15 @@ mod ffi {
         pub fn cube_fixes(archive: *const u8, archive_len: usize, set: u32, dimension: u32) -> u64;
         pub fn cube_share_fee(archive: *const u8, archive_len: usize, fee: u32, set: u32, out: *mut u8, out_len: usize) -> u64;
         pub fn cube_join(first: *const u8, first_len: usize, second: *const u8, second_len: usize, out: *mut u8, out_len: usize) -> u64;
+        pub fn cube_add(
+            archive: *const u8,
+            archive_len: usize,
+            codes: *const u32,
+            count: usize,
+            reading: i32,
+            out: *mut u8,
+            out_len: usize,
+        ) -> u64;
     }
 }
 
@@ -111,6 +120,12 @@ pub fn share_fee(archive: &[u8], fee: u32, set: u32, out: &mut [u8]) -> Result<u
 pub fn join(first: &[u8], second: &[u8], out: &mut [u8]) -> Result<usize, Stop> {
     // SAFETY: three slices, and the output is apart from the inputs.
     length(unsafe { ffi::cube_join(first.as_ptr(), first.len(), second.as_ptr(), second.len(), out.as_mut_ptr(), out.len()) })
+}
+
+/// Adds one record, a code for each dimension and a reading; the length of the archive of the base rows with this record folded in.
+pub fn add(archive: &[u8], codes: &[u32], reading: i32, out: &mut [u8]) -> Result<usize, Stop> {
+    // SAFETY: three slices, and the output is apart from the inputs.
+    length(unsafe { ffi::cube_add(archive.as_ptr(), archive.len(), codes.as_ptr(), codes.len(), reading, out.as_mut_ptr(), out.len()) })
 }
 
 /// The answer, or the stop: 2 to the power 63 plus its number.

@@ -16,6 +16,11 @@ pub const fn join(dims: usize, rows: usize, others: usize) -> usize {
     archive(dims, if both < 1024 { both } else { 1024 })
 }
 
+/// For a record added to an archive of so many base rows: one row more at most, and no more than 1,024.
+pub const fn add(dims: usize, rows: usize) -> usize {
+    join(dims, rows, 1)
+}
+
 /// For a listed cuboid.
 pub const fn cuboid(dims: usize, rows: usize) -> usize {
     4 + at_least_1(rows) * (4 * dims + 12)

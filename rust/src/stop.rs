@@ -37,7 +37,7 @@ pub enum Stop {
     CheckWord = 11,
     /// A list, the normal count or a normal entry is not what the base entries require.
     Entries = 12,
-    /// A question has other than D codes, or a code that is neither below its size nor ALL.
+    /// A question has other than D codes, or a code that is neither below its size nor ALL; a record has other than D codes, or one that is not below its size.
     Question = 13,
     /// The set number that a call is given is 2 to the power D or more.
     Set = 14,
@@ -108,7 +108,9 @@ impl Stop {
             Stop::Trailing => "bytes follow the check word",
             Stop::CheckWord => "the check word is wrong",
             Stop::Entries => "a list, the normal count or a normal entry is not what the base entries require",
-            Stop::Question => "the question has not one code for each dimension, or a code that is not below its dimension's size",
+            Stop::Question => {
+                "the question or record has not one code for each dimension, or a code that is not below its dimension's size"
+            }
             Stop::Set => "the set has a dimension that the archive has not",
             Stop::Output => "the result is longer than the output",
             Stop::Dimension => "the dimension is not one of the archive's, which are counted from 1",

@@ -7,7 +7,7 @@ use cube::Records;
 use std::ffi::OsStr;
 use std::os::unix::ffi::OsStrExt;
 
-const NAMES: [&str; 12] = ["build", "check", "cell", "cuboid", "expand", "list", "keys", "fixes", "join", "totals", "fee", "report"];
+const NAMES: [&str; 13] = ["build", "check", "cell", "cuboid", "expand", "list", "keys", "fixes", "join", "add", "totals", "fee", "report"];
 
 #[test]
 fn wrong_usage() {
@@ -55,7 +55,14 @@ fn wrong_usage() {
         ("fee five.cube 1.5 2", "\"1.5\" is no number of cents"),
         ("fee five.cube +1 2", "\"+1\" is no number of cents"),
         ("check --foo five.cube", "there is no option --foo here"),
-        ("fee five.cube -1 2", "there is no option -1 here"),
+        ("fee five.cube -1 2", "\"-1\" is no number of cents"),
+        ("add five.cube", "a reading is missing"),
+        ("add five.cube 1=0 2=1 3=1", "\"1=0\" is no reading: "),
+        ("add five.cube 2147483648 1=0 2=1 3=1", "\"2147483648\" is no reading: a reading is a number from -2147483648 to 2147483647"),
+        ("add five.cube -1x 1=0 2=1 3=1", "there is no option -1x here"),
+        ("add five.cube 5 1=0 3=1", "dimension \"2\" is missing"),
+        ("add five.cube 5 1=0 2=* 3=1", "dimension \"2\" is missing"),
+        ("add --csv five.cube 5 1=0 2=1 3=1", "there is no option --csv here"),
         ("list --csv five.cube", "there is no option --csv here"),
         ("check --reading r five.cube", "there is no option --reading here"),
         ("build --csv five.csv", "there is no option --csv here"),

@@ -18,7 +18,7 @@ const STOPS: [(Stop, &str); 20] = [
     (Stop::Trailing, "bytes follow the check word"),
     (Stop::CheckWord, "the check word is wrong"),
     (Stop::Entries, "a list, the normal count or a normal entry is not what the base entries require"),
-    (Stop::Question, "the question has not one code for each dimension, or a code that is not below its dimension's size"),
+    (Stop::Question, "the question or record has not one code for each dimension, or a code that is not below its dimension's size"),
     (Stop::Set, "the set has a dimension that the archive has not"),
     (Stop::Dimension, "the dimension is not one of the archive's, which are counted from 1"),
     (Stop::Sizes, "the two archives have not the same dimensions and sizes"),
@@ -104,6 +104,7 @@ fn wrong_archives() {
         assert_eq!(raw::share_fee(&file, u32::MAX, 8, &mut []), Err(stop));
         assert_eq!(raw::join(&file, &[], &mut []), Err(stop));
         assert_eq!(raw::join(&right, &file, &mut []), Err(stop));
+        assert_eq!(raw::add(&file, &[], 0, &mut []), Err(stop));
         assert_eq!(Archive::open(file), Err(stop));
     }
 }
@@ -173,4 +174,22 @@ fn wrong_fees() {
     assert_eq!(raw::share_fee(empty.as_bytes(), 5, 3, &mut []), Err(Stop::NoRows));
     assert_eq!(five.share_fee(1_000_000_001, 7), Err(Stop::Fee));
     assert_eq!(raw::share_fee(five.as_bytes(), 1_000_000_000, 7, &mut []), Err(Stop::Output));
+}
+
+/// 13, 18 and 15, each with everything wrong that comes after it.
+#[test]
+fn wrong_records() {
+    let five = Records::five().archive();
+    for codes in [&[][..], &[0; 2], &[0; 4], &[7, 1, 1], &[0, 6, 1], &[0, 1, 3], &[65_535, 1, 1], &[0, 1, 65_535]] {
+        assert_eq!(five.add(codes, 1), Err(Stop::Question), "{codes:?}");
+    }
+    let full = Records { sizes: vec![2_000], rows: (0..1_024).map(|code| (vec![code], 1)).collect() }.archive();
+    assert_eq!(full.add(&[2_000], 1), Err(Stop::Question));
+    assert_eq!(full.add(&[1_024], 1), Err(Stop::Many));
+    assert_eq!(raw::add(full.as_bytes(), &[1_024], 1, &mut []), Err(Stop::Many));
+    assert_eq!(full.add(&[1_023], 1).map(|more| more.check().unwrap().bases), Ok(1_024));
+    assert_eq!(raw::add(full.as_bytes(), &[1_023], 1, &mut []), Err(Stop::Output));
+    let thousand = Records { sizes: vec![1], rows: vec![(vec![0], 1); 1_024] }.archive();
+    let million = (0..10).fold(thousand, |half, _| half.join(&half).unwrap());
+    assert_eq!(million.add(&[0], 1), Err(Stop::Many));
 }

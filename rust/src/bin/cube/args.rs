@@ -1,5 +1,6 @@
 //! The words behind a command, and its options.
 use crate::failure::{Failure, Outcome};
+use crate::opened::number;
 use std::ffi::{OsStr, OsString};
 use std::path::PathBuf;
 
@@ -14,14 +15,14 @@ pub struct Args {
 }
 
 impl Args {
-    /// The words and options of a command that has these options; each has `-o`.
+    /// The words and options of a command that has these options; each has `-o`. A number below zero is a word.
     pub fn parse(words: &[OsString], options: &[&str]) -> Outcome<Args> {
         let mut args = Args::default();
         let mut rest = words.iter();
         while let Some(word) = rest.next() {
             match word.to_str() {
                 Some("--") => args.words.extend(rest.by_ref().cloned()),
-                Some(option) if option.len() > 1 && option.starts_with('-') => {
+                Some(option) if option.len() > 1 && option.starts_with('-') && number(&option[1..]).is_none() => {
                     if option != "-o" && !options.contains(&option) {
                         return Err(Failure::Usage(format!("there is no option {option} here")));
                     }

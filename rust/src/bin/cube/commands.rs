@@ -1,4 +1,5 @@
 //! The commands, each in a file of its own, and what `cube help` says of them.
+mod add;
 mod build;
 mod cell;
 mod check;
@@ -29,7 +30,7 @@ pub struct Command {
     pub run: fn(&Args) -> Outcome<()>,
 }
 
-const COMMANDS: [&Command; 12] = [
+const COMMANDS: [&Command; 13] = [
     &build::COMMAND,
     &check::COMMAND,
     &cell::COMMAND,
@@ -39,6 +40,7 @@ const COMMANDS: [&Command; 12] = [
     &keys::COMMAND,
     &fixes::COMMAND,
     &join::COMMAND,
+    &add::COMMAND,
     &totals::COMMAND,
     &fee::COMMAND,
     &report::COMMAND,

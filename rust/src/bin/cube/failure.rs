@@ -40,13 +40,14 @@ impl fmt::Display for Failure {
 
 const DAMAGED: &str = "; the file is damaged, take another copy";
 
-/// What to do about a stop. `cube join` has words of its own for 17 and 18.
+/// What to do about a stop. `cube join` has words of its own for 17 and 18, so that 18 comes here from `cube add` alone.
 fn advice(stop: Stop) -> &'static str {
     match stop {
         Stop::Opening => "; is it an archive? 'cube build' makes one from CSV",
         Stop::Cut => "; the file was cut short, take another copy",
         Stop::Fee => "; share a smaller fee",
         Stop::NoRows => "; there is no record to share a fee by",
+        Stop::Many => "; keep the new record apart, in an archive of its own",
         Stop::Dimensions | Stop::Size | Stop::Rows | Stop::Code | Stop::Order | Stop::Amount | Stop::List => DAMAGED,
         Stop::Trailing | Stop::CheckWord | Stop::Entries => DAMAGED,
         _ => "",
