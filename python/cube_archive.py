@@ -26,7 +26,7 @@ import re
 import struct
 import unicodedata
 
-__all__ = ['Archive', 'Cell', 'Counts', 'CubeError', 'Legend', 'RecordError', 'Stop']
+__all__ = ['Archive', 'Cell', 'Counts', 'CubeError', 'Legend', 'RecordError', 'Seen', 'Stop']
 
 ALL = 65535
 ROWS = 1024
@@ -49,18 +49,20 @@ STOPS = {
     10: 'bytes follow the check word',
     11: 'the check word is wrong',
     12: 'a list, the normal count or a normal entry is not what the base entries require',
-    13: "the question or record has not one code for each dimension, or a code that is not below its dimension's size",
+    13: "the question, record or window has not one code for each of its dimensions, or a code that is not below its dimension's size",
     14: 'the set has a dimension that the archive has not',
     15: 'the result is longer than the output',
     16: "the dimension is not one of the archive's, which are counted from 1",
     17: 'the two archives have not the same dimensions and sizes',
     18: 'the result has over 1,024 base rows, or a total count over 1,048,576',
+    20: "the question has another code than the window at the window's dimension",
     23: 'the fee is above 1,000,000,000 cents',
     24: 'the archive has no base row',
 }
 
 Cell = collections.namedtuple('Cell', 'sum count entry')
 Counts = collections.namedtuple('Counts', 'bases normals')
+Seen = collections.namedtuple('Seen', 'sum count')
 
 
 class CubeError(Exception):
@@ -108,7 +110,8 @@ for _name, _arguments in {
         'build': _IN + _OUT, 'check': _IN, 'list_cuboid': _IN + [ctypes.c_uint32] + _OUT, 'expand': _IN + _OUT,
         'look_up': _IN + [ctypes.c_void_p, ctypes.c_size_t] + 3 * [ctypes.c_void_p], 'smallest_keys': _IN + _OUT,
         'fixes': _IN + 2 * [ctypes.c_uint32], 'share_fee': _IN + 2 * [ctypes.c_uint32] + _OUT, 'join': _IN + _IN + _OUT,
-        'add': _IN + [ctypes.c_void_p, ctypes.c_size_t, ctypes.c_int32] + _OUT}.items():
+        'add': _IN + [ctypes.c_void_p, ctypes.c_size_t, ctypes.c_int32] + _OUT,
+        'window': _IN + 2 * [ctypes.c_uint32] + [ctypes.c_void_p, ctypes.c_size_t] + 2 * [ctypes.c_void_p]}.items():
     _function = getattr(_library, 'cube_' + _name)
     _function.argtypes, _function.restype = _arguments, ctypes.c_uint64
 
@@ -274,6 +277,24 @@ class Archive:
         total, count, entry = ctypes.c_int64(), ctypes.c_uint32(), ctypes.c_uint32()
         found = _call('look_up', self._bytes, words, len(words), *map(ctypes.byref, (total, count, entry)))
         return Cell(total.value, count.value, entry.value) if found else None
+
+    def window(self, dimension, label, question=None, /, **labels):
+        """One cell through the window of a dimension and a label or code: its sum and count, or None for 'no record', and nothing
+        of records outside the window. The question is as in `cell`; one that names the window's dimension must have its code there.
+
+        >>> shared = Archive.build([
+        ...     ('chip', 'port', 'late'), ('TC37', 'P00', 5), ('TC37', 'P02', 6), ('TC39', 'P02', 7)], legend=True)
+        >>> shared.window('chip', 'TC37', port='P02')
+        Seen(sum=6, count=1)
+        >>> shared.window('chip', 'TC37') == shared.window('chip', 'TC37', chip='TC37') == (11, 2)
+        True
+        """
+        place = self._place(dimension)
+        code = self._code(dimension, place, label)
+        words = self._words({place: code, **self._named(question, labels)})
+        total, count = ctypes.c_int64(), ctypes.c_uint32()
+        found = _call('window', self._bytes, place + 1, code, words, len(words), *map(ctypes.byref, (total, count)))
+        return Seen(total.value, count.value) if found else None
 
     def cuboid(self, *dimensions):
         """The cells of a set of dimensions, by codes: a dict of each one's labels, 'sum' and 'count'. Dimensions are keys by

@@ -64,6 +64,11 @@ class Held(unittest.TestCase):
             cell = archive.cell(codes)
             words = ['%d=%d' % pair for pair in codes.items()]
             self.assertEqual(['', '', ''] if cell is None else list(map(str, cell)), ask('cell', *words)[0][dims:])
+            code = draw.randrange(min(archive.sizes[one], 4))
+            seen = archive.window(one + 1, code, {**codes, one + 1: code})
+            self.assertEqual(seen, archive.window(one + 1, code, {place: codes[place] for place in codes if place != one + 1}))
+            words = ['%d=%d' % pair for pair in {**codes, one + 1: code}.items()]
+            self.assertEqual(['', ''] if seen is None else list(map(str, seen)), ask('window', '%d=%d' % (one + 1, code), *words)[0][dims:])
         self.hold_late_record(folder, archive, draw, legend)
         for cell in draw.sample(archive.expand(), min(20, len(archive.expand()))):
             question = dict(zip(names, cell.values()))

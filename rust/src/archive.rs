@@ -4,7 +4,7 @@ use crate::code::{to_word, Code};
 use crate::entries::Entries;
 use crate::fields::Fields;
 use crate::head::Head;
-use crate::raw::{self, Counts, Found};
+use crate::raw::{self, Counts, Found, Seen};
 use crate::room;
 use crate::stop::Stop;
 
@@ -251,6 +251,34 @@ impl Archive {
         let codes: Vec<u32> = codes.iter().map(|&code| code.into()).collect();
         let room = room::add(self.head.dims, self.head.rows);
         Ok(Archive::accepted(written(room, |out| raw::add(&self.bytes, &codes, reading, out))?))
+    }
+
+    /// The sum and count of a cell through the window of a dimension, counted from 1, and a code, or `None` for 'no record'. The question,
+    /// which is as that of [`Archive::look_up`], must have the window's code at its dimension.
+    ///
+    /// Archives of the same sizes that agree on the base rows in the window give every question the same answer. How long the call takes
+    /// may depend on every row.
+    ///
+    /// Stop 16 if the dimension is not 1 to D, then 13 if the code is not below its size, then 13 for the question, then 20 if the
+    /// question has another code there.
+    ///
+    /// ```
+    /// use cube_archive::{Archive, Seen, Stop, Table};
+    ///
+    /// let mut table = Table::new(&[3, 2])?;
+    /// for (codes, reading) in [([0, 0], 5), ([0, 1], 6), ([1, 1], 70)] {
+    ///     table.push(&codes, reading)?;
+    /// }
+    /// let shared = Archive::build(&table.to_bytes())?;
+    /// assert_eq!(shared.window(1, 0, &[Some(0), None]), Ok(Some(Seen { sum: 11, count: 2 })));
+    /// assert_eq!(shared.window(1, 2, &[Some(2), None]), Ok(None), "no record");
+    /// assert_eq!(shared.window(1, 0, &[Some(1), None]), Err(Stop::Window), "another chip");
+    /// assert_eq!(shared.window(1, 0, &[None, Some(1)]), Err(Stop::Window), "all chips");
+    /// # Ok::<(), Box<dyn std::error::Error>>(())
+    /// ```
+    pub fn window(&self, dimension: u32, code: u16, question: &[Code]) -> Result<Option<Seen>, Stop> {
+        let question: Vec<u32> = question.iter().copied().map(to_word).collect();
+        raw::window(&self.bytes, dimension, code.into(), &question)
     }
 
     /// The cuboids of these sets, which the bytes list one behind the other.

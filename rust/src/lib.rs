@@ -21,7 +21,7 @@
 //!
 //! * [`Table`]: the bytes of a table; [`csv`]: a table from CSV text
 //! * [`Records`]: the archive of more records than a table holds, built in parts and joined
-//! * [`Archive`]: build, open, check, entries, look up, list a cuboid, expand, list the smallest keys, tell what a set fixes, share a fee, join two, add a record
+//! * [`Archive`]: build, open, check, entries, look up, list a cuboid, expand, list the smallest keys, tell what a set fixes, share a fee, join two, add a record, look through a window
 //! * [`Stop`]: why a call refuses its input, with the documents' numbers
 //! * the command `cube` (`src/bin/cube`), for a person: docs/COMMAND.md
 //! * [`raw`]: the calls on slices, into an output of the caller's; [`room`]: how long an output is enough
@@ -55,7 +55,7 @@ pub use cell::{Cell, Cuboid};
 pub use code::{Code, Codes, ALL};
 pub use entries::{Base, Entries};
 pub use quoted::quoted;
-pub use raw::{Counts, Found};
+pub use raw::{Counts, Found, Seen};
 pub use records::{RecordError, Records, TooMany};
 pub use stop::Stop;
 pub use table::{Table, TableError};

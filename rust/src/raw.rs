@@ -44,6 +44,16 @@ mod ffi {
             out: *mut u8,
             out_len: usize,
         ) -> u64;
+        pub fn cube_window(
+            archive: *const u8,
+            archive_len: usize,
+            dimension: u32,
+            code: u32,
+            question: *const u32,
+            count: usize,
+            sum: *mut i64,
+            n: *mut u32,
+        ) -> u64;
     }
 }
 
@@ -61,6 +71,13 @@ pub struct Found {
     pub count: u32,
     /// The number of the entry that carries them, from 0 through base, then normal entries.
     pub entry: u32,
+}
+
+/// What a cell that exists answers through a window: no entry's number, which would tell of rows outside.
+#[derive(Clone, Copy, Debug, Default, PartialEq, Eq)]
+pub struct Seen {
+    pub sum: i64,
+    pub count: u32,
 }
 
 /// Builds the archive of a table; its length.
@@ -126,6 +143,17 @@ pub fn join(first: &[u8], second: &[u8], out: &mut [u8]) -> Result<usize, Stop> 
 pub fn add(archive: &[u8], codes: &[u32], reading: i32, out: &mut [u8]) -> Result<usize, Stop> {
     // SAFETY: three slices, and the output is apart from the inputs.
     length(unsafe { ffi::cube_add(archive.as_ptr(), archive.len(), codes.as_ptr(), codes.len(), reading, out.as_mut_ptr(), out.len()) })
+}
+
+/// Looks up a cell through the window of a dimension, counted from 1, and a code, which the question must have there; `None` is 'no record'.
+pub fn window(archive: &[u8], dimension: u32, code: u32, question: &[u32]) -> Result<Option<Seen>, Stop> {
+    let mut seen = Seen::default();
+    let Seen { sum, count } = &mut seen;
+    // SAFETY: two slices, and two numbers of this function's own.
+    let answer = answer(unsafe {
+        ffi::cube_window(archive.as_ptr(), archive.len(), dimension, code, question.as_ptr(), question.len(), sum, count)
+    })?;
+    Ok((answer == 1).then_some(seen))
 }
 
 /// The answer, or the stop: 2 to the power 63 plus its number.

@@ -37,7 +37,8 @@ pub enum Stop {
     CheckWord = 11,
     /// A list, the normal count or a normal entry is not what the base entries require.
     Entries = 12,
-    /// A question has other than D codes, or a code that is neither below its size nor ALL; a record has other than D codes, or one that is not below its size.
+    /// A question has other than D codes, or a code that is neither below its size nor ALL; a record has other than D codes, or one that
+    /// is not below its size; a window's code is not below its size.
     Question = 13,
     /// The set number that a call is given is 2 to the power D or more.
     Set = 14,
@@ -49,6 +50,8 @@ pub enum Stop {
     Sizes = 17,
     /// The result has over 1,024 base rows, or a total count over 1,048,576.
     Many = 18,
+    /// The question's code at the window's dimension is not the window's.
+    Window = 20,
     /// The fee is above 1,000,000,000.
     Fee = 23,
     /// The archive has no base row, so that there is nothing to share a fee by.
@@ -57,7 +60,7 @@ pub enum Stop {
 
 impl Stop {
     /// All stops, in checking order.
-    pub const IN_ORDER: [Stop; 20] = [
+    pub const IN_ORDER: [Stop; 21] = [
         Stop::Opening,
         Stop::Cut,
         Stop::Dimensions,
@@ -75,6 +78,7 @@ impl Stop {
         Stop::Dimension,
         Stop::Sizes,
         Stop::Many,
+        Stop::Window,
         Stop::Fee,
         Stop::NoRows,
         Stop::Output,
@@ -108,14 +112,13 @@ impl Stop {
             Stop::Trailing => "bytes follow the check word",
             Stop::CheckWord => "the check word is wrong",
             Stop::Entries => "a list, the normal count or a normal entry is not what the base entries require",
-            Stop::Question => {
-                "the question or record has not one code for each dimension, or a code that is not below its dimension's size"
-            }
+            Stop::Question => "the question, record or window has not one code for each of its dimensions, or a code that is not below its dimension's size",
             Stop::Set => "the set has a dimension that the archive has not",
             Stop::Output => "the result is longer than the output",
             Stop::Dimension => "the dimension is not one of the archive's, which are counted from 1",
             Stop::Sizes => "the two archives have not the same dimensions and sizes",
             Stop::Many => "the result has over 1,024 base rows, or a total count over 1,048,576",
+            Stop::Window => "the question has another code than the window at the window's dimension",
             Stop::Fee => "the fee is above 1,000,000,000 cents",
             Stop::NoRows => "the archive has no base row",
         }

@@ -160,7 +160,8 @@ fn the_largest_code() {
     with(&folder, "x.cube", &Records { sizes: vec![65_535], rows: vec![(vec![65_534], -7), (vec![0], 9)] });
     folder.answers("cell x.cube 1=65534 --csv", "1,sum,count,entry\n65534,-7,1,1\n");
     folder.answers("cell x.cube 1=* --csv", "1,sum,count,entry\n*,2,2,2\n");
-    let what = "the question or record has not one code for each dimension, or a code that is not below its dimension's size";
+    let what =
+        "the question, record or window has not one code for each of its dimensions, or a code that is not below its dimension's size";
     for code in ["65535", "65536", "4294967295", "4294967296", "99999999999999999999"] {
         folder.fails(&format!("cell x.cube 1={code}"), &format!("x.cube: refused 13: {what}; the sizes are 65535"));
     }

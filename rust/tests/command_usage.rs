@@ -7,7 +7,8 @@ use cube::Records;
 use std::ffi::OsStr;
 use std::os::unix::ffi::OsStrExt;
 
-const NAMES: [&str; 13] = ["build", "check", "cell", "cuboid", "expand", "list", "keys", "fixes", "join", "add", "totals", "fee", "report"];
+const NAMES: [&str; 14] =
+    ["build", "check", "cell", "cuboid", "expand", "list", "keys", "fixes", "join", "add", "window", "totals", "fee", "report"];
 
 #[test]
 fn wrong_usage() {
@@ -63,6 +64,10 @@ fn wrong_usage() {
         ("add five.cube 5 1=0 3=1", "dimension \"2\" is missing"),
         ("add five.cube 5 1=0 2=* 3=1", "dimension \"2\" is missing"),
         ("add --csv five.cube 5 1=0 2=1 3=1", "there is no option --csv here"),
+        ("window five.cube", "a window is missing"),
+        ("window five.cube 1", "\"1\" is not DIMENSION=CODE"),
+        ("window five.cube 1=*", "\"1=*\" is no window"),
+        ("window five.cube 1=4 2=5 2=5", "dimension \"2\" is asked for twice"),
         ("list --csv five.cube", "there is no option --csv here"),
         ("check --reading r five.cube", "there is no option --reading here"),
         ("build --csv five.csv", "there is no option --csv here"),

@@ -23,6 +23,7 @@ fn the_stack_is_enough() {
             raw::fixes(&archive, 1, 2).unwrap();
             raw::join(&archive, &archive, &mut out).unwrap();
             raw::add(&archive, &question, -7, &mut out).unwrap();
+            raw::window(&archive, 1, question[0], &question).unwrap();
             raw::share_fee(&archive, 1_000_000_000, 255 >> (8 - question.len()), &mut out).unwrap();
         };
         Builder::new().stack_size(STACK).spawn(calls).unwrap().join().unwrap();

@@ -5,7 +5,7 @@ use cube::Records;
 use cube_archive::{raw, Archive, Stop, ALL};
 
 /// In checking order: dimension, fee and what two archives are together are looked at after the file and the set, and before the output.
-const STOPS: [(Stop, &str); 20] = [
+const STOPS: [(Stop, &str); 21] = [
     (Stop::Opening, "the first four bytes are missing or are not the opening of such a file"),
     (Stop::Cut, "the file ends before the last byte of a field that its earlier fields demand"),
     (Stop::Dimensions, "the number of dimensions is not 1 to 8"),
@@ -18,11 +18,15 @@ const STOPS: [(Stop, &str); 20] = [
     (Stop::Trailing, "bytes follow the check word"),
     (Stop::CheckWord, "the check word is wrong"),
     (Stop::Entries, "a list, the normal count or a normal entry is not what the base entries require"),
-    (Stop::Question, "the question or record has not one code for each dimension, or a code that is not below its dimension's size"),
+    (
+        Stop::Question,
+        "the question, record or window has not one code for each of its dimensions, or a code that is not below its dimension's size",
+    ),
     (Stop::Set, "the set has a dimension that the archive has not"),
     (Stop::Dimension, "the dimension is not one of the archive's, which are counted from 1"),
     (Stop::Sizes, "the two archives have not the same dimensions and sizes"),
     (Stop::Many, "the result has over 1,024 base rows, or a total count over 1,048,576"),
+    (Stop::Window, "the question has another code than the window at the window's dimension"),
     (Stop::Fee, "the fee is above 1,000,000,000 cents"),
     (Stop::NoRows, "the archive has no base row"),
     (Stop::Output, "the result is longer than the output"),
@@ -31,7 +35,7 @@ const STOPS: [(Stop, &str); 20] = [
 #[test]
 fn numbers_and_words() {
     assert_eq!(STOPS.map(|(stop, _)| stop), Stop::IN_ORDER);
-    for (number, (stop, words)) in (1..=14).chain([16, 17, 18, 23, 24, 15]).zip(STOPS) {
+    for (number, (stop, words)) in (1..=14).chain([16, 17, 18, 20, 23, 24, 15]).zip(STOPS) {
         assert_eq!(stop.number(), number);
         assert_eq!(stop.to_string(), format!("stop {number}: {words}"));
     }
@@ -105,6 +109,7 @@ fn wrong_archives() {
         assert_eq!(raw::join(&file, &[], &mut []), Err(stop));
         assert_eq!(raw::join(&right, &file, &mut []), Err(stop));
         assert_eq!(raw::add(&file, &[], 0, &mut []), Err(stop));
+        assert_eq!(raw::window(&file, 0, ALL, &[]), Err(stop));
         assert_eq!(Archive::open(file), Err(stop));
     }
 }
@@ -192,4 +197,21 @@ fn wrong_records() {
     let thousand = Records { sizes: vec![1], rows: vec![(vec![0], 1); 1_024] }.archive();
     let million = (0..10).fold(thousand, |half, _| half.join(&half).unwrap());
     assert_eq!(million.add(&[0], 1), Err(Stop::Many));
+}
+
+/// 16, 13 for the window, 13 for the question, 20, each with everything wrong that comes after it.
+#[test]
+fn wrong_windows() {
+    let five = Records::five().archive();
+    for dimension in [0, 4, 9, 256, u32::MAX] {
+        assert_eq!(five.window(dimension, 65_535, &[]), Err(Stop::Dimension));
+    }
+    for code in [7, 65_534, 65_535] {
+        assert_eq!(five.window(1, code, &[]), Err(Stop::Question));
+    }
+    for question in [&[][..], &[Some(4); 2], &[Some(4), Some(6), None], &[Some(7), None, None]] {
+        assert_eq!(five.window(1, 6, question), Err(Stop::Question), "{question:?}");
+    }
+    assert_eq!(five.window(1, 6, &[Some(4), Some(5), None]), Err(Stop::Window));
+    assert_eq!(five.window(1, 6, &[None, Some(5), None]), Err(Stop::Window));
 }

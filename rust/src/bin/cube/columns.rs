@@ -14,6 +14,22 @@ impl Columns {
         Columns { heads: texts.into_iter().chain(numbers.iter().map(|head| head.to_string())).collect(), texts: count, rows: vec![] }
     }
 
+    /// One cell: its labels, then the numbers of these heads, or 'no record'; for programs empty fields in their place.
+    pub fn of_cell<const N: usize>(
+        names: Vec<String>,
+        labels: Vec<String>,
+        heads: [&str; N],
+        told: Option<[String; N]>,
+        csv: bool,
+    ) -> Columns {
+        let (mut columns, answer) = match told {
+            None if !csv => (Columns::new([names, vec![String::new()]].concat(), &[]), vec!["no record".into()]),
+            told => (Columns::new(names, &heads), told.map_or(vec![String::new(); N], Vec::from)),
+        };
+        columns.push([labels, answer].concat());
+        columns
+    }
+
     pub fn push(&mut self, row: Vec<String>) {
         self.rows.push(row);
     }

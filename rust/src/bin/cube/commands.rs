@@ -12,6 +12,7 @@ mod keys;
 mod list;
 mod report;
 mod totals;
+mod window;
 
 use crate::args::Args;
 use crate::failure::Outcome;
@@ -30,7 +31,7 @@ pub struct Command {
     pub run: fn(&Args) -> Outcome<()>,
 }
 
-const COMMANDS: [&Command; 13] = [
+const COMMANDS: [&Command; 14] = [
     &build::COMMAND,
     &check::COMMAND,
     &cell::COMMAND,
@@ -41,6 +42,7 @@ const COMMANDS: [&Command; 13] = [
     &fixes::COMMAND,
     &join::COMMAND,
     &add::COMMAND,
+    &window::COMMAND,
     &totals::COMMAND,
     &fee::COMMAND,
     &report::COMMAND,

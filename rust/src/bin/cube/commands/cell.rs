@@ -22,16 +22,7 @@ fn run(args: &Args) -> Outcome<()> {
     let opened = Opened::read(file, args)?;
     let question = opened.question(&words)?;
     let found = opened.ask(opened.archive.look_up(&question))?;
-    let mut columns = Columns::new(opened.names(), &["sum", "count", "entry"]);
-    let mut row = opened.labels(&question);
-    match found {
-        Some(found) => row.extend([found.sum.to_string(), found.count.to_string(), found.entry.to_string()]),
-        None if args.csv => row.extend(["", "", ""].map(String::from)),
-        None => {
-            columns = Columns::new(opened.names().into_iter().chain([String::new()]).collect(), &[]);
-            row.push("no record".into());
-        }
-    }
-    columns.push(row);
+    let told = found.map(|found| [found.sum.to_string(), found.count.to_string(), found.entry.to_string()]);
+    let columns = Columns::of_cell(opened.names(), opened.labels(&question), ["sum", "count", "entry"], told, args.csv);
     opened.deliver(args, &columns.print(args.csv))
 }
