@@ -5,7 +5,6 @@ use native.Mathlib.Omega.{arith}
 use lib.ListN.{length}
 use Rattle.lists.proofs.Search.{between_all, between_left, between_right, between_done}
 use Rattle.rows.proofs.Rows.{row_within}
-use Rattle.call_search.specs.Search.{entry_before}
 use Rattle.call_search.proofs.find_cell.Goals as goal
 
 -- the entry in the middle is within the bytes
