@@ -42,7 +42,8 @@ pub fn join_rows(
     requires dims { (first.now.dims ≡ length sizes.now) × (second.now.dims ≡ length sizes.now) × (262144 ≤ length store.old) }
     ensures { Answered (filed sizes.now (united totals (length sizes.now) (held first.now) (held second.now))) out.old out.new result }
 {
-    if 1048576 < rows_merge::readings_in(first) + rows_merge::readings_in(second) {
+    let many = 1048576 < rows_merge::readings_in(first) + rows_merge::readings_in(second);
+    if many {
         return Err(Stop::Many);
     }
     let mut rows = [0u32; rows::ROOM];

@@ -23,8 +23,8 @@ lent c =
     let d = c.requires.dims in
     stored s.0 s.1 d.0 d.1 c.merge_rows.new.rows (rw c.in_ok-k.ensures.ok_part at c.merge_rows.ensures) (search rules) (omega (arith, c.readings_in-2.ensures, c.readings_in.ensures)) c.front-rows.ensures
 
-pub returns-then-readings_in-gt1048576 : goal.returns-then-readings_in-gt1048576
-returns-then-readings_in-gt1048576 c =
+pub returns-then-many : goal.returns-then-many
+returns-then-many c =
     let s = c.requires.stores in
     let d = c.requires.dims in
     stopped c.args.out.now (stores_many s.0 s.1 d.0 d.1 (omega (arith, c.readings_in-2.ensures, c.readings_in.ensures)))
