@@ -1,0 +1,19 @@
+-- Laws of archives of either edition.
+pub mod Editions
+pub mod Formats
+pub mod Written
+pub mod Walkable
+pub mod Entered
+pub mod Limits
+pub mod Accepted
+pub mod Bytes
+pub mod Lengths
+pub mod Opened
+pub mod Stops
+pub mod Order
+pub mod Making
+pub mod Mapped
+pub mod Sums
+pub mod Bounds
+pub mod Told
+pub mod Examples
