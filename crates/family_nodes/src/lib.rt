@@ -1,0 +1,2 @@
+// Families of codes: definitions and theorems; there is no code here.
+#![tactic(auto)]
