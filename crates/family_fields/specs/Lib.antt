@@ -1,0 +1,3 @@
+-- The fields that both files with families share, and the places of their tables.
+pub mod Shape
+pub mod Places
