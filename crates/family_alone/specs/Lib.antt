@@ -1,0 +1,2 @@
+-- The rows that are single on each node.
+pub mod Alone

@@ -1,0 +1,2 @@
+-- The codes of rows at each level.
+pub mod Levelled

@@ -1,0 +1,2 @@
+-- Rows condensed by nodes.
+pub mod Ends

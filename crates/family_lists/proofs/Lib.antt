@@ -1,0 +1,3 @@
+-- Nodes noted, and the list of a row.
+pub mod Notes
+pub mod Listing

@@ -1,0 +1,2 @@
+-- The lists of nodes of rows.
+pub mod Lists
