@@ -22,6 +22,6 @@ pub chip_turns : (map (turn_at (heights chips)) (5 ∷ 4 ∷ 3 ∷ 2 ∷ 1 ∷ [
     × (map (parent (heights chips)) (4 ∷ 3 ∷ 2 ∷ 1 ∷ 0 ∷ []) ≡ 5 ∷ 5 ∷ 5 ∷ 2 ∷ 2 ∷ [])
 chip_turns = (refl, refl, refl)
 
--- figure 6 of source document 000: node 21 has levels 1, 2, 1; with ALL in its first dimension it is node 23
+-- three, two and one levels below ALL: node 21 has levels 1, 2, 1; with ALL in its first dimension it is node 23
 pub figure-topped : topped (4 ∷ 3 ∷ 2 ∷ []) 1 21 ≡ 23
 figure-topped = refl

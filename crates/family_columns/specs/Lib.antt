@@ -1,0 +1,2 @@
+-- Codes raised from level to level.
+pub mod Raised
