@@ -10,4 +10,4 @@ use Rattle.archive_groups.proofs.shown_is.Given as goal
 
 abbrev pub invariant-loop-d : goal.invariant-loop-d
 invariant-loop-d l =
-    starts_with (drop l.start l.s) (words_bytes (masked l.missing l.mine)) ≡ l.same && starts_with (drop (l.start + 4 * l.d) l.s) (shown_from l.missing l.mine l.d)
+    (l.at ≡ l.start + 4 * l.d) × (starts_with (drop l.start l.s) (words_bytes (masked l.missing l.mine)) ≡ l.same && starts_with (drop l.at l.s) (shown_from l.missing l.mine l.d))
